@@ -1,0 +1,18 @@
+-- A number as a row of bytes, high byte first.
+--     bytes k n    the k lowest bytes of n
+--     word bs      the number whose bytes are bs
+-- Assumes nothing.
+use Prim.Native.Nat.{ℕ, zero, suc, _+_, _*_, _/_, _%_}
+use mathlib.Core.List.{List, [], _∷_, _++_}
+
+unfoldable pub bytes : ℕ → ℕ → List ℕ
+bytes zero n = []
+bytes (suc k) n = bytes k (n / 256) ++ (n % 256 ∷ [])
+
+-- what stands before the bytes bs is high
+unfoldable pub wordFrom : ℕ → List ℕ → ℕ
+wordFrom high [] = high
+wordFrom high (b ∷ bs) = wordFrom (high * 256 + b) bs
+
+unfoldable pub word : List ℕ → ℕ
+word bs = wordFrom 0 bs

@@ -1,0 +1,1 @@
+// Laws alone: numbers as sets of bits, for a width left open.
