@@ -4,8 +4,9 @@
 use mathlib.Core.Path.{_≡_, refl, sym, ap, ap₂, _∙_}
 use mathlib.Core.Bool.{Bool}
 use mathlib.Core.List.{List, [], _∷_, _++_}
-use Prim.Native.Nat.{ℕ, zero, suc, _+_, _-_, _*_, _/_, _%_, _≤_, _<_}
+use Prim.Native.Nat.{ℕ, zero, suc, _+_, _-_, _*_, _/_, _%_, _≤_, _<_, min}
 use native.Mathlib.Nat.{zero-add, suc-add}
+use native.Mathlib.Numerals.{add-one}
 use native.Mathlib.Omega.{arith}
 use borrow.Author.Tests.{eq-eqb, ne-eqb}
 use lib.Bits.{bitXor, xor-zero-r}
@@ -127,3 +128,33 @@ later-byte r k i x h e =
 
     column : suc ((i - 4) / 4) ≡ i / 4
     column = omega arith
+
+-- ---- the loop from round key to round key
+
+-- the round key of round i, on the way to a round
+pub record Keys (round : ℕ) (key k : List ℕ) (i : ℕ) : Type 0 where
+  pub low : i ≤ 10
+  pub upto : i ≤ round
+  pub at-key : k ≡ roundKey key i
+
+pub keys-none : (round : ℕ) (key : List ℕ) → Keys round key key 0
+unfolding expand
+keys-none round key = record { low = omega arith; upto = omega arith; at-key = refl }
+
+module _ (round : ℕ) (key k : List ℕ) (i : ℕ) (w : Keys round key k i) where
+  pub keys-more : i < 10 → i < round → (k′ : List ℕ) → k′ ≡ expand 4 (4 * (i + 1)) k → Keys round key k′ (i + 1)
+  keys-more h l k′ e =
+      rw add-one
+      (record {
+        low = omega arith;
+        upto = omega arith;
+        at-key = e ∙ ap (expand 4 (4 * (i + 1))) (w .at-key) ∙ key-next key i;
+      })
+
+  -- there
+  pub keys-there : round ≤ i → k ≡ roundKey key (min round 10)
+  keys-there h = w .at-key ∙ ap (roundKey key) (omega arith)
+
+  -- there is no round key after the tenth
+  pub keys-last : 10 ≤ i → k ≡ roundKey key (min round 10)
+  keys-last h = w .at-key ∙ ap (roundKey key) (omega arith)

@@ -1,11 +1,11 @@
 // AES-128 of FIPS 197, one byte at a time. The substitution table is lent to the rounds: a constant is laid out anew
 // wherever it is named, so whoever encrypts several blocks takes `tables()` once.
 ghost use mathlib.Core.Path.{_≡_};
-ghost use Prim.Native.Nat.{_*_, _≤_};
+ghost use Prim.Native.Nat.{_*_, _≤_, min};
 ghost use lib.Bits.{bitXor};
 ghost use Rattle.aes.specs.Field.{dot};
 ghost use Rattle.aes.specs.Transformations.{sbox, subBytes, shiftRows, mixColumns, addRoundKey};
-ghost use Rattle.aes.specs.KeyExpansion.{roundConstant, expand};
+ghost use Rattle.aes.specs.KeyExpansion.{roundConstant, expand, roundKey};
 ghost use Rattle.aes.specs.Cipher.{cipher};
 ghost use Rattle.aes.specs.Tables.{IsTables};
 
@@ -126,6 +126,22 @@ fn next_round_key(tables: &Tables, k: [u8; 16], round: usize) -> [u8; 16]
         r[i] = k[i] ^ r[i - 4];
     }
     r
+}
+
+// The round key of a round, 0 to 10; for a number above 10, that of round 10.
+pub fn round_key(key: [u8; 16], round: usize) -> [u8; 16]
+    ensures { λ r. ⌜ r ≡ roundKey key (min round 10) ⌝ }
+{
+    let t = tables();
+    let mut k = key;
+    for i in 0..10usize {
+        if round <= i {
+            return k;
+        }
+        let next = next_round_key(&t, k, i + 1);
+        k = next;
+    }
+    k
 }
 
 // A block encrypted under a key, over tables that the caller took.
