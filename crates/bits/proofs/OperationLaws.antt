@@ -2,11 +2,11 @@
 -- over the operation of two digits; equations between results then go bit by bit, by `same-bits`.
 -- Assumes nothing.
 use Prim.Native.Nat.{ℕ, zero, suc, _+_, _-_, _*_, _/_, _%_, _^_, _≤_, _<_, min, max}
-use native.Mathlib.Nat.{pow-suc, mod-lt, mod-eq-of-lt, lt-of-le-of-lt, lt-of-lt-of-le, div-lt-iff-lt-mul}
-use native.Mathlib.Nat.{sub-zero, min-zero, add-zero, mul-comm}
+use native.Mathlib.Nat.{pow-suc, mod-lt, lt-of-le-of-lt, lt-of-lt-of-le}
+use native.Mathlib.Nat.{sub-zero, min-zero, add-zero}
 use native.Mathlib.Numerals.{one-add}
 use native.Mathlib.Omega.{arith}
-use mathlib.Core.Path.{_≡_, refl, sym, ap, ap₂, _∙_, subst}
+use mathlib.Core.Path.{_≡_, refl, sym, ap, ap₂, _∙_}
 use mathlib.Core.Bool.{Bool, true, false, not, _&&_, _||_, xor}
 use lib.Dec.{eqb, eqb·suc-zero}
 use lib.Bits.{bitAnd, bitOr, bitXor, differ, and-step, or-step, xor-step, or-add-and, xor-add-and}
@@ -14,7 +14,7 @@ use lib.Bits.{and-le-l, and-le-r, xor-lt, xor-self, and-mask}
 use lib.Pow.{pow-pos, pow-mono, split, shr-shr}
 use borrow.Author.Tests.{eq-eqb, ne-eqb, eqb-true, eqb-false}
 use Rattle.bits.specs.Sets.{has, full, one, setOf}
-use Rattle.bits.proofs.SetLaws.{has-zero, has-suc, has-low, has-high, low-bit, one-has, parts}
+use Rattle.bits.proofs.SetLaws.{has-zero, has-suc, has-low, has-high, low-bit, parts}
 use Rattle.bits.proofs.SetLaws.{setOf-lt, has-setOf, same-bits}
 
 -- ---- the operations, bit by bit
@@ -189,19 +189,12 @@ xor-none a b = go (eqb a b) refl
 -- ---- a shift left by one
 
 -- what falls out of suc w bits is the highest of them
-pub shl-split : (w s : ℕ) → s < 2 ^ suc w → s * 2 ≡ one (has w s) * 2 ^ suc w + s * 2 % 2 ^ suc w
-shl-split w s h = sym (split (s * 2) (suc w)) ∙ ap (λ (q : ℕ). q * 2 ^ suc w + s * 2 % 2 ^ suc w) (top ∙ sym bit)
+pub shl-top : (w s : ℕ) → s * 2 / 2 ^ suc w ≡ s / 2 ^ w
+shl-top w s =
+    ap (λ (k : ℕ). s * 2 / 2 ^ k) (sym (one-add w)) ∙ sym (shr-shr (s * 2) 1 w) ∙ ap (λ (n : ℕ). n / 2 ^ w) double
   where
     double : s * 2 / 2 ^ 1 ≡ s
     double = omega arith
 
-    top : s * 2 / 2 ^ suc w ≡ s / 2 ^ w
-    top =
-        ap (λ (k : ℕ). s * 2 / 2 ^ k) (sym (one-add w)) ∙ sym (shr-shr (s * 2) 1 w)
-        ∙ ap (λ (n : ℕ). n / 2 ^ w) double
-
-    bit : one (has w s) ≡ s / 2 ^ w
-    bit =
-        one-has w s
-        ∙ mod-eq-of-lt
-        (div-lt-iff-lt-mul (pow-pos w) .1 (subst (λ (n : ℕ). s < n) (pow-suc 2 w ∙ mul-comm (2 ^ w) 2) h))
+pub shl-split : (w s : ℕ) → s * 2 ≡ s / 2 ^ w * 2 ^ suc w + s * 2 % 2 ^ suc w
+shl-split w s = sym (split (s * 2) (suc w)) ∙ ap (λ (q : ℕ). q * 2 ^ suc w + s * 2 % 2 ^ suc w) (shl-top w s)

@@ -2,7 +2,7 @@
 -- twice the rest, and bit i + 1 of the number is bit i of the rest.
 -- Assumes nothing.
 use Prim.Native.Nat.{ℕ, zero, suc, _+_, _*_, _/_, _%_, _^_, _<_}
-use native.Mathlib.Nat.{pow-suc, mod-lt, div-eq-of-lt}
+use native.Mathlib.Nat.{pow-suc, mod-lt}
 use native.Mathlib.Numerals.{one-add}
 use native.Mathlib.Omega.{arith}
 use mathlib.Core.Path.{_≡_, refl, sym, ap, ap₂, _∙_}
@@ -38,26 +38,14 @@ half-low a false = omega arith
 pub has-high : (i a : ℕ) (b : Bool) → has (suc i) (a * 2 + one b) ≡ has i a
 has-high i a b = has-suc i (a * 2 + one b) ∙ ap (has i) (half-low a b)
 
--- a bit as a number
-pub one-has : (i s : ℕ) → one (has i s) ≡ s / 2 ^ i % 2
-unfolding has
-one-has i s = go (s / 2 ^ i % 2) (mod-lt (s / 2 ^ i) (omega arith))
+-- the lowest bit as a number
+pub low-bit : (s : ℕ) → one (has 0 s) ≡ s % 2
+low-bit s = ap one (has-zero s) ∙ go (s % 2) (mod-lt s (omega arith))
   where
     go : (r : ℕ) → r < 2 → one (eqb r 1) ≡ r
     go zero h = refl
     go (suc zero) h = refl
     go (suc (suc r)) h = absurd (omega arith)
-
-pub low-bit : (s : ℕ) → one (has 0 s) ≡ s % 2
-low-bit s = one-has 0 s ∙ ap (λ (n : ℕ). n % 2) whole
-  where
-    whole : s / 1 ≡ s
-    whole = omega arith
-
--- a number below 2 ^ i has no bit i
-pub has-beyond : (i s : ℕ) → s < 2 ^ i → has i s ≡ false
-unfolding has
-has-beyond i s h = ap (λ (n : ℕ). eqb (n % 2) 1) (div-eq-of-lt h)
 
 -- a number is its lowest bit and the rest
 pub parts : (s : ℕ) → s / 2 * 2 + one (has 0 s) ≡ s
