@@ -4,6 +4,7 @@
 -- and the inverse is one.
 -- Assumes nothing.
 use mathlib.Core.Path.{_≡_, refl, sym, ap, ap₂, _∙_, subst}
+use mathlib.Core.Bool.{true}
 use Prim.Native.Nat.{ℕ, zero, suc, _+_, _*_, _/_, _%_, _^_, _≤_, _<_}
 use native.Mathlib.Nat.{mul-add, add-mul, mul-assoc, mul-comm, zero-mul, mul-zero, mul-one}
 use native.Mathlib.Nat.{add-zero, zero-add, add-comm, pow-suc, mod-lt, mod-eq-of-lt, div-eq-of-lt}
@@ -11,6 +12,7 @@ use native.Mathlib.Nat.{lt-of-lt-of-le, div-lt-iff-lt-mul}
 use native.Mathlib.Numerals.{add-one}
 use native.Mathlib.Omega.{arith}
 use lib.Bits.{bitXor, xor-block, xor-self, xor-comm, xor-shifted}
+use lib.Dec.{eqb}
 use lib.Pow.{pow-pos, pow-mono, mod-pow-add}
 use Rattle.bits.proofs.OperationLaws.{shl-top, shl-split}
 use Rattle.loops.specs.Below.{every}
@@ -100,12 +102,14 @@ pub dot-three : (b : ℕ) → b < 256 → dot 3 b ≡ bitXor (dot 2 b) b
 unfolding every dot times remainder product
 dot-three b h = every-equal 256 (dot 3) (λ b. bitXor (dot 2 b) b) refl b h
 
+inverses : every 255 (λ k. eqb (dot (suc k) (inverse (suc k))) 1) ≡ true
+unfolding every inverse squares dot times remainder product
+inverses = refl
+
 -- 4.4: a byte other than zero times its inverse is 1, and zero goes to zero
 pub dot-inverse : (x : ℕ) → 0 < x → x < 256 → dot x (inverse x) ≡ 1
-unfolding every inverse squares dot times remainder product
 dot-inverse zero h l = absurd (omega arith)
-dot-inverse (suc k) h l =
-    every-equal 255 (λ k. dot (suc k) (inverse (suc k))) (λ k. 1) refl k (omega arith)
+dot-inverse (suc k) h l = every-equal 255 (λ k. dot (suc k) (inverse (suc k))) (λ k. 1) inverses k (omega arith)
 
 pub inverse-zero : inverse 0 ≡ 0
 unfolding inverse squares dot times remainder product

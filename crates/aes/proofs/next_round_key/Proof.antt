@@ -17,7 +17,12 @@ abbrev μ-loop : tie.MeasureT-loop
 μ-loop tables round k r₀ i₀ r i = 16 - i
 
 loop-holds : tie.Need-loop-holds Inv-loop μ-loop
-loop-holds c = (omega arith, search (needs, first-word))
+loop-holds c =
+    let s = c .before .before in (
+      omega arith,
+      first-word _ _ _ _ _ _ _ (s .before .round-constant .ensures) (s .before .before .substitute .ensures)
+          (s .substitute2 .ensures) (c .before .substitute3 .ensures) (c .substitute4 .ensures),
+    )
 
 loop-again : tie.Need-loop-again Inv-loop μ-loop
 loop-again c =
