@@ -1,0 +1,277 @@
+// Handles (document 01, "The handle"): their 23 bytes, what they reference, conversion, validation, weakening, reduction.
+// A function whose name ends in `_with` is lent the tables of the cipher, which a caller takes once with `aes::tables`.
+use aes::Tables;
+
+ghost use mathlib.Core.Path.{_≡_};
+ghost use Rattle.aes.specs.Tables.{IsTables};
+ghost use Rattle.handle.specs.Selectors as sel;
+ghost use Rattle.handle.specs.Handles as spec;
+ghost use Rattle.handle.specs.Conversion.{conversion};
+
+// How many nodes there are, clusters a node has, segments a cluster has, and subselectors a selector has.
+const NODES: u16 = 4;
+const CLUSTERS: u8 = 8;
+const SEGMENTS: u8 = 8;
+const SUBSELECTORS: usize = 4;
+
+// A flat subselector.
+const FLAT: u8 = 255;
+
+// How many values a byte has.
+const BYTE: u16 = 256;
+
+// What weakening is turned down with.
+const NO_SUCH_PLACE: u8 = 2;
+const GAPPED: u8 = 4;
+const SPENT: u8 = 17;
+
+pub struct Handle {
+    pub node: u16,
+    pub local: u8,
+    pub password: [u8; 16],
+    pub selector: [u8; 4],
+}
+
+// The reply of a weakening: 0, the new handle and how many segments it references; or the number of the refusal, the
+// handle of 23 zero bytes and 0.
+pub struct Weakened {
+    pub number: u8,
+    pub handle: Handle,
+    pub count: u8,
+}
+
+// The password that a parameter turns a password into.
+pub fn convert_with(tables: &Tables, password: [u8; 16], parameter: u8) -> [u8; 16]
+    requires { ⌜ IsTables (now tables) ⌝ }
+    ensures { λ r. ⌜ r ≡ conversion password parameter ⌝ }
+{
+    let mut block = [0u8; 16];
+    block[15] = parameter;
+    aes::encrypt_with(tables, password, block)
+}
+
+// A password through the conversion of one subselector; a flat one is skipped.
+fn step_with(tables: &Tables, password: [u8; 16], subselector: u8) -> [u8; 16]
+    requires { ⌜ IsTables (now tables) ⌝ }
+    ensures { λ r. ⌜ r ≡ spec.step 8 conversion password subselector ⌝ }
+{
+    if subselector == FLAT {
+        return password;
+    }
+    convert_with(tables, password, subselector)
+}
+
+// Whether two passwords are equal. All sixteen bytes are looked at, so that the time taken does not tell how many agree.
+pub fn same(a: [u8; 16], b: [u8; 16]) -> bool
+    ensures { λ r. ⌜ r ≡ spec.samePassword a b ⌝ }
+{
+    let mut differing = 0u8;
+    for i in 0..16usize {
+        differing = (a[i] ^ b[i]) | differing;
+    }
+    differing == 0
+}
+
+fn refused(number: u8) -> Weakened
+    ensures { λ r. ⌜ r ≡ spec.refusal number ⌝ }
+{
+    let none = Handle {
+        node: 0,
+        local: 0,
+        password: [0u8; 16],
+        selector: [0u8; 4],
+    };
+    Weakened {
+        number: number,
+        handle: none,
+        count: 0,
+    }
+}
+
+fn done(handle: Handle) -> Weakened
+    ensures { λ r. ⌜ r ≡ spec.reply 0 handle (sel.referenced (spec.widthOf handle) (handle .selector)) ⌝ }
+{
+    let count = handle.count();
+    Weakened {
+        number: 0,
+        handle: handle,
+        count: count,
+    }
+}
+
+impl Handle {
+    // The handle that 23 bytes hold.
+    pub fn decode(bytes: [u8; 23]) -> Handle
+        ensures { λ r. ⌜ r ≡ spec.decoded bytes ⌝ }
+    {
+        let b = bytes;
+        Handle {
+            node: (b[0] as u16) * BYTE + (b[1] as u16),
+            local: b[2],
+            password: [
+                b[3], b[4], b[5], b[6], b[7], b[8], b[9], b[10], b[11], b[12], b[13], b[14], b[15], b[16], b[17], b[18],
+            ],
+            selector: [b[19], b[20], b[21], b[22]],
+        }
+    }
+
+    // The 23 bytes of the handle.
+    pub fn encode(self) -> [u8; 23]
+        ensures { λ r. ⌜ r ≡ spec.encoded self ⌝ }
+    {
+        let node = self.node;
+        let local = self.local;
+        let p = self.password;
+        let s = self.selector;
+        [
+            (node / BYTE) as u8, (node % BYTE) as u8, local, p[0], p[1], p[2], p[3], p[4], p[5], p[6], p[7], p[8],
+            p[9], p[10], p[11], p[12], p[13], p[14], p[15], s[0], s[1], s[2], s[3],
+        ]
+    }
+
+    // The bits that all four subselectors have.
+    pub fn common(self) -> u8
+        ensures { λ r. ⌜ r ≡ sel.common (spec.widthOf self) (self .selector) ⌝ }
+    {
+        let s = self.selector;
+        s[0] & (s[1] & (s[2] & s[3]))
+    }
+
+    // How many segments the handle references.
+    pub fn count(self) -> u8
+        ensures { λ r. ⌜ r ≡ sel.referenced (spec.widthOf self) (self .selector) ⌝ }
+    {
+        let common = self.common();
+        u8::count_ones(common) as u8
+    }
+
+    // Whether the handle references a segment; it references none at or above the width.
+    pub fn references(self, segment: u8) -> bool
+        ensures { λ r. ⌜ r ≡ sel.references (self .selector) segment ⌝ }
+    {
+        if SEGMENTS <= segment {
+            return false;
+        }
+        let common = self.common();
+        (common & (1 << segment)) != 0
+    }
+
+    // Whether a flat subselector stands below one that is not.
+    pub fn gapped(self) -> bool
+        ensures { λ r. ⌜ r ≡ sel.gapped (spec.widthOf self) (self .selector) ⌝ }
+    {
+        let s = self.selector;
+        let a = s[0] == FLAT;
+        let b = s[1] == FLAT;
+        let c = s[2] == FLAT;
+        let d = s[3] == FLAT;
+        (a & !(b & (c & d))) | ((b & !(c & d)) | (c & !d))
+    }
+
+    // Whether all four subselectors are flat.
+    pub fn primary(self) -> bool
+        ensures { λ r. ⌜ r ≡ sel.allFlat (spec.widthOf self) (self .selector) ⌝ }
+    {
+        let s = self.selector;
+        (s[0] == FLAT) & ((s[1] == FLAT) & ((s[2] == FLAT) & (s[3] == FLAT)))
+    }
+
+    // The place of the first flat subselector; past the last where none is flat.
+    fn first_flat(self) -> usize
+        ensures { λ r. ⌜ r ≡ sel.firstFlat (spec.widthOf self) (self .selector) ⌝ }
+    {
+        let s = self.selector;
+        for k in 0..4usize {
+            if s[k] == FLAT {
+                return k;
+            }
+        }
+        SUBSELECTORS
+    }
+
+    // A primary password through the conversions of the handle's subselectors, 0 first.
+    fn opened_with(self, tables: &Tables, primary: [u8; 16]) -> [u8; 16]
+        requires { ⌜ IsTables (now tables) ⌝ }
+        ensures { λ r. ⌜ r ≡ spec.through (spec.widthOf self) conversion (self .selector) primary ⌝ }
+    {
+        let s = self.selector;
+        let a = step_with(tables, primary, s[0]);
+        let b = step_with(tables, a, s[1]);
+        let c = step_with(tables, b, s[2]);
+        step_with(tables, c, s[3])
+    }
+
+    // Whether the handle validates from a primary password.
+    pub fn validates_with(self, tables: &Tables, primary: [u8; 16]) -> bool
+        requires { ⌜ IsTables (now tables) ⌝ }
+        ensures { λ r. ⌜ r ≡ spec.validates (spec.widthOf self) conversion primary self ⌝ }
+    {
+        let opened = self.opened_with(tables, primary);
+        let password = self.password;
+        same(opened, password)
+    }
+
+    // The handle weakened by a mask, and how many segments the new one references. The store plays no part.
+    pub fn weaken_with(self, tables: &Tables, mask: u8) -> Weakened
+        requires { ⌜ IsTables (now tables) ⌝ }
+        ensures { λ r. ⌜ r ≡ spec.weakening (spec.widthOf self) conversion self mask ⌝ }
+    {
+        let node = self.node;
+        let local = self.local;
+        if NODES <= node {
+            return refused(NO_SUCH_PLACE);
+        }
+        if CLUSTERS <= local {
+            return refused(NO_SUCH_PLACE);
+        }
+        if self.gapped() {
+            return refused(GAPPED);
+        }
+        let excluded = self.common() & !mask;
+        if excluded == 0 {
+            return done(self);
+        }
+        let place = self.first_flat();
+        if SUBSELECTORS <= place {
+            return refused(SPENT);
+        }
+        let parameter = !excluded;
+        let old = self.password;
+        let password = convert_with(tables, old, parameter);
+        let mut selector = self.selector;
+        selector[place] = parameter;
+        let weaker = Handle {
+            node,
+            local,
+            password,
+            selector,
+        };
+        done(weaker)
+    }
+
+    // The same, with the tables taken for this one call.
+    pub fn weaken(self, mask: u8) -> Weakened
+        ensures { λ r. ⌜ r ≡ spec.weakening (spec.widthOf self) conversion self mask ⌝ }
+    {
+        let tables = aes::tables();
+        self.weaken_with(&tables, mask)
+    }
+
+    // The handle reduced: the common bits in subselector 0, the password made from the primary one.
+    pub fn reduce_with(self, tables: &Tables, primary: [u8; 16]) -> Handle
+        requires { ⌜ IsTables (now tables) ⌝ }
+        ensures { λ r. ⌜ r ≡ spec.reduced (spec.widthOf self) conversion self primary ⌝ }
+    {
+        if self.primary() {
+            return self;
+        }
+        let common = self.common();
+        let password = convert_with(tables, primary, common);
+        Handle {
+            node: self.node,
+            local: self.local,
+            password,
+            selector: [common, FLAT, FLAT, FLAT],
+        }
+    }
+}
