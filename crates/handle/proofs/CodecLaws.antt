@@ -1,40 +1,111 @@
--- A handle's bytes: each reads back as the other. A list of known length is the list of its elements, so the bytes
--- written out one by one are those of the definitions, and taking parts of them computes.
+-- A handle's bytes: each reads back as the other. A list of known length is the list of its elements, so that taking
+-- parts of it, and bytes written out one by one, compute; the node alone is arithmetic.
 -- Assumes nothing.
 use Prim.Native.Nat.{ℕ, zero, suc, _+_, _*_, _/_, _%_, _^_, _<_}
 use native.Mathlib.Omega.{arith}
-use mathlib.Core.Path.{_≡_, refl, sym, ap, ap₂, _∙_}
+use mathlib.Core.Path.{_≡_, refl, sym, ap, _∙_, subst}
 use mathlib.Core.List.{List, [], _∷_, _++_}
 use lib.ListN.{length, getD, take, drop, replicate}
-use mir.Val.{Fits}
-use mir.Syntax.{w8, w16}
 use Rattle.bits.specs.Bytes.{bytes, wordFrom, word}
-use Rattle.bits.proofs.ByteLaws.{word-bytes}
+use Rattle.bits.proofs.ByteLaws.{word-bytes, bytes-word}
 use Rattle.loops.specs.Tabulate.{tabulate}
 use Rattle.loops.proofs.TabulateLaws.{tabulate-is}
 use Rattle.handle.specs.declared.Handle.{Handle}
-use Rattle.handle.specs.Sizes.{handleBytes, passwordBytes, subselectors, nodeBytes, segments}
+use Rattle.handle.specs.Sizes.{segments, subselectors, passwordBytes, nodeBytes, localAt, passwordAt, selectorAt, handleBytes}
 use Rattle.handle.specs.Handles.{encoded, decoded, noHandle}
 use Rattle.handle.specs.Opens.{Holdable, Bytes, Whole}
 
--- a list of n elements, one by one
-pub listed : (n : ℕ) (l : List ℕ) → length l ≡ n → l ≡ tabulate n (λ k. getD l k 0)
+-- the first n elements of a list, one by one; a list of n elements is they
+abbrev pub elements : ℕ → List ℕ → List ℕ
+elements n l = tabulate n (λ k. getD l k 0)
+
+pub listed : (n : ℕ) (l : List ℕ) → length l ≡ n → l ≡ elements n l
 listed n l e = tabulate-is n (λ k. getD l k 0) 0 l e (λ k h. refl)
 
-two : (a b : ℕ) → word (a ∷ b ∷ []) ≡ a * 256 + b
+-- the fields that a node n, a local number l and bytes at their places make
+abbrev fields : ℕ → ℕ → List ℕ → List ℕ → Handle
+fields n l p s = record { node = n; local = l; password = p; selector = s }
+
+word-two : (a b : ℕ) → word (a ∷ b ∷ []) ≡ a * 256 + b
 unfolding word wordFrom
-two a b = omega arith
+word-two a b = omega arith
 
 -- ---- what the code reads and writes
 
-abbrev parts : List ℕ → Handle
-parts b = record {
-  node = getD b 0 0 * 256 + getD b 1 0;
-  local = getD b 2 0;
-  password = take passwordBytes (drop 3 (tabulate handleBytes (λ k. getD b k 0)));
-  selector = take subselectors (drop 19 (tabulate handleBytes (λ k. getD b k 0)));
-}
+module _ (b : List ℕ) (e : length b ≡ 23) where
+  pub decoded-is : fields (getD b 0 0 * 256 + getD b 1 0) (getD b localAt 0) (take passwordBytes (drop passwordAt (elements handleBytes b))) (take subselectors (drop selectorAt (elements handleBytes b))) ≡ decoded b
+  unfolding decoded tabulate
+  decoded-is =
+      ap
+      (λ (n : ℕ).
+      fields n (getD b localAt 0) (take passwordBytes (drop passwordAt (elements handleBytes b)))
+      (take subselectors (drop selectorAt (elements handleBytes b))))
+      (sym (word-two (getD b 0 0) (getD b 1 0)))
+      ∙ ap decoded (sym (listed handleBytes b e))
 
-pub decoded-parts : (b : List ℕ) → length b ≡ 23 → parts b ≡ decoded b
-unfolding decoded tabulate
-decoded-parts b e = ?
+module _ (h : Handle) (lp : length (h .password) ≡ 16) (ls : length (h .selector) ≡ 4) where
+  apart : h ≡ fields (h .node) (h .local) (elements passwordBytes (h .password)) (elements subselectors (h .selector))
+  apart = λ j. fields (h .node) (h .local) (listed passwordBytes (h .password) lp j) (listed subselectors (h .selector) ls j)
+
+  pub encoded-is : h .node < 2 ^ 16 → h .node / 256 ∷ h .node % 256 ∷ h .local ∷ elements passwordBytes (h .password) ++ elements subselectors (h .selector) ≡ encoded h
+  unfolding encoded bytes
+  encoded-is l =
+      ap
+      (λ (n : ℕ).
+      n ∷ h .node % 256 ∷ h .local ∷ elements passwordBytes (h .password) ++ elements subselectors (h .selector))
+      high
+      ∙ ap encoded (sym apart)
+    where
+      high : h .node / 256 ≡ h .node / 256 % 256
+      high = omega arith
+
+-- ---- the round trips
+
+pub decode-encode : (h : Handle) → Holdable h → decoded (encoded h) ≡ h
+unfolding encoded decoded bytes tabulate
+decode-encode h o =
+    ap (λ (k : Handle). decoded (encoded k)) (apart h (o .password) (o .selector))
+    ∙ ap
+    (λ (n : ℕ).
+    fields n (h .local) (elements passwordBytes (h .password)) (elements subselectors (h .selector)))
+    (word-bytes nodeBytes (h .node) (o .node))
+    ∙ sym (apart h (o .password) (o .selector))
+
+pub encode-decode : (b : List ℕ) → Bytes handleBytes b → encoded (decoded b) ≡ b
+unfolding encoded decoded bytes tabulate
+encode-decode b o =
+    ap (λ (l : List ℕ). encoded (decoded l)) (listed handleBytes b (o .long))
+    ∙ ap (λ (l : List ℕ). l ++ drop nodeBytes (elements handleBytes b)) (bytes-word (getD b 0 0 ∷ getD b 1 0 ∷ []) below)
+    ∙ sym (listed handleBytes b (o .long))
+  where
+    below : (i : ℕ) → getD (getD b 0 0 ∷ getD b 1 0 ∷ []) i 0 < 256
+    below zero = o .below 0
+    below (suc zero) = o .below 1
+    below (suc (suc i)) = omega arith
+
+-- a refusal's handle is 23 zero bytes
+pub encoded-none : encoded noHandle ≡ replicate handleBytes 0
+unfolding encoded bytes
+encoded-none = refl
+
+-- ---- what 23 bytes hold
+
+module _ (b : List ℕ) (o : Bytes handleBytes b) where
+  by-elements : (P : Handle → Type 0) → P (decoded (elements handleBytes b)) → P (decoded b)
+  by-elements P q = subst (λ (l : List ℕ). P (decoded l)) (sym (listed handleBytes b (o .long))) q
+
+  pub holdable-decoded : Holdable (decoded b)
+  unfolding decoded tabulate
+  holdable-decoded = by-elements Holdable (record {
+    node = omega (arith, word-two (getD b 0 0) (getD b 1 0), o .below 0, o .below 1);
+    local = o .below 2;
+    password = refl;
+    selector = refl;
+  })
+
+  pub whole-decoded : Whole segments (decoded b)
+  unfolding decoded tabulate
+  whole-decoded = by-elements (Whole segments) (record {
+    four = refl;
+    within = (o .below 19, (o .below 20, (o .below 21, (o .below 22, tt))));
+  })

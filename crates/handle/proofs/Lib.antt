@@ -2,5 +2,7 @@ pub mod SelectorLaws
 pub mod HandleLaws
 pub mod OpensLaws
 pub mod PasswordLaws
-pub mod ExamplesHold
 pub mod CodecLaws
+pub mod CodeLaws
+pub mod WeakenLaws
+pub mod ExamplesHold

@@ -1,17 +1,20 @@
 // Handles (document 01, "The handle"): their 23 bytes, what they reference, conversion, validation, weakening, reduction.
 // A function whose name ends in `_with` is lent the tables of the cipher, which a caller takes once with `aes::tables`.
 use aes::Tables;
-
 ghost use mathlib.Core.Path.{_≡_};
 ghost use Rattle.aes.specs.Tables.{IsTables};
+ghost use Rattle.handle.specs.Sizes.{segments};
 ghost use Rattle.handle.specs.Selectors as sel;
 ghost use Rattle.handle.specs.Handles as spec;
 ghost use Rattle.handle.specs.Conversion.{conversion};
 
 // How many nodes there are, clusters a node has, segments a cluster has, and subselectors a selector has.
 const NODES: u16 = 4;
+
 const CLUSTERS: u8 = 8;
+
 const SEGMENTS: u8 = 8;
+
 const SUBSELECTORS: usize = 4;
 
 // A flat subselector.
@@ -22,7 +25,9 @@ const BYTE: u16 = 256;
 
 // What weakening is turned down with.
 const NO_SUCH_PLACE: u8 = 2;
+
 const GAPPED: u8 = 4;
+
 const SPENT: u8 = 17;
 
 pub struct Handle {
@@ -53,7 +58,7 @@ pub fn convert_with(tables: &Tables, password: [u8; 16], parameter: u8) -> [u8; 
 // A password through the conversion of one subselector; a flat one is skipped.
 fn step_with(tables: &Tables, password: [u8; 16], subselector: u8) -> [u8; 16]
     requires { ⌜ IsTables (now tables) ⌝ }
-    ensures { λ r. ⌜ r ≡ spec.step 8 conversion password subselector ⌝ }
+    ensures { λ r. ⌜ r ≡ spec.step segments conversion password subselector ⌝ }
 {
     if subselector == FLAT {
         return password;
@@ -109,7 +114,22 @@ impl Handle {
             node: (b[0] as u16) * BYTE + (b[1] as u16),
             local: b[2],
             password: [
-                b[3], b[4], b[5], b[6], b[7], b[8], b[9], b[10], b[11], b[12], b[13], b[14], b[15], b[16], b[17], b[18],
+                b[3],
+                b[4],
+                b[5],
+                b[6],
+                b[7],
+                b[8],
+                b[9],
+                b[10],
+                b[11],
+                b[12],
+                b[13],
+                b[14],
+                b[15],
+                b[16],
+                b[17],
+                b[18],
             ],
             selector: [b[19], b[20], b[21], b[22]],
         }
@@ -124,8 +144,29 @@ impl Handle {
         let p = self.password;
         let s = self.selector;
         [
-            (node / BYTE) as u8, (node % BYTE) as u8, local, p[0], p[1], p[2], p[3], p[4], p[5], p[6], p[7], p[8],
-            p[9], p[10], p[11], p[12], p[13], p[14], p[15], s[0], s[1], s[2], s[3],
+            (node / BYTE) as u8,
+            (node % BYTE) as u8,
+            local,
+            p[0],
+            p[1],
+            p[2],
+            p[3],
+            p[4],
+            p[5],
+            p[6],
+            p[7],
+            p[8],
+            p[9],
+            p[10],
+            p[11],
+            p[12],
+            p[13],
+            p[14],
+            p[15],
+            s[0],
+            s[1],
+            s[2],
+            s[3],
         ]
     }
 
