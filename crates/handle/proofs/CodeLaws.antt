@@ -24,7 +24,7 @@ use Rattle.loops.specs.Tabulate.{tabulate}
 use Rattle.handle.specs.declared.Handle.{Handle}
 use Rattle.handle.specs.Sizes.{segments, subselectors}
 use Rattle.handle.specs.Selectors.{references, flat, allFlat, gapped, firstFlat, common, referenced, inFirst}
-use Rattle.handle.specs.Handles.{renewed, samePassword, step, through, validates, reduced}
+use Rattle.handle.specs.Handles.{renewed, samePassword, converted, through, validates, reduced}
 use Rattle.handle.proofs.SelectorLaws.{first-here, first-past}
 use Rattle.handle.proofs.HandleLaws.{reduced-cases}
 use Rattle.handle.proofs.CodecLaws.{listed}
@@ -41,19 +41,19 @@ module _ (w : ℕ) where
   pub code-count : (ss : List ℕ) (x : ℕ) → x ≡ common w ss → ones x ≡ referenced w ss
   code-count ss x e = ap ones e ∙ ones-setOf w (references ss)
 
-  module _ (ss : List ℕ) (e : length ss ≡ 4) where
+  module _ (ss : List ℕ) (e : length ss ≡ subselectors) where
     abbrev at : ℕ → Bool
     at k = eqb (getD ss k 0) (full w)
 
     pub code-primary : at 0 && (at 1 && (at 2 && at 3)) ≡ allFlat w ss
     unfolding tabulate
     code-primary =
-        ap (λ (b : Bool). at 0 && (at 1 && (at 2 && b))) (sym (and-true (at 3))) ∙ ap (allFlat w) (sym (listed 4 ss e))
+        ap (λ (b : Bool). at 0 && (at 1 && (at 2 && b))) (sym (and-true (at 3))) ∙ ap (allFlat w) (sym (listed subselectors ss e))
 
     pub code-gapped : (at 0 && not (at 1 && (at 2 && at 3))) || ((at 1 && not (at 2 && at 3)) || (at 2 && not (at 3)))
         ≡ gapped w ss
     unfolding tabulate
-    code-gapped = ends (at 0) (at 1) (at 2) (at 3) ∙ ap (gapped w) (sym (listed 4 ss e))
+    code-gapped = ends (at 0) (at 1) (at 2) (at 3) ∙ ap (gapped w) (sym (listed subselectors ss e))
       where
         ends : (a b c d : Bool) → a && not (b && (c && d)) || (b && not (c && d) || c && not d)
             ≡ a && not (b && (c && (d && true)))
@@ -69,11 +69,11 @@ module _ (w : ℕ) where
   pub searched-none : (ss : List ℕ) → Searched ss 0
   searched-none ss = record { within = omega arith; rest = sym (zero-add (firstFlat w ss)) }
 
-  module _ (ss : List ℕ) (k : ℕ) (r : Searched ss k) (e : length ss ≡ 4) where
-    next : k < 4 → firstFlat w (drop k ss) ≡ firstFlat w (getD ss k 0 ∷ drop (suc k) ss)
+  module _ (ss : List ℕ) (k : ℕ) (r : Searched ss k) (e : length ss ≡ subselectors) where
+    next : k < subselectors → firstFlat w (drop k ss) ≡ firstFlat w (getD ss k 0 ∷ drop (suc k) ss)
     next h = ap (firstFlat w) (drop-cons ss k 0 (omega arith))
 
-    pub searched-more : k < 4 → (getD ss k 0 ≡ full w → ⊥) → Searched ss (k + 1)
+    pub searched-more : k < subselectors → (getD ss k 0 ≡ full w → ⊥) → Searched ss (k + 1)
     searched-more h n = record {
       within = omega arith;
       rest =
@@ -86,22 +86,22 @@ module _ (w : ℕ) where
           );
     }
 
-    pub searched-here : k < 4 → getD ss k 0 ≡ full w → k ≡ firstFlat w ss
+    pub searched-here : k < subselectors → getD ss k 0 ≡ full w → k ≡ firstFlat w ss
     searched-here h n =
         omega
         (arith, r .rest, next h, first-here w (getD ss k 0) (drop (suc k) ss) (eq-eqb (getD ss k 0) (full w) n))
 
-    pub searched-all : 4 ≤ k → 4 ≡ firstFlat w ss
+    pub searched-all : subselectors ≤ k → subselectors ≡ firstFlat w ss
     unfolding tabulate
     searched-all h =
         omega (
           arith,
           r .rest,
           ap (λ (m : ℕ). firstFlat w (drop m ss)) whole,
-          ap (λ (l : List ℕ). firstFlat w (drop 4 l)) (listed 4 ss e),
+          ap (λ (l : List ℕ). firstFlat w (drop subselectors l)) (listed subselectors ss e),
         )
       where
-        whole : k ≡ 4
+        whole : k ≡ subselectors
         whole = omega (arith, r .within)
 
   -- ---- the chain of conversions
@@ -110,21 +110,21 @@ module _ (w : ℕ) where
     abbrev stepped : List ℕ → ℕ → Bool → List ℕ
     stepped p s b = elim b [ true ↦ p | false ↦ f p s ]
 
-    pub step-flat : (p : List ℕ) (s : ℕ) → s ≡ full w → p ≡ step w f p s
-    step-flat p s e = sym (ap (stepped p s) (eq-eqb s (full w) e))
+    pub converted-flat : (p : List ℕ) (s : ℕ) → s ≡ full w → p ≡ converted w f p s
+    converted-flat p s e = sym (ap (stepped p s) (eq-eqb s (full w) e))
 
-    pub step-converts : (p : List ℕ) (s : ℕ) → (s ≡ full w → ⊥) → (r : List ℕ) → r ≡ f p s → r ≡ step w f p s
-    step-converts p s n r e = e ∙ sym (ap (stepped p s) (ne-eqb s (full w) n))
+    pub converted-other : (p : List ℕ) (s : ℕ) → (s ≡ full w → ⊥) → (r : List ℕ) → r ≡ f p s → r ≡ converted w f p s
+    converted-other p s n r e = e ∙ sym (ap (stepped p s) (ne-eqb s (full w) n))
 
-    pub code-opened : (ss p a b c d : List ℕ) → length ss ≡ 4
-        → a ≡ step w f p (getD ss 0 0) → b ≡ step w f a (getD ss 1 0) → c ≡ step w f b (getD ss 2 0)
-        → d ≡ step w f c (getD ss 3 0) → d ≡ through w f ss p
+    pub code-opened : (ss p a b c d : List ℕ) → length ss ≡ subselectors
+        → a ≡ converted w f p (getD ss 0 0) → b ≡ converted w f a (getD ss 1 0) → c ≡ converted w f b (getD ss 2 0)
+        → d ≡ converted w f c (getD ss 3 0) → d ≡ through w f ss p
     unfolding tabulate
     code-opened ss p a b c d e ea eb ec ed =
         ed
-        ∙ ap (λ (q : List ℕ). step w f q (getD ss 3 0))
-        (ec ∙ ap (λ (q : List ℕ). step w f q (getD ss 2 0)) (eb ∙ ap (λ (q : List ℕ). step w f q (getD ss 1 0)) ea))
-        ∙ ap (λ (l : List ℕ). through w f l p) (sym (listed 4 ss e))
+        ∙ ap (λ (q : List ℕ). converted w f q (getD ss 3 0))
+        (ec ∙ ap (λ (q : List ℕ). converted w f q (getD ss 2 0)) (eb ∙ ap (λ (q : List ℕ). converted w f q (getD ss 1 0)) ea))
+        ∙ ap (λ (l : List ℕ). through w f l p) (sym (listed subselectors ss e))
 
     pub code-validates : (h : Handle) (p x : List ℕ) (r : Bool) → x ≡ through w f (h .selector) p
         → r ≡ samePassword x (h .password) → r ≡ validates w f p h
@@ -145,19 +145,19 @@ module _ (w : ℕ) where
 
 -- ---- bytes: the width is that of a cluster's segments
 
-module _ (ss : List ℕ) (e : length ss ≡ 4) (h : Fits w8 (getD ss 0 0)) where
+module _ (ss : List ℕ) (e : length ss ≡ subselectors) (h : Fits w8 (getD ss 0 0)) where
   pub code-common : bitAnd (getD ss 0 0) (bitAnd (getD ss 1 0) (bitAnd (getD ss 2 0) (getD ss 3 0))) ≡ common segments ss
   unfolding tabulate
   code-common =
       and-common segments (getD ss 0 0) (getD ss 1 0) (getD ss 2 0) (getD ss 3 0) (h .fits)
-      ∙ ap (common segments) (sym (listed 4 ss e))
+      ∙ ap (common segments) (sym (listed subselectors ss e))
 
   pub references-none : (i : ℕ) → segments ≤ i → false ≡ references ss i
   unfolding tabulate
   references-none i l =
       ap (λ (b : Bool). b && (has i (getD ss 1 0) && (has i (getD ss 2 0) && (has i (getD ss 3 0) && true))))
       (sym (has-above segments i (getD ss 0 0) (h .fits) l))
-      ∙ ap (λ (l : List ℕ). references l i) (sym (listed 4 ss e))
+      ∙ ap (λ (l : List ℕ). references l i) (sym (listed subselectors ss e))
 
 pub code-references : (ss : List ℕ) (i x : ℕ) → i < segments → x ≡ common segments ss
     → not (eqb (bitAnd x (1 * 2 ^ i % 256)) 0) ≡ references ss i

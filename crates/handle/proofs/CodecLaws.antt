@@ -11,9 +11,10 @@ use Rattle.bits.proofs.ByteLaws.{word-bytes, bytes-word}
 use Rattle.loops.specs.Tabulate.{tabulate}
 use Rattle.loops.proofs.TabulateLaws.{tabulate-is}
 use Rattle.handle.specs.declared.Handle.{Handle}
-use Rattle.handle.specs.Sizes.{segments, subselectors, passwordBytes, nodeBytes, localAt, passwordAt, selectorAt, handleBytes}
-use Rattle.handle.specs.Handles.{encoded, decoded, noHandle}
-use Rattle.handle.specs.Opens.{Holdable, Bytes, Whole}
+use Rattle.handle.specs.Sizes.{segments, subselectors, passwordBytes}
+use Rattle.handle.specs.Sizes.{nodeBytes, localAt, passwordAt, selectorAt, handleBytes}
+use Rattle.handle.specs.Handles.{encoded, decoded, noHandle, Holdable, Bytes}
+use Rattle.handle.specs.Opens.{Whole}
 
 -- the first n elements of a list, one by one; a list of n elements is they
 abbrev pub elements : ℕ → List ℕ → List ℕ
@@ -22,9 +23,9 @@ elements n l = tabulate n (λ k. getD l k 0)
 pub listed : (n : ℕ) (l : List ℕ) → length l ≡ n → l ≡ elements n l
 listed n l e = tabulate-is n (λ k. getD l k 0) 0 l e (λ k h. refl)
 
--- the fields that a node n, a local number l and bytes at their places make
-abbrev fields : ℕ → ℕ → List ℕ → List ℕ → Handle
-fields n l p s = record { node = n; local = l; password = p; selector = s }
+-- a handle of these parts
+abbrev handleOf : ℕ → ℕ → List ℕ → List ℕ → Handle
+handleOf n l p s = record { node = n; local = l; password = p; selector = s }
 
 word-two : (a b : ℕ) → word (a ∷ b ∷ []) ≡ a * 256 + b
 unfolding word wordFrom
@@ -32,29 +33,30 @@ word-two a b = omega arith
 
 -- ---- what the code reads and writes
 
-module _ (b : List ℕ) (e : length b ≡ 23) where
-  pub decoded-is : fields (getD b 0 0 * 256 + getD b 1 0) (getD b localAt 0) (take passwordBytes (drop passwordAt (elements handleBytes b))) (take subselectors (drop selectorAt (elements handleBytes b))) ≡ decoded b
-  unfolding decoded tabulate
-  decoded-is =
-      ap
-      (λ (n : ℕ).
-      fields n (getD b localAt 0) (take passwordBytes (drop passwordAt (elements handleBytes b)))
-      (take subselectors (drop selectorAt (elements handleBytes b))))
-      (sym (word-two (getD b 0 0) (getD b 1 0)))
-      ∙ ap decoded (sym (listed handleBytes b e))
+-- the handle of a node n and the other parts that stand in the bytes b
+abbrev withNode : List ℕ → ℕ → Handle
+withNode b n =
+    handleOf n (getD b localAt 0) (take passwordBytes (drop passwordAt (elements handleBytes b)))
+    (take subselectors (drop selectorAt (elements handleBytes b)))
 
-module _ (h : Handle) (lp : length (h .password) ≡ 16) (ls : length (h .selector) ≡ 4) where
-  apart : h ≡ fields (h .node) (h .local) (elements passwordBytes (h .password)) (elements subselectors (h .selector))
-  apart = λ j. fields (h .node) (h .local) (listed passwordBytes (h .password) lp j) (listed subselectors (h .selector) ls j)
+pub decoded-is : (b : List ℕ) → length b ≡ handleBytes → withNode b (getD b 0 0 * 256 + getD b 1 0) ≡ decoded b
+unfolding decoded tabulate
+decoded-is b e =
+    ap (withNode b) (sym (word-two (getD b 0 0) (getD b 1 0))) ∙ ap decoded (sym (listed handleBytes b e))
 
-  pub encoded-is : h .node < 2 ^ 16 → h .node / 256 ∷ h .node % 256 ∷ h .local ∷ elements passwordBytes (h .password) ++ elements subselectors (h .selector) ≡ encoded h
+module _ (h : Handle) (lp : length (h .password) ≡ passwordBytes) (ls : length (h .selector) ≡ subselectors) where
+  abbrev body : List ℕ
+  body = elements passwordBytes (h .password) ++ elements subselectors (h .selector)
+
+  apart : h ≡ handleOf (h .node) (h .local) (elements passwordBytes (h .password)) (elements subselectors (h .selector))
+  apart =
+      λ j.
+      handleOf (h .node) (h .local) (listed passwordBytes (h .password) lp j)
+      (listed subselectors (h .selector) ls j)
+
+  pub encoded-is : h .node < 256 ^ nodeBytes → h .node / 256 ∷ h .node % 256 ∷ h .local ∷ body ≡ encoded h
   unfolding encoded bytes
-  encoded-is l =
-      ap
-      (λ (n : ℕ).
-      n ∷ h .node % 256 ∷ h .local ∷ elements passwordBytes (h .password) ++ elements subselectors (h .selector))
-      high
-      ∙ ap encoded (sym apart)
+  encoded-is l = ap (λ (n : ℕ). n ∷ h .node % 256 ∷ h .local ∷ body) high ∙ ap encoded (sym apart)
     where
       high : h .node / 256 ≡ h .node / 256 % 256
       high = omega arith
@@ -67,7 +69,7 @@ decode-encode h o =
     ap (λ (k : Handle). decoded (encoded k)) (apart h (o .password) (o .selector))
     ∙ ap
     (λ (n : ℕ).
-    fields n (h .local) (elements passwordBytes (h .password)) (elements subselectors (h .selector)))
+    handleOf n (h .local) (elements passwordBytes (h .password)) (elements subselectors (h .selector)))
     (word-bytes nodeBytes (h .node) (o .node))
     ∙ sym (apart h (o .password) (o .selector))
 

@@ -2,23 +2,27 @@
 -- cases, the handle unchanged and the handle changed; the chain of conversions ends with the one that weakening adds,
 -- since all after the first flat subselector is flat.
 -- Assumes nothing.
-use Prim.Native.Nat.{ℕ, zero, suc, _<_}
+use Prim.Native.Nat.{ℕ, zero, suc, _-_, _<_}
 use native.Mathlib.Omega.{arith}
-use mathlib.Core.Path.{_≡_, refl, sym, ap, _∙_, subst}
+use mathlib.Core.Path.{_≡_, refl, sym, ap, _∙_}
 use mathlib.Core.Bool.{Bool, true, false, not, _&&_, _||_, false≢true}
 use mathlib.Core.List.{List, [], _∷_}
 use lib.ListN.{length-set, replicate}
-use Rattle.bits.specs.Sets.{has, full, setOf}
+use Rattle.bits.specs.Sets.{has, full}
 use Rattle.bits.proofs.SetLaws.{setOf-lt, setOf-same}
 use Rattle.bits.proofs.OperationLaws.{full-lt}
 use Rattle.loops.proofs.BelowLaws.{and-left, and-right}
 use Rattle.handle.specs.declared.Handle.{Handle}
-use Rattle.handle.specs.Selectors.{references, flat, allFlat, anyFlat, gapped, firstFlat, common, referenced, keepsAll, parameter, replaced, spent, flats, inFirst}
-use Rattle.handle.specs.Handles.{Name, nameOf, renewed, pick, noSuchPlace, reply, primaryHandle, weakenNumber, through, weakened, made, reduced, weakening}
-use Rattle.handle.specs.Opens.{Whole, Opens}
-use Rattle.handle.proofs.SelectorLaws.{kept, replaced-here, replaced-past, references-replaced, gapped-replaced, within-replaced, rest-flat, rest-ungapped, has-parameter, parameter-not-flat, parameter-lt, keeps-each, references-flat, common-not-flat, full-flat, references-inFirst, gapped-inFirst}
+use Rattle.handle.specs.Sizes.{subselectors}
+use Rattle.handle.specs.Selectors.{references, flat, allFlat, anyFlat, gapped, firstFlat, common}
+use Rattle.handle.specs.Selectors.{keepsAll, parameter, replaced, spent, inFirst}
+use Rattle.handle.specs.Handles.{nameOf, renewed, pick, noSuchPlace, weakenNumber, through, weakened, made, reduced}
+use Rattle.handle.specs.Opens.{Whole}
+use Rattle.handle.proofs.SelectorLaws.{replaced-here, replaced-past, references-replaced, gapped-replaced, within-replaced}
+use Rattle.handle.proofs.SelectorLaws.{rest-flat, rest-ungapped, has-parameter, parameter-not-flat, parameter-lt, keeps-each, kept}
+use Rattle.handle.proofs.SelectorLaws.{common-not-flat, full-flat, references-inFirst, gapped-inFirst}
 
--- what weakening is not turned down with: none of the three
+-- a weakening that is not turned down is not spent
 pub unspent : (w : ℕ) (h : Handle) (mask : ℕ) → weakenNumber w h mask ≡ 0 → spent w mask (h .selector) ≡ false
 unfolding weakenNumber
 unspent w h mask e = go (noSuchPlace h) (gapped w (h .selector)) (spent w mask (h .selector)) e
@@ -133,7 +137,8 @@ module _ (w : ℕ) (f : List ℕ → ℕ → List ℕ) where
 
   through-inFirst : (s : ℕ) (p : List ℕ) → flat w s ≡ false → through w f (inFirst w s) p ≡ f p s
   through-inFirst s p e =
-      through-past s (replicate 3 (full w)) p e ∙ through-flat (replicate 3 (full w)) (f p s) (simp (full-flat w))
+      through-past s (replicate (subselectors - 1) (full w)) p e
+      ∙ through-flat (replicate (subselectors - 1) (full w)) (f p s) (simp (full-flat w))
 
   pub reduced-cases : (h : Handle) (p : List ℕ) (P : Handle → Type 0) → (allFlat w (h .selector) ≡ true → P h)
       → (allFlat w (h .selector) ≡ false → P (made w f h p (common w (h .selector)))) → P (reduced w f h p)

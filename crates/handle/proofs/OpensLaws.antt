@@ -9,10 +9,12 @@ use Rattle.bits.specs.Sets.{has}
 use Rattle.bits.proofs.OperationLaws.{full-lt}
 use Rattle.handle.specs.declared.Handle.{Handle}
 use Rattle.handle.specs.Selectors.{flats, spent, referenced}
-use Rattle.handle.specs.Handles.{Name, reply, primaryHandle, weakenNumber, weakened, reduced, weakening}
-use Rattle.handle.specs.Opens.{Opens}
+use Rattle.handle.specs.Handles.{Name, reply, weakenNumber, weakened, reduced, weakening}
+use Rattle.handle.specs.Opens.{primaryHandle, Opens}
 use Rattle.handle.proofs.SelectorLaws.{references-flat, full-flat}
-use Rattle.handle.proofs.HandleLaws.{unspent, through-flat, name-weakened, whole-weakened, gapped-weakened, references-weakened, valid-weakened, name-reduced, whole-reduced, gapped-reduced, valid-reduced, references-reduced}
+use Rattle.handle.proofs.HandleLaws.{unspent, through-flat}
+use Rattle.handle.proofs.HandleLaws.{name-weakened, whole-weakened, gapped-weakened, references-weakened, valid-weakened}
+use Rattle.handle.proofs.HandleLaws.{name-reduced, whole-reduced, gapped-reduced, references-reduced, valid-reduced}
 
 module _ (w : ℕ) (f : List ℕ → ℕ → List ℕ) (name : Name) (p : List ℕ) where
   -- a primary handle opens every segment with its own password

@@ -20,7 +20,7 @@ use Rattle.aes.proofs.CipherLaws.{length-cipher}
 use Rattle.handle.specs.declared.Handle.{Handle}
 use Rattle.handle.specs.Sizes.{passwordBytes}
 use Rattle.handle.specs.Selectors.{flat}
-use Rattle.handle.specs.Handles.{samePassword, step, through, validates}
+use Rattle.handle.specs.Handles.{samePassword, converted, through, validates}
 use Rattle.handle.specs.Conversion.{conversion}
 
 -- ---- the loop
@@ -37,7 +37,7 @@ unfolding every
 compared-none a b = record { within = omega arith; agrees = refl }
 
 module _ (a b : List ℕ) (d i : ℕ) (c : Compared a b d i) where
-  pub compared-more : i < 16 → Compared a b (bitOr (bitXor (getD a i 0) (getD b i 0)) d) (i + 1)
+  pub compared-more : i < passwordBytes → Compared a b (bitOr (bitXor (getD a i 0) (getD b i 0)) d) (i + 1)
   unfolding every
   compared-more h = record {
     within = omega arith;
@@ -47,7 +47,7 @@ module _ (a b : List ℕ) (d i : ℕ) (c : Compared a b d i) where
         ∙ ap (λ (n : ℕ). every n (agree a b)) (sym (add-one i));
   }
 
-  pub compared-all : 16 ≤ i → eqb d 0 ≡ samePassword a b
+  pub compared-all : passwordBytes ≤ i → eqb d 0 ≡ samePassword a b
   unfolding samePassword
   compared-all h = c .agrees ∙ ap (λ (n : ℕ). every n (agree a b)) whole
     where
@@ -80,7 +80,7 @@ module _ (w : ℕ) (f : List ℕ → ℕ → List ℕ) (h : Handle) (p : List �
   module _ (sixteen : (q : List ℕ) (c : ℕ) → length (f q c) ≡ passwordBytes) where
     length-through : (ss q : List ℕ) → length q ≡ passwordBytes → length (through w f ss q) ≡ passwordBytes
     length-through [] q e = e
-    length-through (s ∷ ss) q e = length-through ss (step w f q s) (go (flat w s))
+    length-through (s ∷ ss) q e = length-through ss (converted w f q s) (go (flat w s))
       where
         go : (b : Bool) → length {A = ℕ} (elim b [ true ↦ q | false ↦ f q s ]) ≡ passwordBytes
         go true = e

@@ -14,7 +14,8 @@ use Rattle.bits.specs.Sets.{has, full, setOf}
 use Rattle.bits.proofs.SetLaws.{setOf-lt, has-setOf, same-bits, count-none}
 use Rattle.bits.proofs.OperationLaws.{has-not, has-none, has-full, full-lt}
 use Rattle.loops.proofs.BelowLaws.{and-left, and-right}
-use Rattle.handle.specs.Selectors.{references, excludes, flat, allFlat, anyFlat, gapped, firstFlat, common, keepsAll, parameter, replaced, inFirst, Within}
+use Rattle.handle.specs.Selectors.{references, excludes, flat, allFlat, anyFlat, gapped, firstFlat, common}
+use Rattle.handle.specs.Selectors.{keepsAll, parameter, replaced, inFirst, Within}
 
 swap : (x y z : Bool) → x && (y && z) ≡ y && (x && z)
 swap true y z = refl

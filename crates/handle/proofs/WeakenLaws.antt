@@ -15,7 +15,8 @@ use Rattle.bits.proofs.OperationLaws.{and-not}
 use Rattle.handle.specs.declared.Handle.{Handle}
 use Rattle.handle.specs.declared.Weakened.{Weakened}
 use Rattle.handle.specs.Sizes.{nodes, clusters, subselectors}
-use Rattle.handle.specs.Selectors.{references, excludes, anyFlat, gapped, firstFlat, common, referenced, keepsAll, parameter, spent}
+use Rattle.handle.specs.Selectors.{references, excludes, anyFlat, gapped, firstFlat, common, referenced}
+use Rattle.handle.specs.Selectors.{keepsAll, parameter, spent}
 use Rattle.handle.specs.Handles.{pick, refusal, reply, renewed, weakenNumber, weakened, weakening}
 use Rattle.handle.proofs.SelectorLaws.{any-flat, none-flat}
 use Rattle.handle.proofs.HandleLaws.{weakened-cases}
@@ -78,7 +79,7 @@ module _ (w : ℕ) (f : List ℕ → ℕ → List ℕ) (h : Handle) (mask : ℕ)
               (weakened-cases w f h mask (λ k. k ≡ h) (λ e. refl) (λ e. absurd (false≢true (sym e ∙ keeps t))))
               (last-row false (ap (λ (b : Bool). not b && not (anyFlat w (h .selector))) (keeps t)))
 
-          module _ (t : bitAnd x (full w - mask) ≡ 0 → ⊥) (four : length (h .selector) ≡ 4)
+          module _ (t : bitAnd x (full w - mask) ≡ 0 → ⊥) (four : length (h .selector) ≡ subselectors)
               (k : ℕ) (ek : k ≡ firstFlat w (h .selector)) where
             row-17 : (b : Bool) → anyFlat w (h .selector) ≡ b → weakenNumber w h mask ≡ pick (not b) 17 0
             row-17 b e = last-row (not b) (ap₂ (λ (x y : Bool). not x && not y) (takes t) e)

@@ -1,39 +1,46 @@
--- Document 01, "The handle", "Validation", "Weakening", "Reduction", and what call 7 gives. A handle's parts:
---     nodeOf, nameOf, widthOf    its node; its node and local number; how many segments its cluster has
+-- Document 01, "The handle", "Validation", "Weakening", "Reduction", and what call 7 gives. A handle and its bytes:
+--     Name               what names a cluster: a node and a local number
+--     nodeOf, nameOf     the node and the name of a handle
+--     widthOf            how many segments the cluster of a handle has
 --     encoded h          the 23 bytes of h: node (high byte first), local number, password, selector
 --     decoded b          the handle that the 23 bytes b hold
 --     noHandle           the handle whose bytes are all zero
+--     Holdable h         the parts of h fit in 23 bytes
+--     Bytes n b          b has n elements, each below 256
 --     samePassword a b   the sixteen bytes of a are those of b
---     renewed h p ss     the name of h with another password and selector
---     primaryHandle n p  the handle of the name n and the password p whose subselectors are all flat
--- Weakening's numbers and reply, over the width w:
+--     renewed h p ss     the name of h, with the password p and the selector ss
+-- Weakening's numbers and replies:
 --     Row, firstOf       a number of the table and whether it applies; the first that applies, or 0
---     noSuchPlace        number 2's test: node above 3 or local number above 7
---     weakenNumber h m   what call 7 is turned down with, or 0
---     refusal n          the reply to a call that is refused with n: 23 zero bytes and a zero count
+--     noSuchPlace h      number 2: node above 3 or local number above 7
+--     refusal n          the reply to a call refused with n: 23 zero bytes and a zero count
 --     reply n h c        the handle h and the count c where n is 0, else the refusal with n
--- Over a conversion f of a password by a parameter:
---     step p s           p through f by the subselector s, which skips a flat one
---     through ss p       p through f by each subselector that is not flat, 0 first
---     validates p h      the password of h is the one that the primary password p goes to
+--     rows h m           the rows that weakening h by the mask m meets, in the table's order
+--     weakenNumber h m   what it is turned down with, or 0
+-- Over a conversion f, which takes a password and a parameter to a password:
+--     converted p s      p through f with the subselector s; a flat one is skipped
+--     through ss p       p through f with each subselector that is not flat, 0 first
+--     validates p h      the primary password p ends as the password of h
 --     weakened h m       what weakening by the mask m makes of h
---     made h p s         the segments s in subselector 0, their password made from the primary password p
---     reduced h p        what reduction makes of h, with the primary password p of its mode
+--     made h p s         the set s of segments in subselector 0, its password made from the primary password p
+--     reduced h p        what reduction makes of h, from the primary password p of its mode
 --     weakening h m      the reply of call 7
 -- Assumes nothing.
-use Prim.Native.Nat.{ℕ, zero, suc}
+use Prim.Native.Nat.{ℕ, zero, suc, _^_, _<_}
+use mathlib.Core.Path.{_≡_}
 use mathlib.Core.Bool.{Bool, true, false, _||_}
 use mathlib.Core.List.{List, [], _∷_, _++_}
 use lib.Dec.{eqb, leb}
-use lib.ListN.{getD, take, drop, replicate}
+use lib.ListN.{length, getD, take, drop, replicate}
 use Rattle.bits.specs.Bytes.{bytes, word}
 use Rattle.loops.specs.Below.{every}
 use Rattle.handle.specs.declared.Handle.{Handle}
 use Rattle.handle.specs.declared.Weakened.{Weakened}
-use Rattle.handle.specs.Sizes.{nodes, clusters, segments, subselectors, passwordBytes, nodeBytes, localAt, passwordAt, selectorAt}
-use Rattle.handle.specs.Selectors.{flat, allFlat, gapped, common, referenced, keepsAll, parameter, replaced, spent, flats, inFirst}
+use Rattle.handle.specs.Sizes.{nodes, clusters, segments, subselectors, passwordBytes}
+use Rattle.handle.specs.Sizes.{nodeBytes, localAt, passwordAt, selectorAt}
+use Rattle.handle.specs.Selectors.{flat, allFlat, gapped, common, referenced}
+use Rattle.handle.specs.Selectors.{keepsAll, parameter, replaced, spent, inFirst}
 
--- ---- the parts of a handle
+-- ---- a handle and its bytes
 
 pub record Name : Type 0 where
   pub node : ℕ
@@ -62,13 +69,23 @@ decoded b = record {
 abbrev pub noHandle : Handle
 noHandle = record { node = 0; local = 0; password = replicate passwordBytes 0; selector = replicate subselectors 0 }
 
+pub record Holdable (h : Handle) : Type 0 where
+  pub node : h .node < 256 ^ nodeBytes
+  pub local : h .local < 256
+  pub password : length (h .password) ≡ passwordBytes
+  pub selector : length (h .selector) ≡ subselectors
+
+pub record Bytes (n : ℕ) (b : List ℕ) : Type 0 where
+  pub long : length b ≡ n
+  pub below : (i : ℕ) → getD b i 0 < 256
+
 unfoldable pub samePassword : List ℕ → List ℕ → Bool
 samePassword a b = every passwordBytes (λ k. eqb (getD a k 0) (getD b k 0))
 
 abbrev pub renewed : Handle → List ℕ → List ℕ → Handle
 renewed h p ss = record { node = h .node; local = h .local; password = p; selector = ss }
 
--- ---- weakening's numbers and reply
+-- ---- weakening's numbers and replies
 
 pub record Row : Type 0 where
   pub number : ℕ
@@ -93,9 +110,6 @@ reply zero h c = record { number = 0; handle = h; count = c }
 reply (suc n) h c = refusal (suc n)
 
 module _ (w : ℕ) where
-  abbrev pub primaryHandle : Name → List ℕ → Handle
-  primaryHandle n p = record { node = n .node; local = n .local; password = p; selector = flats w }
-
   abbrev pub rows : Handle → ℕ → List Row
   rows h mask =
       record { number = 2; applies = noSuchPlace h }
@@ -106,15 +120,15 @@ module _ (w : ℕ) where
   unfoldable pub weakenNumber : Handle → ℕ → ℕ
   weakenNumber h mask = firstOf (rows h mask)
 
-  -- ---- what a conversion f makes of a handle
+  -- ---- validation, weakening, reduction
 
   module _ (f : List ℕ → ℕ → List ℕ) where
-    abbrev pub step : List ℕ → ℕ → List ℕ
-    step p s = elim (flat w s) [ true ↦ p | false ↦ f p s ]
+    abbrev pub converted : List ℕ → ℕ → List ℕ
+    converted p s = elim (flat w s) [ true ↦ p | false ↦ f p s ]
 
     abbrev pub through : List ℕ → List ℕ → List ℕ
     through [] p = p
-    through (s ∷ ss) p = through ss (step p s)
+    through (s ∷ ss) p = through ss (converted p s)
 
     unfoldable pub validates : List ℕ → Handle → Bool
     validates p h = samePassword (through (h .selector) p) (h .password)
@@ -135,5 +149,4 @@ module _ (w : ℕ) where
     reduced h p = elim (allFlat w (h .selector)) [ true ↦ h | false ↦ made h p (common w (h .selector)) ]
 
     unfoldable pub weakening : Handle → ℕ → Weakened
-    weakening h mask =
-        reply (weakenNumber h mask) (weakened h mask) (referenced w (weakened h mask .selector))
+    weakening h mask = reply (weakenNumber h mask) (weakened h mask) (referenced w (weakened h mask .selector))

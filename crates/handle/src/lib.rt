@@ -1,5 +1,7 @@
 // Handles (document 01, "The handle"): their 23 bytes, what they reference, conversion, validation, weakening, reduction.
 // A function whose name ends in `_with` is lent the tables of the cipher, which a caller takes once with `aes::tables`.
+mod codec;
+
 use aes::Tables;
 ghost use mathlib.Core.Path.{_≡_};
 ghost use Rattle.aes.specs.Tables.{IsTables};
@@ -8,7 +10,8 @@ ghost use Rattle.handle.specs.Selectors as sel;
 ghost use Rattle.handle.specs.Handles as spec;
 ghost use Rattle.handle.specs.Conversion.{conversion};
 
-// How many nodes there are, clusters a node has, segments a cluster has, and subselectors a selector has.
+// How many nodes there are, clusters a node has, segments a cluster has, subselectors a selector has, and bytes a
+// password has.
 const NODES: u16 = 4;
 
 const CLUSTERS: u8 = 8;
@@ -17,11 +20,13 @@ const SEGMENTS: u8 = 8;
 
 const SUBSELECTORS: usize = 4;
 
+const PASSWORD_BYTES: usize = 16;
+
 // A flat subselector.
 const FLAT: u8 = 255;
 
-// How many values a byte has.
-const BYTE: u16 = 256;
+// The place of the parameter in the block that a conversion encrypts: the last.
+const PARAMETER_AT: usize = 15;
 
 // What weakening is turned down with.
 const NO_SUCH_PLACE: u8 = 2;
@@ -51,14 +56,14 @@ pub fn convert_with(tables: &Tables, password: [u8; 16], parameter: u8) -> [u8; 
     ensures { λ r. ⌜ r ≡ conversion password parameter ⌝ }
 {
     let mut block = [0u8; 16];
-    block[15] = parameter;
+    block[PARAMETER_AT] = parameter;
     aes::encrypt_with(tables, password, block)
 }
 
 // A password through the conversion of one subselector; a flat one is skipped.
-fn step_with(tables: &Tables, password: [u8; 16], subselector: u8) -> [u8; 16]
+fn converted_with(tables: &Tables, password: [u8; 16], subselector: u8) -> [u8; 16]
     requires { ⌜ IsTables (now tables) ⌝ }
-    ensures { λ r. ⌜ r ≡ spec.step segments conversion password subselector ⌝ }
+    ensures { λ r. ⌜ r ≡ spec.converted segments conversion password subselector ⌝ }
 {
     if subselector == FLAT {
         return password;
@@ -71,7 +76,7 @@ pub fn same(a: [u8; 16], b: [u8; 16]) -> bool
     ensures { λ r. ⌜ r ≡ spec.samePassword a b ⌝ }
 {
     let mut differing = 0u8;
-    for i in 0..16usize {
+    for i in 0..PASSWORD_BYTES {
         differing = (a[i] ^ b[i]) | differing;
     }
     differing == 0
@@ -105,71 +110,6 @@ fn done(handle: Handle) -> Weakened
 }
 
 impl Handle {
-    // The handle that 23 bytes hold.
-    pub fn decode(bytes: [u8; 23]) -> Handle
-        ensures { λ r. ⌜ r ≡ spec.decoded bytes ⌝ }
-    {
-        let b = bytes;
-        Handle {
-            node: (b[0] as u16) * BYTE + (b[1] as u16),
-            local: b[2],
-            password: [
-                b[3],
-                b[4],
-                b[5],
-                b[6],
-                b[7],
-                b[8],
-                b[9],
-                b[10],
-                b[11],
-                b[12],
-                b[13],
-                b[14],
-                b[15],
-                b[16],
-                b[17],
-                b[18],
-            ],
-            selector: [b[19], b[20], b[21], b[22]],
-        }
-    }
-
-    // The 23 bytes of the handle.
-    pub fn encode(self) -> [u8; 23]
-        ensures { λ r. ⌜ r ≡ spec.encoded self ⌝ }
-    {
-        let node = self.node;
-        let local = self.local;
-        let p = self.password;
-        let s = self.selector;
-        [
-            (node / BYTE) as u8,
-            (node % BYTE) as u8,
-            local,
-            p[0],
-            p[1],
-            p[2],
-            p[3],
-            p[4],
-            p[5],
-            p[6],
-            p[7],
-            p[8],
-            p[9],
-            p[10],
-            p[11],
-            p[12],
-            p[13],
-            p[14],
-            p[15],
-            s[0],
-            s[1],
-            s[2],
-            s[3],
-        ]
-    }
-
     // The bits that all four subselectors have.
     pub fn common(self) -> u8
         ensures { λ r. ⌜ r ≡ sel.common (spec.widthOf self) (self .selector) ⌝ }
@@ -222,7 +162,7 @@ impl Handle {
         ensures { λ r. ⌜ r ≡ sel.firstFlat (spec.widthOf self) (self .selector) ⌝ }
     {
         let s = self.selector;
-        for k in 0..4usize {
+        for k in 0..SUBSELECTORS {
             if s[k] == FLAT {
                 return k;
             }
@@ -236,10 +176,10 @@ impl Handle {
         ensures { λ r. ⌜ r ≡ spec.through (spec.widthOf self) conversion (self .selector) primary ⌝ }
     {
         let s = self.selector;
-        let a = step_with(tables, primary, s[0]);
-        let b = step_with(tables, a, s[1]);
-        let c = step_with(tables, b, s[2]);
-        step_with(tables, c, s[3])
+        let a = converted_with(tables, primary, s[0]);
+        let b = converted_with(tables, a, s[1]);
+        let c = converted_with(tables, b, s[2]);
+        converted_with(tables, c, s[3])
     }
 
     // Whether the handle validates from a primary password.
