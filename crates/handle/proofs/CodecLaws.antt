@@ -6,6 +6,8 @@ use native.Mathlib.Omega.{arith}
 use mathlib.Core.Path.{_≡_, refl, sym, ap, _∙_, subst}
 use mathlib.Core.List.{List, [], _∷_, _++_}
 use lib.ListN.{length, getD, take, drop, replicate}
+use mir.Val.{Fits}
+use mir.Syntax.{w8, w16}
 use Rattle.bits.specs.Bytes.{bytes, wordFrom, word}
 use Rattle.bits.proofs.ByteLaws.{word-bytes, bytes-word}
 use Rattle.loops.specs.Tabulate.{tabulate}
@@ -32,6 +34,13 @@ unfolding word wordFrom
 word-two a b = omega arith
 
 -- ---- what the code reads and writes
+
+-- the high byte of a node, and a node, fit in sixteen bits
+pub fits-high : (a : ℕ) → Fits w8 a → Fits w16 (a * 256)
+fits-high a h = record { fits = omega (arith, h .fits) }
+
+pub fits-node : (a b : ℕ) → Fits w8 a → Fits w8 b → Fits w16 (a * 256 + b)
+fits-node a b h k = record { fits = omega (arith, h .fits, k .fits) }
 
 -- the handle of a node n and the other parts that stand in the bytes b
 abbrev withNode : List ℕ → ℕ → Handle

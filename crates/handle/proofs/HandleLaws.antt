@@ -16,18 +16,21 @@ use Rattle.handle.specs.declared.Handle.{Handle}
 use Rattle.handle.specs.Sizes.{subselectors}
 use Rattle.handle.specs.Selectors.{references, flat, allFlat, anyFlat, gapped, firstFlat, common}
 use Rattle.handle.specs.Selectors.{keepsAll, parameter, replaced, spent, inFirst}
-use Rattle.handle.specs.Handles.{nameOf, renewed, pick, noSuchPlace, weakenNumber, through, weakened, made, reduced}
+use Rattle.handle.specs.Handles.{nameOf, renewed, through, weakened, made, reduced}
+use Rattle.handle.specs.Handles.{pick, placeNumber, gappedNumber, spentNumber, noSuchPlace, weakenNumber}
 use Rattle.handle.specs.Opens.{Whole}
-use Rattle.handle.proofs.SelectorLaws.{replaced-here, replaced-past, references-replaced, gapped-replaced, within-replaced}
-use Rattle.handle.proofs.SelectorLaws.{rest-flat, rest-ungapped, has-parameter, parameter-not-flat, parameter-lt, keeps-each, kept}
-use Rattle.handle.proofs.SelectorLaws.{common-not-flat, full-flat, references-inFirst, gapped-inFirst}
+use Rattle.handle.proofs.SelectorLaws.{replaced-here, replaced-past}
+use Rattle.handle.proofs.SelectorLaws.{references-replaced, gapped-replaced, within-replaced}
+use Rattle.handle.proofs.SelectorLaws.{rest-flat, rest-ungapped, common-not-flat, full-flat}
+use Rattle.handle.proofs.SelectorLaws.{has-parameter, parameter-not-flat, parameter-lt, keeps-each, kept}
+use Rattle.handle.proofs.SelectorLaws.{references-inFirst, gapped-inFirst}
 
 -- a weakening that is not turned down is not spent
 pub unspent : (w : ℕ) (h : Handle) (mask : ℕ) → weakenNumber w h mask ≡ 0 → spent w mask (h .selector) ≡ false
 unfolding weakenNumber
 unspent w h mask e = go (noSuchPlace h) (gapped w (h .selector)) (spent w mask (h .selector)) e
   where
-    go : (a b c : Bool) → pick a 2 (pick b 4 (pick c 17 0)) ≡ 0 → c ≡ false
+    go : (a b c : Bool) → pick a placeNumber (pick b gappedNumber (pick c spentNumber 0)) ≡ 0 → c ≡ false
     go true b c e = absurd (omega arith)
     go false true c e = absurd (omega arith)
     go false false true e = absurd (omega arith)

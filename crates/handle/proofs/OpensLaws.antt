@@ -13,8 +13,10 @@ use Rattle.handle.specs.Handles.{Name, reply, weakenNumber, weakened, re
 use Rattle.handle.specs.Opens.{primaryHandle, Opens}
 use Rattle.handle.proofs.SelectorLaws.{references-flat, full-flat}
 use Rattle.handle.proofs.HandleLaws.{unspent, through-flat}
-use Rattle.handle.proofs.HandleLaws.{name-weakened, whole-weakened, gapped-weakened, references-weakened, valid-weakened}
-use Rattle.handle.proofs.HandleLaws.{name-reduced, whole-reduced, gapped-reduced, references-reduced, valid-reduced}
+use Rattle.handle.proofs.HandleLaws.{name-weakened, whole-weakened, gapped-weakened}
+use Rattle.handle.proofs.HandleLaws.{references-weakened, valid-weakened}
+use Rattle.handle.proofs.HandleLaws.{name-reduced, whole-reduced, gapped-reduced}
+use Rattle.handle.proofs.HandleLaws.{references-reduced, valid-reduced}
 
 module _ (w : ℕ) (f : List ℕ → ℕ → List ℕ) (name : Name) (p : List ℕ) where
   -- a primary handle opens every segment with its own password

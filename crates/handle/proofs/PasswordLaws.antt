@@ -15,10 +15,9 @@ use borrow.Author.Tests.{eq-eqb}
 use Rattle.bits.proofs.OperationLaws.{or-none, xor-none}
 use Rattle.loops.specs.Below.{every}
 use Rattle.loops.proofs.BelowLaws.{every-all, every-equal}
-use Rattle.aes.specs.Cipher.{cipher}
 use Rattle.aes.proofs.CipherLaws.{length-cipher}
 use Rattle.handle.specs.declared.Handle.{Handle}
-use Rattle.handle.specs.Sizes.{passwordBytes}
+use Rattle.handle.specs.Sizes.{segments, passwordBytes}
 use Rattle.handle.specs.Selectors.{flat}
 use Rattle.handle.specs.Handles.{samePassword, converted, through, validates}
 use Rattle.handle.specs.Conversion.{conversion}
@@ -67,7 +66,8 @@ unfolding samePassword
 equal-same a b e =
     every-all passwordBytes (agree a b) (λ k h. eq-eqb (getD a k 0) (getD b k 0) (ap (λ (l : List ℕ). getD l k 0) e))
 
-pub length-conversion : (p : List ℕ) (c : ℕ) → length (conversion p c) ≡ passwordBytes
+-- the password that a conversion gives has sixteen bytes
+length-conversion : (p : List ℕ) (c : ℕ) → length (conversion p c) ≡ passwordBytes
 unfolding conversion
 length-conversion p c = length-cipher p _
 
@@ -91,3 +91,8 @@ module _ (w : ℕ) (f : List ℕ → ℕ → List ℕ) (h : Handle) (p : List �
     unfolding validates
     validates-equal lp lh e =
         same-equal (through w f (h .selector) p) (h .password) (length-through (h .selector) p lp) lh e
+
+-- a handle that validates by the code's conversion has the password that the chain ends with
+pub validates-conversion : (h : Handle) (p : List ℕ) → length p ≡ passwordBytes → length (h .password) ≡ passwordBytes
+    → validates segments conversion p h ≡ true → through segments conversion (h .selector) p ≡ h .password
+validates-conversion h p = validates-equal segments conversion h p length-conversion

@@ -17,43 +17,44 @@ use Rattle.handle.specs.declared.Weakened.{Weakened}
 use Rattle.handle.specs.Sizes.{nodes, clusters, subselectors}
 use Rattle.handle.specs.Selectors.{references, excludes, anyFlat, gapped, firstFlat, common, referenced}
 use Rattle.handle.specs.Selectors.{keepsAll, parameter, spent}
-use Rattle.handle.specs.Handles.{pick, refusal, reply, renewed, weakenNumber, weakened, weakening}
+use Rattle.handle.specs.Handles.{renewed, weakened, weakening}
+use Rattle.handle.specs.Handles.{pick, placeNumber, gappedNumber, spentNumber, refusal, reply, weakenNumber}
 use Rattle.handle.proofs.SelectorLaws.{any-flat, none-flat}
 use Rattle.handle.proofs.HandleLaws.{weakened-cases}
 
 module _ (w : ℕ) (f : List ℕ → ℕ → List ℕ) (h : Handle) (mask : ℕ) where
-  refused-with : (n : ℕ) (r : Weakened) → r ≡ refusal (suc n) → weakenNumber w h mask ≡ suc n → r ≡ weakening w f h mask
+  abbrev replying : ℕ → Weakened
+  replying n = reply n (weakened w f h mask) (referenced w (weakened w f h mask .selector))
+
+  refused-with : (n : ℕ) → 0 < n → (r : Weakened) → r ≡ refusal n → weakenNumber w h mask ≡ n → r ≡ weakening w f h mask
   unfolding weakening
-  refused-with n r a e =
-      a ∙ sym (ap (λ (x : ℕ). reply x (weakened w f h mask) (referenced w (weakened w f h mask .selector))) e)
+  refused-with zero l r a e = absurd (omega arith)
+  refused-with (suc n) l r a e = a ∙ sym (ap replying e)
 
   done-with : (k : Handle) (r : Weakened) → r ≡ reply 0 k (referenced w (k .selector)) → weakened w f h mask ≡ k
       → weakenNumber w h mask ≡ 0 → r ≡ weakening w f h mask
   unfolding weakening
   done-with k r b a e =
-      b
-      ∙ sym
-      (ap (λ (x : ℕ). reply x (weakened w f h mask) (referenced w (weakened w f h mask .selector))) e
-      ∙ ap (λ (g : Handle). reply 0 g (referenced w (g .selector))) a)
+      b ∙ sym (ap replying e ∙ ap (λ (g : Handle). reply 0 g (referenced w (g .selector))) a)
 
-  pub refused-node : (r : Weakened) → r ≡ refusal 2 → nodes ≤ h .node → r ≡ weakening w f h mask
+  pub refused-node : (r : Weakened) → r ≡ refusal placeNumber → nodes ≤ h .node → r ≡ weakening w f h mask
   unfolding weakenNumber
-  refused-node r a t = refused-with 1 r a (simp (le-leb nodes (h .node) t))
+  refused-node r a t = refused-with placeNumber (omega arith) r a (simp (le-leb nodes (h .node) t))
 
   module _ (n : h .node < nodes) where
-    pub refused-local : (r : Weakened) → r ≡ refusal 2 → clusters ≤ h .local → r ≡ weakening w f h mask
+    pub refused-local : (r : Weakened) → r ≡ refusal placeNumber → clusters ≤ h .local → r ≡ weakening w f h mask
     unfolding weakenNumber
-    refused-local r a t = refused-with 1 r a (simp (lt-leb nodes (h .node) n, le-leb clusters (h .local) t))
+    refused-local r a t = refused-with placeNumber (omega arith) r a (simp (lt-leb nodes (h .node) n, le-leb clusters (h .local) t))
 
     module _ (l : h .local < clusters) (g : Bool) (eg : g ≡ gapped w (h .selector)) where
-      pub refused-gapped : (r : Weakened) → r ≡ refusal 4 → g ≡ true → r ≡ weakening w f h mask
+      pub refused-gapped : (r : Weakened) → r ≡ refusal gappedNumber → g ≡ true → r ≡ weakening w f h mask
       unfolding weakenNumber
       refused-gapped r a t =
-          refused-with 3 r a (simp (lt-leb nodes (h .node) n, lt-leb clusters (h .local) l, sym eg ∙ t))
+          refused-with gappedNumber (omega arith) r a (simp (lt-leb nodes (h .node) n, lt-leb clusters (h .local) l, sym eg ∙ t))
 
       module _ (u : g ≡ false) where
-        -- only the row of 17 is left
-        last-row : (b : Bool) → spent w mask (h .selector) ≡ b → weakenNumber w h mask ≡ pick b 17 0
+        -- only the last row is left
+        last-row : (b : Bool) → spent w mask (h .selector) ≡ b → weakenNumber w h mask ≡ pick b spentNumber 0
         unfolding weakenNumber
         last-row b e = simp (lt-leb nodes (h .node) n, lt-leb clusters (h .local) l, sym eg ∙ u, e)
 
@@ -81,11 +82,11 @@ module _ (w : ℕ) (f : List ℕ → ℕ → List ℕ) (h : Handle) (mask : ℕ)
 
           module _ (t : bitAnd x (full w - mask) ≡ 0 → ⊥) (four : length (h .selector) ≡ subselectors)
               (k : ℕ) (ek : k ≡ firstFlat w (h .selector)) where
-            row-17 : (b : Bool) → anyFlat w (h .selector) ≡ b → weakenNumber w h mask ≡ pick (not b) 17 0
-            row-17 b e = last-row (not b) (ap₂ (λ (x y : Bool). not x && not y) (takes t) e)
+            row-spent : (b : Bool) → anyFlat w (h .selector) ≡ b → weakenNumber w h mask ≡ pick (not b) spentNumber 0
+            row-spent b e = last-row (not b) (ap₂ (λ (x y : Bool). not x && not y) (takes t) e)
 
-            pub refused-spent : subselectors ≤ k → (r : Weakened) → r ≡ refusal 17 → r ≡ weakening w f h mask
-            refused-spent s r a = refused-with 16 r a (row-17 false (none-flat w (h .selector) (omega arith)))
+            pub refused-spent : subselectors ≤ k → (r : Weakened) → r ≡ refusal spentNumber → r ≡ weakening w f h mask
+            refused-spent s r a = refused-with spentNumber (omega arith) r a (row-spent false (none-flat w (h .selector) (omega arith)))
 
             -- the parameter, as the code has it
             abbrev v : ℕ
@@ -99,7 +100,7 @@ module _ (w : ℕ) (f : List ℕ → ℕ → List ℕ) (h : Handle) (mask : ℕ)
                 (weakened-cases w f h mask (λ g. g ≡ renewed h p (set (h .selector) k v))
                 (λ e. absurd (false≢true (sym (takes t) ∙ e)))
                 (λ e j. renewed h ((ap (f (h .password)) (sym ev) ∙ sym ep) j) (set (h .selector) (sym ek j) (sym ev j))))
-                (row-17 true (any-flat w (h .selector) (omega arith)))
+                (row-spent true (any-flat w (h .selector) (omega arith)))
               where
                 ev : v ≡ parameter w mask (h .selector)
                 ev = ap (λ (n : ℕ). full w - n) excluded

@@ -11,7 +11,8 @@
 --     renewed h p ss     the name of h, with the password p and the selector ss
 -- Weakening's numbers and replies:
 --     Row, firstOf       a number of the table and whether it applies; the first that applies, or 0
---     noSuchPlace h      number 2: node above 3 or local number above 7
+--     placeNumber, gappedNumber, spentNumber    the table's numbers for no such place, gapped and spent
+--     noSuchPlace h      node above 3 or local number above 7
 --     refusal n          the reply to a call refused with n: 23 zero bytes and a zero count
 --     reply n h c        the handle h and the count c where n is 0, else the refusal with n
 --     rows h m           the rows that weakening h by the mask m meets, in the table's order
@@ -99,6 +100,15 @@ abbrev pub firstOf : List Row → ℕ
 firstOf [] = 0
 firstOf (r ∷ rs) = pick (r .applies) (r .number) (firstOf rs)
 
+abbrev pub placeNumber : ℕ
+placeNumber = 2
+
+abbrev pub gappedNumber : ℕ
+gappedNumber = 4
+
+abbrev pub spentNumber : ℕ
+spentNumber = 17
+
 abbrev pub noSuchPlace : Handle → Bool
 noSuchPlace h = leb nodes (nodeOf h) || leb clusters (h .local)
 
@@ -112,9 +122,9 @@ reply (suc n) h c = refusal (suc n)
 module _ (w : ℕ) where
   abbrev pub rows : Handle → ℕ → List Row
   rows h mask =
-      record { number = 2; applies = noSuchPlace h }
-      ∷ record { number = 4; applies = gapped w (h .selector) }
-      ∷ record { number = 17; applies = spent w mask (h .selector) }
+      record { number = placeNumber; applies = noSuchPlace h }
+      ∷ record { number = gappedNumber; applies = gapped w (h .selector) }
+      ∷ record { number = spentNumber; applies = spent w mask (h .selector) }
       ∷ []
 
   unfoldable pub weakenNumber : Handle → ℕ → ℕ

@@ -1,5 +1,5 @@
-// Handles (document 01, "The handle"): their 23 bytes, what they reference, conversion, validation, weakening, reduction.
-// A function whose name ends in `_with` is lent the tables of the cipher, which a caller takes once with `aes::tables`.
+// Handles (document 01, "The handle"): what they reference, conversion, validation, weakening, reduction; their bytes
+// are in `codec`. A function whose name ends in `_with` is lent the tables of the cipher, which a caller takes once.
 mod codec;
 
 use aes::Tables;
@@ -10,31 +10,37 @@ ghost use Rattle.handle.specs.Selectors as sel;
 ghost use Rattle.handle.specs.Handles as spec;
 ghost use Rattle.handle.specs.Conversion.{conversion};
 
-// How many nodes there are, clusters a node has, segments a cluster has, subselectors a selector has, and bytes a
-// password has.
+// How many nodes there are.
 const NODES: u16 = 4;
 
+// How many clusters a node has.
 const CLUSTERS: u8 = 8;
 
+// How many segments a cluster has.
 const SEGMENTS: u8 = 8;
 
+// How many subselectors a selector has.
 const SUBSELECTORS: usize = 4;
 
-const PASSWORD_BYTES: usize = 16;
-
-// A flat subselector.
+// A flat subselector: a bit for each segment.
 const FLAT: u8 = 255;
+
+// How many bytes a password has.
+const PASSWORD_BYTES: usize = 16;
 
 // The place of the parameter in the block that a conversion encrypts: the last.
 const PARAMETER_AT: usize = 15;
 
-// What weakening is turned down with.
+// Weakening is refused: the node or the local number is too large.
 const NO_SUCH_PLACE: u8 = 2;
 
+// Weakening is refused: the selector is gapped.
 const GAPPED: u8 = 4;
 
+// Weakening is refused: something would be excluded and no subselector is flat.
 const SPENT: u8 = 17;
 
+// What opens some segments of the cluster that it names by node and local number.
 pub struct Handle {
     pub node: u16,
     pub local: u8,
@@ -71,7 +77,8 @@ fn converted_with(tables: &Tables, password: [u8; 16], subselector: u8) -> [u8; 
     convert_with(tables, password, subselector)
 }
 
-// Whether two passwords are equal. All sixteen bytes are looked at, so that the time taken does not tell how many agree.
+// Whether two passwords are equal. All sixteen bytes are looked at, so that the time taken tells nothing of how many
+// agree.
 pub fn same(a: [u8; 16], b: [u8; 16]) -> bool
     ensures { λ r. ⌜ r ≡ spec.samePassword a b ⌝ }
 {
@@ -82,6 +89,7 @@ pub fn same(a: [u8; 16], b: [u8; 16]) -> bool
     differing == 0
 }
 
+// The reply of a refused weakening.
 fn refused(number: u8) -> Weakened
     ensures { λ r. ⌜ r ≡ spec.refusal number ⌝ }
 {
@@ -98,6 +106,7 @@ fn refused(number: u8) -> Weakened
     }
 }
 
+// The reply of a weakening done: the handle, and how many segments it references.
 fn done(handle: Handle) -> Weakened
     ensures { λ r. ⌜ r ≡ spec.reply 0 handle (sel.referenced (spec.widthOf handle) (handle .selector)) ⌝ }
 {

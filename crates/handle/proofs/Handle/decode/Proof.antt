@@ -1,20 +1,16 @@
 -- The parts are the bytes at their places, one by one; two bytes make a node that fits.
 -- Assumes nothing.
-use mir.Val.{Fits}
-use mir.Syntax.{w8}
-use lib.ListN.{getD}
-use native.Mathlib.Omega.{arith}
 use Rattle.loops.specs.Tabulate.{tabulate}
-use Rattle.handle.proofs.CodecLaws.{decoded-is}
+use Rattle.handle.proofs.CodecLaws.{fits-high, fits-node, decoded-is}
 use borrow.Author.Needs.{needs}
 use Rattle.handle.proofs.Handle.decode.Statement.{statement}
 use Rattle.handle.proofs.Handle.decode.Tie as tie
 
 mul-t7 : tie.Need-mul-t7
-mul-t7 c = let h : Fits w8 (getD (c .args .bytes) 0 0) = search needs in omega arith
+mul-t7 c = search (needs, fits-high)
 
 add-t12 : tie.Need-add-t12
-add-t12 c = let h : Fits w8 (getD (c .args .bytes) 0 0) = search needs in let g : Fits w8 (getD (c .args .bytes) 1 0) = search needs in omega arith
+add-t12 c = search (needs, fits-node)
 
 returns : tie.Need-returns
 unfolding tabulate

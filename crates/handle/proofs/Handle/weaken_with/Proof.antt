@@ -1,7 +1,8 @@
 -- Each return is the reply of the first row that applies, or of the handle unchanged or changed where none does.
 -- Assumes nothing.
 use Rattle.handle.specs.Sizes.{segments}
-use Rattle.handle.proofs.WeakenLaws.{refused-node, refused-local, refused-gapped, weaken-unchanged, refused-spent, weaken-changed}
+use Rattle.handle.proofs.WeakenLaws.{refused-node, refused-local, refused-gapped, refused-spent}
+use Rattle.handle.proofs.WeakenLaws.{weaken-unchanged, weaken-changed}
 use borrow.Author.Needs.{needs}
 use Rattle.handle.proofs.Handle.weaken_with.Statement.{statement}
 use Rattle.handle.proofs.Handle.weaken_with.Tie as tie
