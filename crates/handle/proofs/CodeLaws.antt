@@ -1,11 +1,11 @@
 -- What the code computes from a handle's subselectors is what the definitions say. The definitions go along the row of
 -- subselectors; the code looks at the four of them, and a list of four is the list of its elements.
 -- Assumes nothing.
-use Prim.Native.Nat.{ℕ, zero, suc, _+_, _*_, _-_, _%_, _^_, _≤_, _<_}
+use Prim.Native.Nat.{ℕ, suc, _+_, _*_, _-_, _%_, _^_, _≤_, _<_}
 use native.Mathlib.Nat.{one-mul, zero-add, mod-eq-of-lt}
 use native.Mathlib.Numerals.{add-one}
 use native.Mathlib.Omega.{arith}
-use mathlib.Core.Path.{_≡_, refl, sym, ap, _∙_, subst}
+use mathlib.Core.Path.{_≡_, refl, sym, ap, _∙_}
 use mathlib.Core.Bool.{Bool, true, false, not, _&&_, _||_, false≢true, and-true, and-false, or-false}
 use mathlib.Core.List.{List, [], _∷_}
 use lib.Dec.{eqb}
@@ -23,7 +23,7 @@ use Rattle.bits.proofs.OperationLaws.{has-and, mask-test}
 use Rattle.loops.specs.Tabulate.{tabulate}
 use Rattle.handle.specs.declared.Handle.{Handle}
 use Rattle.handle.specs.Sizes.{segments, subselectors}
-use Rattle.handle.specs.Selectors.{references, flat, allFlat, gapped, firstFlat, common, referenced, inFirst}
+use Rattle.handle.specs.Selectors.{references, allFlat, gapped, firstFlat, common, referenced, inFirst}
 use Rattle.handle.specs.Handles.{renewed, samePassword, converted, through, validates, reduced}
 use Rattle.handle.proofs.SelectorLaws.{first-here, first-past}
 use Rattle.handle.proofs.HandleLaws.{reduced-cases}

@@ -5,7 +5,7 @@ use mathlib.Core.Path.{_≡_, refl}
 use mathlib.Core.List.{List, map}
 use Rattle.bits.specs.Sets.{has, setOf, count}
 use Rattle.handle.specs.Handles.{weakenNumber, weakened, reduced, weakening}
-use Rattle.handle.specs.Examples.{Example, examples, answer}
+use Rattle.handle.specs.Examples.{examples, answer}
 
 pub examples-hold : (f : List ℕ → ℕ → List ℕ) (password primary : List ℕ)
     → map (λ e. answer f password primary (e .asked)) examples ≡ map (λ e. e .told) examples

@@ -2,7 +2,7 @@
 -- cases, the handle unchanged and the handle changed; the chain of conversions ends with the one that weakening adds,
 -- since all after the first flat subselector is flat.
 -- Assumes nothing.
-use Prim.Native.Nat.{ℕ, zero, suc, _-_, _<_}
+use Prim.Native.Nat.{ℕ, _-_, _<_}
 use native.Mathlib.Omega.{arith}
 use mathlib.Core.Path.{_≡_, refl, sym, ap, _∙_}
 use mathlib.Core.Bool.{Bool, true, false, not, _&&_, _||_, false≢true}

@@ -1,7 +1,7 @@
 -- Weakening and reduction take a handle that opens a cluster to one that opens it: each part of `Opens` is a law of
 -- one handle.
 -- Assumes nothing.
-use Prim.Native.Nat.{ℕ, zero, suc}
+use Prim.Native.Nat.{ℕ}
 use mathlib.Core.Path.{_≡_, refl, sym, ap, _∙_, subst}
 use mathlib.Core.Bool.{Bool, true, false, _&&_}
 use mathlib.Core.List.{List}

@@ -1,7 +1,7 @@
 -- Passwords compared. The loop or-s the differences of the bytes together: after i bytes the sum of differences is zero
 -- just where the first i bytes agree. Of two passwords of sixteen bytes the test says whether they are equal.
 -- Assumes nothing.
-use Prim.Native.Nat.{ℕ, zero, suc, _+_, _≤_, _<_}
+use Prim.Native.Nat.{ℕ, _+_, _≤_, _<_}
 use native.Mathlib.Omega.{arith}
 use native.Mathlib.Numerals.{add-one}
 use mathlib.Core.Path.{_≡_, refl, sym, ap, ap₂, _∙_}
