@@ -48,7 +48,8 @@ module _ (w : ℕ) where
     pub code-primary : at 0 && (at 1 && (at 2 && at 3)) ≡ allFlat w ss
     unfolding tabulate
     code-primary =
-        ap (λ (b : Bool). at 0 && (at 1 && (at 2 && b))) (sym (and-true (at 3))) ∙ ap (allFlat w) (sym (listed subselectors ss e))
+        ap (λ (b : Bool). at 0 && (at 1 && (at 2 && b))) (sym (and-true (at 3)))
+        ∙ ap (allFlat w) (sym (listed subselectors ss e))
 
     pub code-gapped : (at 0 && not (at 1 && (at 2 && at 3))) || ((at 1 && not (at 2 && at 3)) || (at 2 && not (at 3)))
         ≡ gapped w ss
@@ -122,8 +123,9 @@ module _ (w : ℕ) where
     unfolding tabulate
     code-opened ss p a b c d e ea eb ec ed =
         ed
-        ∙ ap (λ (q : List ℕ). converted w f q (getD ss 3 0))
-        (ec ∙ ap (λ (q : List ℕ). converted w f q (getD ss 2 0)) (eb ∙ ap (λ (q : List ℕ). converted w f q (getD ss 1 0)) ea))
+        ∙ ap (λ (q : List ℕ). converted w f q (getD ss 3 0)) ec
+        ∙ ap (through w f (getD ss 2 0 ∷ getD ss 3 0 ∷ [])) eb
+        ∙ ap (through w f (getD ss 1 0 ∷ getD ss 2 0 ∷ getD ss 3 0 ∷ [])) ea
         ∙ ap (λ (l : List ℕ). through w f l p) (sym (listed subselectors ss e))
 
     pub code-validates : (h : Handle) (p x : List ℕ) (r : Bool) → x ≡ through w f (h .selector) p
@@ -146,7 +148,8 @@ module _ (w : ℕ) where
 -- ---- bytes: the width is that of a cluster's segments
 
 module _ (ss : List ℕ) (e : length ss ≡ subselectors) (h : Fits w8 (getD ss 0 0)) where
-  pub code-common : bitAnd (getD ss 0 0) (bitAnd (getD ss 1 0) (bitAnd (getD ss 2 0) (getD ss 3 0))) ≡ common segments ss
+  pub code-common : bitAnd (getD ss 0 0) (bitAnd (getD ss 1 0) (bitAnd (getD ss 2 0) (getD ss 3 0)))
+      ≡ common segments ss
   unfolding tabulate
   code-common =
       and-common segments (getD ss 0 0) (getD ss 1 0) (getD ss 2 0) (getD ss 3 0) (h .fits)

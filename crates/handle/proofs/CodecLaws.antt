@@ -18,7 +18,7 @@ use Rattle.handle.specs.Sizes.{nodeBytes, localAt, passwordAt, selectorA
 use Rattle.handle.specs.Handles.{encoded, decoded, noHandle, Holdable, Bytes}
 use Rattle.handle.specs.Opens.{Whole}
 
--- the first n elements of a list, one by one; a list of n elements is they
+-- the first n elements of a list, one by one; they are the whole of a list of n
 abbrev pub elements : ℕ → List ℕ → List ℕ
 elements n l = tabulate n (λ k. getD l k 0)
 
@@ -76,9 +76,7 @@ pub decode-encode : (h : Handle) → Holdable h → decoded (encoded h) ≡ h
 unfolding encoded decoded bytes tabulate
 decode-encode h o =
     ap (λ (k : Handle). decoded (encoded k)) (apart h (o .password) (o .selector))
-    ∙ ap
-    (λ (n : ℕ).
-    handleOf n (h .local) (elements passwordBytes (h .password)) (elements subselectors (h .selector)))
+    ∙ ap (λ (n : ℕ). handleOf n (h .local) (elements passwordBytes (h .password)) (elements subselectors (h .selector)))
     (word-bytes nodeBytes (h .node) (o .node))
     ∙ sym (apart h (o .password) (o .selector))
 
@@ -86,7 +84,8 @@ pub encode-decode : (b : List ℕ) → Bytes handleBytes b → encoded (decoded 
 unfolding encoded decoded bytes tabulate
 encode-decode b o =
     ap (λ (l : List ℕ). encoded (decoded l)) (listed handleBytes b (o .long))
-    ∙ ap (λ (l : List ℕ). l ++ drop nodeBytes (elements handleBytes b)) (bytes-word (getD b 0 0 ∷ getD b 1 0 ∷ []) below)
+    ∙ ap (λ (l : List ℕ). l ++ drop nodeBytes (elements handleBytes b))
+    (bytes-word (getD b 0 0 ∷ getD b 1 0 ∷ []) below)
     ∙ sym (listed handleBytes b (o .long))
   where
     below : (i : ℕ) → getD (getD b 0 0 ∷ getD b 1 0 ∷ []) i 0 < 256

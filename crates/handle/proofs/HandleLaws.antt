@@ -132,8 +132,8 @@ module _ (w : ℕ) (f : List ℕ → ℕ → List ℕ) where
       valid-weakened p g d =
           weakened-cases (λ k. through w f (k .selector) p ≡ k .password) (λ e. d)
           (λ e.
-          through-replaced (parameter w mask (h .selector)) (parameter-not-flat w mask (h .selector) e) (h .selector) p g
-          (some-flat e)
+          through-replaced (parameter w mask (h .selector)) (parameter-not-flat w mask (h .selector) e) (h .selector)
+          p g (some-flat e)
           ∙ ap (λ (q : List ℕ). f q (parameter w mask (h .selector))) d)
 
   -- ---- reduction

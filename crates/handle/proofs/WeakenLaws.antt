@@ -26,7 +26,8 @@ module _ (w : ℕ) (f : List ℕ → ℕ → List ℕ) (h : Handle) (mask : ℕ)
   abbrev replying : ℕ → Weakened
   replying n = reply n (weakened w f h mask) (referenced w (weakened w f h mask .selector))
 
-  refused-with : (n : ℕ) → 0 < n → (r : Weakened) → r ≡ refusal n → weakenNumber w h mask ≡ n → r ≡ weakening w f h mask
+  refused-with : (n : ℕ) → 0 < n → (r : Weakened) → r ≡ refusal n → weakenNumber w h mask ≡ n
+      → r ≡ weakening w f h mask
   unfolding weakening
   refused-with zero l r a e = absurd (omega arith)
   refused-with (suc n) l r a e = a ∙ sym (ap replying e)
@@ -34,8 +35,7 @@ module _ (w : ℕ) (f : List ℕ → ℕ → List ℕ) (h : Handle) (mask : ℕ)
   done-with : (k : Handle) (r : Weakened) → r ≡ reply 0 k (referenced w (k .selector)) → weakened w f h mask ≡ k
       → weakenNumber w h mask ≡ 0 → r ≡ weakening w f h mask
   unfolding weakening
-  done-with k r b a e =
-      b ∙ sym (ap replying e ∙ ap (λ (g : Handle). reply 0 g (referenced w (g .selector))) a)
+  done-with k r b a e = b ∙ sym (ap replying e ∙ ap (λ (g : Handle). reply 0 g (referenced w (g .selector))) a)
 
   pub refused-node : (r : Weakened) → r ≡ refusal placeNumber → nodes ≤ h .node → r ≡ weakening w f h mask
   unfolding weakenNumber
@@ -44,13 +44,16 @@ module _ (w : ℕ) (f : List ℕ → ℕ → List ℕ) (h : Handle) (mask : ℕ)
   module _ (n : h .node < nodes) where
     pub refused-local : (r : Weakened) → r ≡ refusal placeNumber → clusters ≤ h .local → r ≡ weakening w f h mask
     unfolding weakenNumber
-    refused-local r a t = refused-with placeNumber (omega arith) r a (simp (lt-leb nodes (h .node) n, le-leb clusters (h .local) t))
+    refused-local r a t =
+        refused-with placeNumber (omega arith) r a
+        (simp (lt-leb nodes (h .node) n, le-leb clusters (h .local) t))
 
     module _ (l : h .local < clusters) (g : Bool) (eg : g ≡ gapped w (h .selector)) where
       pub refused-gapped : (r : Weakened) → r ≡ refusal gappedNumber → g ≡ true → r ≡ weakening w f h mask
       unfolding weakenNumber
       refused-gapped r a t =
-          refused-with gappedNumber (omega arith) r a (simp (lt-leb nodes (h .node) n, lt-leb clusters (h .local) l, sym eg ∙ t))
+          refused-with gappedNumber (omega arith) r a
+          (simp (lt-leb nodes (h .node) n, lt-leb clusters (h .local) l, sym eg ∙ t))
 
       module _ (u : g ≡ false) where
         -- only the last row is left
@@ -86,7 +89,9 @@ module _ (w : ℕ) (f : List ℕ → ℕ → List ℕ) (h : Handle) (mask : ℕ)
             row-spent b e = last-row (not b) (ap₂ (λ (x y : Bool). not x && not y) (takes t) e)
 
             pub refused-spent : subselectors ≤ k → (r : Weakened) → r ≡ refusal spentNumber → r ≡ weakening w f h mask
-            refused-spent s r a = refused-with spentNumber (omega arith) r a (row-spent false (none-flat w (h .selector) (omega arith)))
+            refused-spent s r a =
+                refused-with spentNumber (omega arith) r a
+                (row-spent false (none-flat w (h .selector) (omega arith)))
 
             -- the parameter, as the code has it
             abbrev v : ℕ
