@@ -1,14 +1,14 @@
 -- Laws of numbers as sets of bits, for every width w. Each goes from the lowest bit up: a number is its lowest bit and
 -- twice the rest, and bit i + 1 of the number is bit i of the rest.
 -- Assumes nothing.
-use Prim.Native.Nat.{ℕ, zero, suc, _+_, _*_, _/_, _%_, _^_, _≤_, _<_}
-use native.Mathlib.Nat.{pow-suc, mod-lt, div-eq-of-lt, lt-of-lt-of-le}
+use Prim.Native.Nat.{ℕ, zero, suc, _+_, _*_, _/_, _%_, _^_, _<_}
+use native.Mathlib.Nat.{pow-suc, mod-lt, div-eq-of-lt}
 use native.Mathlib.Numerals.{one-add}
 use native.Mathlib.Omega.{arith}
 use mathlib.Core.Path.{_≡_, refl, sym, ap, ap₂, _∙_}
 use mathlib.Core.Bool.{Bool, true, false, false≢true}
 use lib.Dec.{eqb, eqb·suc-zero}
-use lib.Pow.{shr-shr, pow-mono}
+use lib.Pow.{shr-shr}
 use lib.Count.{ones, onesIn, ones-step}
 use borrow.Author.Tests.{eq-eqb, ne-eqb}
 use Rattle.bits.specs.Sets.{has, one, setOf, count}
@@ -54,14 +54,14 @@ low-bit s = one-has 0 s ∙ ap (λ (n : ℕ). n % 2) whole
     whole : s / 1 ≡ s
     whole = omega arith
 
+-- a number below 2 ^ i has no bit i
+pub has-beyond : (i s : ℕ) → s < 2 ^ i → has i s ≡ false
+unfolding has
+has-beyond i s h = ap (λ (n : ℕ). eqb (n % 2) 1) (div-eq-of-lt h)
+
 -- a number is its lowest bit and the rest
 pub parts : (s : ℕ) → s / 2 * 2 + one (has 0 s) ≡ s
 parts s = rw low-bit (omega arith)
-
--- a number below 2 ^ w has no bit at or above w
-pub has-above : (w i s : ℕ) → s < 2 ^ w → w ≤ i → has i s ≡ false
-unfolding has
-has-above w i s h l = ap (λ (n : ℕ). eqb (n % 2) 1) (div-eq-of-lt (lt-of-lt-of-le h (pow-mono l)))
 
 -- ---- the set of what passes
 

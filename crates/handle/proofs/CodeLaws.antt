@@ -2,7 +2,7 @@
 -- subselectors; the code looks at the four of them, and a list of four is the list of its elements.
 -- Assumes nothing.
 use Prim.Native.Nat.{ℕ, suc, _+_, _*_, _-_, _%_, _^_, _≤_, _<_}
-use native.Mathlib.Nat.{one-mul, zero-add, mod-eq-of-lt}
+use native.Mathlib.Nat.{one-mul, zero-add, mod-eq-of-lt, lt-of-lt-of-le}
 use native.Mathlib.Numerals.{add-one}
 use native.Mathlib.Omega.{arith}
 use mathlib.Core.Path.{_≡_, refl, sym, ap, _∙_}
@@ -12,13 +12,13 @@ use lib.Dec.{eqb}
 use lib.Bits.{bitAnd, and-le-l}
 use lib.Count.{ones}
 use lib.ListN.{length, getD, drop}
-use lib.Pow.{pow-lt}
+use lib.Pow.{pow-lt, pow-mono}
 use lib.Seq.{drop-cons}
 use mir.Val.{Fits}
 use mir.Syntax.{w8}
 use borrow.Author.Tests.{eq-eqb, ne-eqb}
 use Rattle.bits.specs.Sets.{has, full, setOf}
-use Rattle.bits.proofs.SetLaws.{setOf-lt, has-setOf, same-bits, ones-setOf, has-above}
+use Rattle.bits.proofs.SetLaws.{setOf-lt, has-setOf, same-bits, ones-setOf, has-beyond}
 use Rattle.bits.proofs.OperationLaws.{has-and, mask-test}
 use Rattle.loops.specs.Tabulate.{tabulate}
 use Rattle.handle.specs.declared.Handle.{Handle}
@@ -159,7 +159,7 @@ module _ (ss : List ℕ) (e : length ss ≡ subselectors) (h : Fits w8 (getD ss 
   unfolding tabulate
   references-none i l =
       ap (λ (b : Bool). b && (has i (getD ss 1 0) && (has i (getD ss 2 0) && (has i (getD ss 3 0) && true))))
-      (sym (has-above segments i (getD ss 0 0) (h .fits) l))
+      (sym (has-beyond i (getD ss 0 0) (lt-of-lt-of-le (h .fits) (pow-mono l))))
       ∙ ap (λ (l : List ℕ). references l i) (sym (listed subselectors ss e))
 
 pub code-references : (ss : List ℕ) (i x : ℕ) → i < segments → x ≡ common segments ss

@@ -104,7 +104,8 @@ module _ (w : ℕ) (f : List ℕ → ℕ → List ℕ) (h : Handle) (mask : ℕ)
                 done-with (renewed h p (set (h .selector) k v)) r er
                 (weakened-cases w f h mask (λ g. g ≡ renewed h p (set (h .selector) k v))
                 (λ e. absurd (false≢true (sym (takes t) ∙ e)))
-                (λ e j. renewed h ((ap (f (h .password)) (sym ev) ∙ sym ep) j) (set (h .selector) (sym ek j) (sym ev j))))
+                (λ e j.
+                renewed h ((ap (f (h .password)) (sym ev) ∙ sym ep) j) (set (h .selector) (sym ek j) (sym ev j))))
                 (row-spent true (any-flat w (h .selector) (omega arith)))
               where
                 ev : v ≡ parameter w mask (h .selector)

@@ -1,0 +1,4 @@
+pub mod FieldLaws
+pub mod StateLaws
+pub mod KeyExpansionLaws
+pub mod CipherLaws

@@ -1,0 +1,36 @@
+-- FIPS 197, section 4: a byte is a polynomial over the field of two elements, bit i the coefficient of x^i. Polynomials
+-- are added by `bitXor` (4.1). The width w and the modulus m, a polynomial of degree w, are left open; AES has 8 and 11b.
+--     product n a b        a times b, a polynomial of degree below n: the sum of a x^i over the powers x^i of b
+--     remainder w m n p    p, of degree below w + n, modulo m: the multiple of m with p's highest term is taken away
+--     times w m a b        4.2: the product modulo m
+--     dot a b              4.2: multiplication of bytes, modulo x^8 + x^4 + x^3 + x + 1
+--     squares n b          the product of b, b^2, b^4, b^8 .., n factors
+--     inverse b            4.4: b^254, the product of b^2, b^4 .. b^128; it takes zero to zero
+-- Assumes nothing.
+use Prim.Native.Nat.{ℕ, zero, suc, _+_, _*_, _^_}
+use lib.Bits.{bitXor}
+use Rattle.bits.specs.Sets.{has, one}
+
+unfoldable pub product : ℕ → ℕ → ℕ → ℕ
+product zero a b = 0
+product (suc n) a b = bitXor (a * (one (has n b) * 2 ^ n)) (product n a b)
+
+unfoldable pub remainder : ℕ → ℕ → ℕ → ℕ → ℕ
+remainder w m zero p = p
+remainder w m (suc n) p = remainder w m n (bitXor (m * (one (has (w + n) p) * 2 ^ n)) p)
+
+unfoldable pub times : ℕ → ℕ → ℕ → ℕ → ℕ
+times w m a b = remainder w m w (product w a b)
+
+abbrev pub modulus : ℕ
+modulus = 0x11b
+
+unfoldable pub dot : ℕ → ℕ → ℕ
+dot a b = times 8 modulus a b
+
+unfoldable pub squares : ℕ → ℕ → ℕ
+squares zero b = 1
+squares (suc n) b = dot b (squares n (dot b b))
+
+unfoldable pub inverse : ℕ → ℕ
+inverse b = squares 7 (dot b b)

@@ -1,0 +1,172 @@
+// AES-128 of FIPS 197, one byte at a time. The substitution table is lent to the rounds: a constant is laid out anew
+// wherever it is named, so whoever encrypts several blocks takes `tables()` once.
+ghost use mathlib.Core.Path.{_≡_};
+ghost use Prim.Native.Nat.{_*_, _≤_, min};
+ghost use lib.Bits.{bitXor};
+ghost use Rattle.aes.specs.Field.{dot};
+ghost use Rattle.aes.specs.Transformations.{sbox, subBytes, shiftRows, mixColumns, addRoundKey};
+ghost use Rattle.aes.specs.KeyExpansion.{roundConstant, expand, roundKey};
+ghost use Rattle.aes.specs.Cipher.{cipher};
+ghost use Rattle.aes.specs.Tables.{IsTables};
+
+mod table;
+
+pub use table::Tables;
+pub use table::tables;
+
+// A byte doubled in the field: a shift, and where a bit falls out, the rest of the modulus added.
+fn doubled(b: u8) -> u8
+    ensures { λ r. ⌜ r ≡ dot 2 b ⌝ }
+{
+    (b << 1) ^ ((b >> 7) * 0x1b)
+}
+
+// The round constant of a round, 1 to 10: 01 doubled once for each round before it.
+fn round_constant(round: usize) -> u8
+    requires { ⌜ (1 ≤ round) × (round ≤ 10) ⌝ }
+    ensures { λ r. ⌜ r ≡ roundConstant round ⌝ }
+{
+    let mut c: u8 = 0x01;
+    let mut i: usize = 1;
+    while i < round {
+        c = doubled(c);
+        i += 1;
+    }
+    c
+}
+
+// The substitution of one byte.
+fn substitute(tables: &Tables, b: u8) -> u8
+    requires { ⌜ IsTables (now tables) ⌝ }
+    ensures { λ r. ⌜ r ≡ sbox b ⌝ }
+{
+    let x = b as usize;
+    tables[x]
+}
+
+fn sub_bytes(tables: &Tables, s: [u8; 16]) -> [u8; 16]
+    requires { ⌜ IsTables (now tables) ⌝ }
+    ensures { λ r. ⌜ r ≡ subBytes s ⌝ }
+{
+    let mut r = [0u8; 16];
+    for i in 0..16usize {
+        r[i] = substitute(tables, s[i]);
+    }
+    r
+}
+
+fn shift_rows(s: [u8; 16]) -> [u8; 16]
+    ensures { λ r. ⌜ r ≡ shiftRows s ⌝ }
+{
+    [
+        s[0],
+        s[5],
+        s[10],
+        s[15],
+        s[4],
+        s[9],
+        s[14],
+        s[3],
+        s[8],
+        s[13],
+        s[2],
+        s[7],
+        s[12],
+        s[1],
+        s[6],
+        s[11],
+    ]
+}
+
+// One byte of a mixed column: 02 times a, 03 times b, and the other two.
+fn mix(a: u8, b: u8, c: u8, d: u8) -> u8
+    ensures { λ r. ⌜ r ≡ bitXor (bitXor (dot 2 a) (dot 3 b)) (bitXor c d) ⌝ }
+{
+    (doubled(a) ^ (doubled(b) ^ b)) ^ (c ^ d)
+}
+
+fn mix_columns(s: [u8; 16]) -> [u8; 16]
+    ensures { λ r. ⌜ r ≡ mixColumns s ⌝ }
+{
+    let mut r = [0u8; 16];
+    for i in 0..16usize {
+        let top = i / 4 * 4;
+        let row = i % 4;
+        r[i] = mix(
+            s[i],
+            s[top + (row + 1) % 4],
+            s[top + (row + 2) % 4],
+            s[top + (row + 3) % 4],
+        );
+    }
+    r
+}
+
+fn add_round_key(s: [u8; 16], k: [u8; 16]) -> [u8; 16]
+    ensures { λ r. ⌜ r ≡ addRoundKey s k ⌝ }
+{
+    let mut r = [0u8; 16];
+    for i in 0..16usize {
+        r[i] = s[i] ^ k[i];
+    }
+    r
+}
+
+// The round key of a round, 1 to 10, from the round key before it.
+fn next_round_key(tables: &Tables, k: [u8; 16], round: usize) -> [u8; 16]
+    requires { ⌜ IsTables (now tables) × ((1 ≤ round) × (round ≤ 10)) ⌝ }
+    ensures { λ r. ⌜ r ≡ expand 4 (4 * round) k ⌝ }
+{
+    let mut r = [0u8; 16];
+    r[0] = k[0] ^ (substitute(tables, k[13]) ^ round_constant(round));
+    r[1] = k[1] ^ substitute(tables, k[14]);
+    r[2] = k[2] ^ substitute(tables, k[15]);
+    r[3] = k[3] ^ substitute(tables, k[12]);
+    for i in 4..16usize {
+        r[i] = k[i] ^ r[i - 4];
+    }
+    r
+}
+
+// The round key of a round, 0 to 10; for a number above 10, that of round 10.
+pub fn round_key(key: [u8; 16], round: usize) -> [u8; 16]
+    ensures { λ r. ⌜ r ≡ roundKey key (min round 10) ⌝ }
+{
+    let t = tables();
+    let mut k = key;
+    for i in 0..10usize {
+        if round <= i {
+            return k;
+        }
+        let next = next_round_key(&t, k, i + 1);
+        k = next;
+    }
+    k
+}
+
+// A block encrypted under a key, over tables that the caller took.
+pub fn encrypt_with(tables: &Tables, key: [u8; 16], block: [u8; 16]) -> [u8; 16]
+    requires { ⌜ IsTables (now tables) ⌝ }
+    ensures { λ r. ⌜ r ≡ cipher key block ⌝ }
+{
+    let mut k = key;
+    let mut s = add_round_key(block, k);
+    for i in 0..9usize {
+        let next = next_round_key(tables, k, i + 1);
+        let t = add_round_key(mix_columns(shift_rows(sub_bytes(tables, s))), next);
+        k = next;
+        s = t;
+    }
+    add_round_key(
+        shift_rows(sub_bytes(tables, s)),
+        next_round_key(tables, k, 10),
+    )
+}
+
+// A block encrypted under a key.
+pub fn encrypt(key: [u8; 16], block: [u8; 16]) -> [u8; 16]
+    ensures { λ r. ⌜ r ≡ cipher key block ⌝ }
+{
+    let t = tables();
+    encrypt_with(&t, key, block)
+}
