@@ -1,11 +1,12 @@
 -- A handle's bytes: each reads back as the other. A list of known length is the list of its elements, so that taking
--- parts of it, and bytes written out one by one, compute; the node alone is arithmetic.
+-- parts of it, and bytes written out one by one, compute; the node alone is arithmetic. What is read from bytes,
+-- weakened or reduced can be written, so it reads back.
 -- Assumes nothing.
 use Prim.Native.Nat.{ℕ, zero, suc, _+_, _*_, _/_, _%_, _^_, _<_}
 use native.Mathlib.Omega.{arith}
 use mathlib.Core.Path.{_≡_, refl, sym, ap, _∙_, subst}
 use mathlib.Core.List.{List, [], _∷_, _++_}
-use lib.ListN.{length, getD, take, drop, replicate}
+use lib.ListN.{length, getD, take, drop, replicate, length-set}
 use mir.Val.{Fits}
 use mir.Syntax.{w8, w16}
 use Rattle.bits.specs.Bytes.{bytes, wordFrom, word}
@@ -15,8 +16,10 @@ use Rattle.loops.proofs.TabulateLaws.{tabulate-is}
 use Rattle.handle.specs.declared.Handle.{Handle}
 use Rattle.handle.specs.Sizes.{segments, subselectors, passwordBytes}
 use Rattle.handle.specs.Sizes.{nodeBytes, localAt, passwordAt, selectorAt, handleBytes}
-use Rattle.handle.specs.Handles.{encoded, decoded, noHandle, Holdable, Bytes}
+use Rattle.handle.specs.Selectors.{firstFlat, common, parameter}
+use Rattle.handle.specs.Handles.{encoded, decoded, noHandle, Holdable, Bytes, weakened, reduced}
 use Rattle.handle.specs.Opens.{Whole}
+use Rattle.handle.proofs.HandleLaws.{weakened-cases, reduced-cases}
 
 -- the first n elements of a list, one by one; they are the whole of a list of n
 abbrev pub elements : ℕ → List ℕ → List ℕ
@@ -118,4 +121,24 @@ module _ (b : List ℕ) (o : Bytes handleBytes b) where
   whole-decoded = by-elements (Whole segments) (record {
     four = refl;
     within = (o .below 19, (o .below 20, (o .below 21, (o .below 22, tt))));
+  })
+
+-- ---- what weakening and reduction give, by a conversion that gives sixteen bytes
+
+module _ (w : ℕ) (f : List ℕ → ℕ → List ℕ) (sixteen : (q : List ℕ) (c : ℕ) → length (f q c) ≡ passwordBytes)
+    (h : Handle) (o : Holdable h) where
+  pub holdable-weakened : (mask : ℕ) → Holdable (weakened w f h mask)
+  holdable-weakened mask = weakened-cases w f h mask Holdable (λ e. o) (λ e. record {
+    node = o .node;
+    local = o .local;
+    password = sixteen (h .password) (parameter w mask (h .selector));
+    selector = length-set (h .selector) (firstFlat w (h .selector)) (parameter w mask (h .selector)) ∙ o .selector;
+  })
+
+  pub holdable-reduced : (p : List ℕ) → Holdable (reduced w f h p)
+  holdable-reduced p = reduced-cases w f h p Holdable (λ e. o) (λ e. record {
+    node = o .node;
+    local = o .local;
+    password = sixteen p (common w (h .selector));
+    selector = refl;
   })

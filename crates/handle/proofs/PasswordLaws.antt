@@ -67,7 +67,7 @@ equal-same a b e =
     every-all passwordBytes (agree a b) (λ k h. eq-eqb (getD a k 0) (getD b k 0) (ap (λ (l : List ℕ). getD l k 0) e))
 
 -- the password that a conversion gives has sixteen bytes
-length-conversion : (p : List ℕ) (c : ℕ) → length (conversion p c) ≡ passwordBytes
+pub length-conversion : (p : List ℕ) (c : ℕ) → length (conversion p c) ≡ passwordBytes
 unfolding conversion
 length-conversion p c = length-cipher p _
 

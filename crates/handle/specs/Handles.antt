@@ -11,6 +11,7 @@
 --     renewed h p ss     the name of h, with the password p and the selector ss
 -- Weakening's numbers and replies:
 --     Row, firstOf       a number of the table and whether it applies; the first that applies, or 0
+--     pick b m n         m where b is true, else n
 --     placeNumber, gappedNumber, spentNumber    the table's numbers for no such place, gapped and spent
 --     noSuchPlace h      node above 3 or local number above 7
 --     refusal n          the reply to a call refused with n: 23 zero bytes and a zero count

@@ -4,8 +4,6 @@ use Rattle.handle.specs.Conversion.{conversion}
 use borrow.Author.Needs.{needs}
 use Rattle.handle.proofs.convert_with.Statement.{statement}
 use Rattle.handle.proofs.convert_with.Tie as tie
-use Rattle.handle.proofs.convert_with.Reads as reads
-use Rattle.aes.proofs.encrypt_with.Reads as encrypt-with-reads
 
 returns : tie.Need-returns
 unfolding conversion

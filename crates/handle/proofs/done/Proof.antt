@@ -5,8 +5,6 @@ use Rattle.handle.specs.Handles.{reply}
 use borrow.Author.Needs.{needs}
 use Rattle.handle.proofs.done.Statement.{statement}
 use Rattle.handle.proofs.done.Tie as tie
-use Rattle.handle.proofs.done.Reads as reads
-use Rattle.handle.proofs.Handle.count.Reads as count-reads
 
 returns : tie.Need-returns
 returns c = ap (reply 0 (c .before .args .handle)) (c .count .ensures)

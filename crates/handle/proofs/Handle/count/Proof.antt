@@ -7,8 +7,6 @@ use Rattle.handle.proofs.CodeLaws.{code-count}
 use borrow.Author.Needs.{needs}
 use Rattle.handle.proofs.Handle.count.Statement.{statement}
 use Rattle.handle.proofs.Handle.count.Tie as tie
-use Rattle.handle.proofs.Handle.count.Reads as reads
-use Rattle.handle.proofs.Handle.common.Reads as common-reads
 
 cast-result : tie.Need-cast-result
 cast-result c = record { fits = omega (arith, ones-le segments (c .common .result) (search needs)) }

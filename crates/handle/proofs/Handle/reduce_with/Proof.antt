@@ -5,10 +5,6 @@ use Rattle.handle.proofs.CodeLaws.{reduce-unchanged, reduce-changed}
 use borrow.Author.Needs.{needs}
 use Rattle.handle.proofs.Handle.reduce_with.Statement.{statement}
 use Rattle.handle.proofs.Handle.reduce_with.Tie as tie
-use Rattle.handle.proofs.Handle.reduce_with.Reads as reads
-use Rattle.handle.proofs.Handle.common.Reads as common-reads
-use Rattle.handle.proofs.Handle.primary.Reads as primary-reads
-use Rattle.handle.proofs.convert_with.Reads as convert-with-reads
 
 returns : tie.Need-returns
 returns c = search (needs, reduce-unchanged segments)

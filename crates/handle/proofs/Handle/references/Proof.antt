@@ -4,8 +4,6 @@ use Rattle.handle.proofs.CodeLaws.{references-none, code-references}
 use borrow.Author.Needs.{needs}
 use Rattle.handle.proofs.Handle.references.Statement.{statement}
 use Rattle.handle.proofs.Handle.references.Tie as tie
-use Rattle.handle.proofs.Handle.references.Reads as reads
-use Rattle.handle.proofs.Handle.common.Reads as common-reads
 
 returns : tie.Need-returns
 returns c = search (needs, references-none)

@@ -6,13 +6,6 @@ use Rattle.handle.proofs.WeakenLaws.{weaken-unchanged, weaken-changed}
 use borrow.Author.Needs.{needs}
 use Rattle.handle.proofs.Handle.weaken_with.Statement.{statement}
 use Rattle.handle.proofs.Handle.weaken_with.Tie as tie
-use Rattle.handle.proofs.Handle.weaken_with.Reads as reads
-use Rattle.handle.proofs.Handle.common.Reads as common-reads
-use Rattle.handle.proofs.Handle.first_flat.Reads as first-flat-reads
-use Rattle.handle.proofs.Handle.gapped.Reads as gapped-reads
-use Rattle.handle.proofs.convert_with.Reads as convert-with-reads
-use Rattle.handle.proofs.done.Reads as done-reads
-use Rattle.handle.proofs.refused.Reads as refused-reads
 
 returns : tie.Need-returns
 returns c = search (needs, refused-node segments)
