@@ -4,3 +4,9 @@
 test:
 	rt fmt --check
 	rt ci
+
+# make bench   the measurements of docs/PERFORMANCE.md
+.PHONY: bench
+bench:
+	rt staticlib measured
+	cargo run --quiet --release --manifest-path bench/Cargo.toml

@@ -38,7 +38,9 @@ module _ (key s₀ k s : List ℕ) (i : ℕ) (w : Rounds key s₀ k s i) where
         at-key = next-key k′ ek;
         at-state =
             ed
-            ∙ ap₂ addRoundKey (ec ∙ ap mixColumns (eb ∙ ap shiftRows (ea ∙ ap subBytes (w .at-state)))) (next-key k′ ek);
+            ∙ ap₂ addRoundKey
+            (ec ∙ ap mixColumns (eb ∙ ap shiftRows (ea ∙ ap subBytes (w .at-state))))
+            (next-key k′ ek);
       })
 
   pub rounds-all : 9 ≤ i → (block k′ a b d : List ℕ) → s₀ ≡ addRoundKey block key → a ≡ subBytes s → b ≡ shiftRows a
@@ -49,7 +51,8 @@ module _ (key s₀ k s : List ℕ) (i : ℕ) (w : Rounds key s₀ k s i) where
       ed
       ∙ ap₂ addRoundKey
       (eb ∙ ap shiftRows (ea ∙ ap subBytes (w .at-state ∙ ap₂ (rounds key) es nine)))
-      (next-key k′ (ek ∙ ap (λ (n : ℕ). expand 4 (4 * (n + 1)) k) (sym nine)) ∙ ap (λ (n : ℕ). roundKey key (suc n)) nine)
+      (next-key k′ (ek ∙ ap (λ (n : ℕ). expand 4 (4 * (n + 1)) k) (sym nine))
+      ∙ ap (λ (n : ℕ). roundKey key (suc n)) nine)
 
 length-added : (s k : List ℕ) → length (addRoundKey s k) ≡ 16
 unfolding addRoundKey

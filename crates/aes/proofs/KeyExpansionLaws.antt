@@ -1,5 +1,6 @@
 -- Four words on from a round key, as the code makes them: the first takes the last word of the key before it, turned,
--- substituted and with the round's constant, each other the word just made. Sixteen bytes written out, both sides compute.
+-- substituted and with the round's constant, each other the word just made. With the sixteen bytes written out both
+-- sides compute to the same list.
 -- Assumes nothing.
 use mathlib.Core.Path.{_≡_, refl, sym, ap, ap₂, _∙_}
 use mathlib.Core.Bool.{Bool}
@@ -15,14 +16,15 @@ use lib.ListN.{length, getD, take, drop, replicate}
 use Rattle.loops.specs.Tabulate.{tabulate}
 use Rattle.loops.proofs.TabulateLaws.{tabulate-is, Filled}
 use Rattle.aes.specs.Transformations.{cell, state, sbox}
-use Rattle.aes.specs.KeyExpansion.{roundConstant, rcon, rotWord, subWord, addWords, pick, temp, newWord, slide, expand, roundKey}
+use Rattle.aes.specs.KeyExpansion.{roundConstant, rcon, rotWord, subWord, addWords, pick, newWord}
+use Rattle.aes.specs.KeyExpansion.{slide, expand, roundKey}
 use Rattle.aes.proofs.StateLaws.{cells}
 
 -- what is added to the first word of round r's key, k being the key before it
 abbrev turned : ℕ → List ℕ → List ℕ
 turned r k = addWords (subWord (rotWord (drop 12 k))) (rcon r)
 
--- the same, byte by byte
+-- its bytes
 abbrev bytes : ℕ → List ℕ → List ℕ
 bytes r k =
     bitXor (sbox (getD k 13 0)) (roundConstant r) ∷ bitXor (sbox (getD k 14 0)) 0 ∷ bitXor (sbox (getD k 15 0)) 0
@@ -96,17 +98,22 @@ key-next key n =
 
 -- ---- the loop that makes a round key
 
+-- four bytes of a key with four others added, and zeros
+abbrev started : List ℕ → ℕ → ℕ → ℕ → ℕ → List ℕ
+started k a b c d =
+    bitXor (getD k 0 0) a ∷ bitXor (getD k 1 0) b ∷ bitXor (getD k 2 0) c ∷ bitXor (getD k 3 0) d ∷ replicate 12 0
+
 -- the first word, from the substitutions of the last word's bytes and the round's constant
 pub first-word : (r : ℕ) (k : List ℕ) (rc a b c d : ℕ) → rc ≡ roundConstant r
     → a ≡ sbox (getD k 13 0) → b ≡ sbox (getD k 14 0) → c ≡ sbox (getD k 15 0) → d ≡ sbox (getD k 12 0)
-    → Filled 16 (cells (nextByte r k)) 0 4 (bitXor (getD k 0 0) (bitXor a rc) ∷ bitXor (getD k 1 0) b ∷ bitXor (getD k 2 0) c ∷ bitXor (getD k 3 0) d ∷ replicate 12 0)
+    → Filled 16 (cells (nextByte r k)) 0 4 (started k (bitXor a rc) b c d)
 unfolding nextByte
 first-word r k rc a b c d er ea eb ec ed = record { low = omega arith; size = refl; at = at }
   where
     plain : (i s x : ℕ) → x ≡ s → bitXor (getD k i 0) x ≡ bitXor (getD k i 0) (bitXor s 0)
     plain i s x e = ap (bitXor (getD k i 0)) (e ∙ sym (xor-zero-r s))
 
-    at : (i : ℕ) → i < 4 → getD (bitXor (getD k 0 0) (bitXor a rc) ∷ bitXor (getD k 1 0) b ∷ bitXor (getD k 2 0) c ∷ bitXor (getD k 3 0) d ∷ replicate 12 0) i 0 ≡ cells (nextByte r k) i
+    at : (i : ℕ) → i < 4 → getD (started k (bitXor a rc) b c d) i 0 ≡ cells (nextByte r k) i
     at zero h = ap (bitXor (getD k 0 0)) (ap₂ bitXor ea er)
     at (suc zero) h = plain 1 (sbox (getD k 14 0)) b eb
     at (suc (suc zero)) h = plain 2 (sbox (getD k 15 0)) c ec

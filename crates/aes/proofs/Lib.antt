@@ -1,4 +1,5 @@
 pub mod FieldLaws
+pub mod TablesLaws
 pub mod StateLaws
 pub mod KeyExpansionLaws
 pub mod CipherLaws

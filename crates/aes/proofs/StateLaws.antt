@@ -9,7 +9,7 @@ use lib.Bits.{bitXor, xor-comm}
 use lib.ListN.{getD}
 use Rattle.bits.proofs.OperationLaws.{xor-assoc}
 use Rattle.aes.specs.Field.{dot}
-use Rattle.aes.specs.Transformations.{cell, matrix}
+use Rattle.aes.specs.Transformations.{cell, mixed}
 use Rattle.aes.proofs.FieldLaws.{dot-one}
 
 -- what a rule for rows and columns is at i
@@ -19,9 +19,7 @@ cells f i = f (i % 4) (i / 4)
 pub cell-at : (s : List ℕ) (i : ℕ) → getD s i 0 ≡ cell s (i % 4) (i / 4)
 cell-at s i = ap (λ (j : ℕ). getD s j 0) (omega arith)
 
--- k rows further down in the column of the byte at i
-pub cell-down : (s : List ℕ) (i k : ℕ) → getD s (i / 4 * 4 + (i % 4 + k) % 4) 0 ≡ cell s ((i % 4 + k) % 4) (i / 4)
-cell-down s i k = ap (λ (j : ℕ). getD s j 0) (omega arith)
+-- ---- one mixed column
 
 -- a sum of four, and the last of them taken first
 abbrev sum : ℕ → ℕ → ℕ → ℕ → ℕ
@@ -31,29 +29,33 @@ turn : (a b c d : ℕ) → sum a b c d ≡ sum d a b c
 turn a b c d =
     ap (bitXor a) (sym (xor-assoc b c d)) ∙ sym (xor-assoc a (bitXor b c) d) ∙ xor-comm (bitXor a (bitXor b c)) d
 
--- a column's sum in the order of the matrix
-abbrev pub mixed : (ℕ → ℕ) → ℕ → ℕ
-mixed a r = sum (dot (matrix r 0) (a 0)) (dot (matrix r 1) (a 1)) (dot (matrix r 2) (a 2)) (dot (matrix r 3) (a 3))
+-- the code's sum, which takes the byte of its own row first
+abbrev mix : ℕ → ℕ → ℕ → ℕ → ℕ
+mix a b c d = bitXor (bitXor (dot 2 a) (dot 3 b)) (bitXor c d)
 
-module _ (a : ℕ → ℕ) (h : (k : ℕ) → a k < 256) where
-  once : (k : ℕ) → a k ≡ dot 1 (a k)
-  once k = sym (dot-one (a k) (h k))
+once : (a : ℕ) → a < 256 → a ≡ dot 1 a
+once a h = sym (dot-one a h)
 
-  -- with the byte's own row first, as the code adds them up
-  abbrev down : ℕ → ℕ
-  down r = bitXor (bitXor (dot 2 (a r)) (dot 3 (a ((r + 1) % 4)))) (bitXor (a ((r + 2) % 4)) (a ((r + 3) % 4)))
+pub mix-column-is : (a b c d : ℕ) → a < 256 → b < 256 → c < 256 → d < 256 → (x y z u : ℕ)
+    → x ≡ mix a b c d → y ≡ mix b c d a → z ≡ mix c d a b → u ≡ mix d a b c
+    → x ∷ y ∷ z ∷ u ∷ [] ≡ mixed 0 a b c d ∷ mixed 1 a b c d ∷ mixed 2 a b c d ∷ mixed 3 a b c d ∷ []
+mix-column-is a b c d ha hb hc hd x y z u ex ey ez eu =
+    λ j. (ex ∙ row-0) j ∷ (ey ∙ row-1) j ∷ (ez ∙ row-2) j ∷ (eu ∙ row-3) j ∷ []
+  where
+    row-0 : mix a b c d ≡ mixed 0 a b c d
+    row-0 = xor-assoc (dot 2 a) (dot 3 b) (bitXor c d) ∙ (λ j. sum (dot 2 a) (dot 3 b) (once c hc j) (once d hd j))
 
-  pub mixed-row : (r : ℕ) → r < 4 → down r ≡ mixed a r
-  mixed-row zero l =
-      xor-assoc (dot 2 (a 0)) (dot 3 (a 1)) (bitXor (a 2) (a 3)) ∙ (λ j. sum (dot 2 (a 0)) (dot 3 (a 1)) (once 2 j) (once 3 j))
-  mixed-row (suc zero) l =
-      xor-assoc (dot 2 (a 1)) (dot 3 (a 2)) (bitXor (a 3) (a 0)) ∙ turn (dot 2 (a 1)) (dot 3 (a 2)) (a 3) (a 0)
-      ∙ (λ j. sum (once 0 j) (dot 2 (a 1)) (dot 3 (a 2)) (once 3 j))
-  mixed-row (suc (suc zero)) l =
-      xor-comm (bitXor (dot 2 (a 2)) (dot 3 (a 3))) (bitXor (a 0) (a 1))
-      ∙ xor-assoc (a 0) (a 1) (bitXor (dot 2 (a 2)) (dot 3 (a 3)))
-      ∙ (λ j. sum (once 0 j) (once 1 j) (dot 2 (a 2)) (dot 3 (a 3)))
-  mixed-row (suc (suc (suc zero))) l =
-      xor-assoc (dot 2 (a 3)) (dot 3 (a 0)) (bitXor (a 1) (a 2)) ∙ sym (turn (dot 3 (a 0)) (a 1) (a 2) (dot 2 (a 3)))
-      ∙ (λ j. sum (dot 3 (a 0)) (once 1 j) (once 2 j) (dot 2 (a 3)))
-  mixed-row (suc (suc (suc (suc r)))) l = absurd (omega arith)
+    row-1 : mix b c d a ≡ mixed 1 a b c d
+    row-1 =
+        xor-assoc (dot 2 b) (dot 3 c) (bitXor d a) ∙ turn (dot 2 b) (dot 3 c) d a
+        ∙ (λ j. sum (once a ha j) (dot 2 b) (dot 3 c) (once d hd j))
+
+    row-2 : mix c d a b ≡ mixed 2 a b c d
+    row-2 =
+        xor-comm (bitXor (dot 2 c) (dot 3 d)) (bitXor a b) ∙ xor-assoc a b (bitXor (dot 2 c) (dot 3 d))
+        ∙ (λ j. sum (once a ha j) (once b hb j) (dot 2 c) (dot 3 d))
+
+    row-3 : mix d a b c ≡ mixed 3 a b c d
+    row-3 =
+        xor-assoc (dot 2 d) (dot 3 a) (bitXor b c) ∙ sym (turn (dot 3 a) b c (dot 2 d))
+        ∙ (λ j. sum (dot 3 a) (once b hb j) (once c hc j) (dot 2 d))

@@ -1,5 +1,6 @@
--- FIPS 197, section 4: a byte is a polynomial over the field of two elements, bit i the coefficient of x^i. Polynomials
--- are added by `bitXor` (4.1). The width w and the modulus m, a polynomial of degree w, are left open; AES has 8 and 11b.
+-- FIPS 197, section 4: a byte is a polynomial over the field of two elements, bit i the coefficient of x^i.
+-- Polynomials are added by `bitXor` (4.1). The width w and the modulus m, a polynomial of degree w, are left open where
+-- they can be; AES has 8 and 11b.
 --     product n a b        a times b, a polynomial of degree below n: the sum of a x^i over the powers x^i of b
 --     remainder w m n p    p, of degree below w + n, modulo m: the multiple of m with p's highest term is taken away
 --     times w m a b        4.2: the product modulo m

@@ -1,5 +1,5 @@
--- FIPS 197, section 5.2, for AES-128: the words w[0], w[1] .. of four bytes each. A word is made of the four words before
--- it, so these four, sixteen bytes, are what is carried from word to word.
+-- FIPS 197, section 5.2, for AES-128: the words w[0], w[1] .. of four bytes each. A word is made of the four words
+-- before it, so these four, sixteen bytes, are what is carried from word to word.
 --     roundConstant j    Rcon[j]'s first byte, x^(j - 1): 01 doubled j - 1 times
 --     rotWord, subWord   the word turned left by one byte; every byte of it substituted
 --     temp i w           what is added to w[i - 4], where w is w[i - 1]

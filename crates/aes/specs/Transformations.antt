@@ -6,6 +6,7 @@
 --     subBytes s       5.1.1: every byte goes through the substitution
 --     shiftRows s      5.1.2: row r is turned left by r bytes
 --     matrix r k       5.1.3: the fixed matrix
+--     mixed r a b c d  5.1.3: row r of the matrix times the column a, b, c, d
 --     mixColumns s     5.1.3: every column is multiplied by the matrix
 --     addRoundKey s k  5.1.4: the round key k is added to the state, byte by byte
 -- Assumes nothing.
@@ -52,12 +53,12 @@ matrix r k =
     r [])
     k 0
 
+abbrev pub mixed : ℕ → ℕ → ℕ → ℕ → ℕ → ℕ
+mixed r a b c d =
+    bitXor (dot (matrix r 0) a) (bitXor (dot (matrix r 1) b) (bitXor (dot (matrix r 2) c) (dot (matrix r 3) d)))
+
 unfoldable pub mixColumns : List ℕ → List ℕ
-mixColumns s =
-    state (λ r c.
-    bitXor (dot (matrix r 0) (cell s 0 c))
-    (bitXor (dot (matrix r 1) (cell s 1 c))
-    (bitXor (dot (matrix r 2) (cell s 2 c)) (dot (matrix r 3) (cell s 3 c)))))
+mixColumns s = state (λ r c. mixed r (cell s 0 c) (cell s 1 c) (cell s 2 c) (cell s 3 c))
 
 unfoldable pub addRoundKey : List ℕ → List ℕ → List ℕ
 addRoundKey s k = state (λ r c. bitXor (cell s r c) (cell k r c))

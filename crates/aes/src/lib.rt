@@ -1,10 +1,11 @@
 // AES-128 of FIPS 197, one byte at a time. The substitution table is lent to the rounds: a constant is laid out anew
 // wherever it is named, so whoever encrypts several blocks takes `tables()` once.
 ghost use mathlib.Core.Path.{_≡_};
+ghost use mathlib.Core.List.{[], _∷_};
 ghost use Prim.Native.Nat.{_*_, _≤_, min};
 ghost use lib.Bits.{bitXor};
 ghost use Rattle.aes.specs.Field.{dot};
-ghost use Rattle.aes.specs.Transformations.{sbox, subBytes, shiftRows, mixColumns, addRoundKey};
+ghost use Rattle.aes.specs.Transformations.{sbox, subBytes, shiftRows, mixed, mixColumns, addRoundKey};
 ghost use Rattle.aes.specs.KeyExpansion.{roundConstant, expand, roundKey};
 ghost use Rattle.aes.specs.Cipher.{cipher};
 ghost use Rattle.aes.specs.Tables.{IsTables};
@@ -85,21 +86,43 @@ fn mix(a: u8, b: u8, c: u8, d: u8) -> u8
     (doubled(a) ^ (doubled(b) ^ b)) ^ (c ^ d)
 }
 
+// A column mixed: each byte from its own row down.
+fn mix_column(a: u8, b: u8, c: u8, d: u8) -> [u8; 4]
+    ensures { λ r. ⌜ r ≡ mixed 0 a b c d ∷ mixed 1 a b c d ∷ mixed 2 a b c d ∷ mixed 3 a b c d ∷ [] ⌝ }
+{
+    [
+        mix(a, b, c, d),
+        mix(b, c, d, a),
+        mix(c, d, a, b),
+        mix(d, a, b, c),
+    ]
+}
+
 fn mix_columns(s: [u8; 16]) -> [u8; 16]
     ensures { λ r. ⌜ r ≡ mixColumns s ⌝ }
 {
-    let mut r = [0u8; 16];
-    for i in 0..16usize {
-        let top = i / 4 * 4;
-        let row = i % 4;
-        r[i] = mix(
-            s[i],
-            s[top + (row + 1) % 4],
-            s[top + (row + 2) % 4],
-            s[top + (row + 3) % 4],
-        );
-    }
-    r
+    let a = mix_column(s[0], s[1], s[2], s[3]);
+    let b = mix_column(s[4], s[5], s[6], s[7]);
+    let c = mix_column(s[8], s[9], s[10], s[11]);
+    let d = mix_column(s[12], s[13], s[14], s[15]);
+    [
+        a[0],
+        a[1],
+        a[2],
+        a[3],
+        b[0],
+        b[1],
+        b[2],
+        b[3],
+        c[0],
+        c[1],
+        c[2],
+        c[3],
+        d[0],
+        d[1],
+        d[2],
+        d[3],
+    ]
 }
 
 fn add_round_key(s: [u8; 16], k: [u8; 16]) -> [u8; 16]

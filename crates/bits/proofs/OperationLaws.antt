@@ -2,17 +2,20 @@
 -- over the operation of two digits; equations between results then go bit by bit, by `same-bits`.
 -- Assumes nothing.
 use Prim.Native.Nat.{ℕ, zero, suc, _+_, _-_, _*_, _/_, _%_, _^_, _≤_, _<_, min, max}
-use native.Mathlib.Nat.{pow-suc, mod-lt, mod-eq-of-lt, lt-of-le-of-lt, lt-of-lt-of-le, sub-zero, min-zero, add-zero, mul-comm, div-lt-iff-lt-mul}
+use native.Mathlib.Nat.{pow-suc, mod-lt, mod-eq-of-lt, lt-of-le-of-lt, lt-of-lt-of-le, div-lt-iff-lt-mul}
+use native.Mathlib.Nat.{sub-zero, min-zero, add-zero, mul-comm}
 use native.Mathlib.Numerals.{one-add}
 use native.Mathlib.Omega.{arith}
 use mathlib.Core.Path.{_≡_, refl, sym, ap, ap₂, _∙_, subst}
 use mathlib.Core.Bool.{Bool, true, false, not, _&&_, _||_, xor}
 use lib.Dec.{eqb, eqb·suc-zero}
-use lib.Bits.{bitAnd, bitOr, bitXor, differ, and-step, or-step, xor-step, or-add-and, xor-add-and, and-le-l, and-le-r, xor-lt, xor-self, and-mask}
+use lib.Bits.{bitAnd, bitOr, bitXor, differ, and-step, or-step, xor-step, or-add-and, xor-add-and}
+use lib.Bits.{and-le-l, and-le-r, xor-lt, xor-self, and-mask}
 use lib.Pow.{pow-pos, pow-mono, split, shr-shr}
 use borrow.Author.Tests.{eq-eqb, ne-eqb, eqb-true, eqb-false}
 use Rattle.bits.specs.Sets.{has, full, one, setOf}
-use Rattle.bits.proofs.SetLaws.{has-zero, has-suc, has-low, has-high, low-bit, one-has, parts, setOf-lt, has-setOf, same-bits}
+use Rattle.bits.proofs.SetLaws.{has-zero, has-suc, has-low, has-high, low-bit, one-has, parts}
+use Rattle.bits.proofs.SetLaws.{setOf-lt, has-setOf, same-bits}
 
 -- ---- the operations, bit by bit
 
@@ -200,4 +203,5 @@ shl-split w s h = sym (split (s * 2) (suc w)) ∙ ap (λ (q : ℕ). q * 2 ^ suc 
     bit : one (has w s) ≡ s / 2 ^ w
     bit =
         one-has w s
-        ∙ mod-eq-of-lt (div-lt-iff-lt-mul (pow-pos w) .1 (subst (λ (n : ℕ). s < n) (pow-suc 2 w ∙ mul-comm (2 ^ w) 2) h))
+        ∙ mod-eq-of-lt
+        (div-lt-iff-lt-mul (pow-pos w) .1 (subst (λ (n : ℕ). s < n) (pow-suc 2 w ∙ mul-comm (2 ^ w) 2) h))

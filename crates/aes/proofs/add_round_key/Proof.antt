@@ -28,7 +28,8 @@ loop-again c =
     let l = c .before .loop in
     let s = c .before .before .args .t1 in
     let k = c .before .before .args .t2 in
-    filled-more 16 (byte s k) 0 (l .i) (l .r) (l .inv) (search needs) _ (ap₂ bitXor (cell-at s (l .i)) (cell-at k (l .i)))
+    filled-more 16 (byte s k) 0 (l .i) (l .r) (l .inv) (search needs) _
+    (ap₂ bitXor (cell-at s (l .i)) (cell-at k (l .i)))
 
 returns : tie.Need-returns Inv-loop μ-loop
 unfolding addRoundKey

@@ -26,7 +26,8 @@ loop-again : tie.Need-loop-again Inv-loop μ-loop
 loop-again c =
     let l = c .before .before .loop in
     let s = c .before .before .before .args .t2 in
-    filled-more 16 (byte s) 0 (l .i) (l .r) (l .inv) (search needs) _ (c .substitute .ensures ∙ ap sbox (cell-at s (l .i)))
+    filled-more 16 (byte s) 0 (l .i) (l .r) (l .inv) (search needs) _
+    (c .substitute .ensures ∙ ap sbox (cell-at s (l .i)))
 
 returns : tie.Need-returns Inv-loop μ-loop
 unfolding subBytes

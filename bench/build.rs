@@ -1,0 +1,8 @@
+//! Links the proved library that `rt staticlib measured` writes.
+
+fn main() {
+    let root = std::env::var("CARGO_MANIFEST_DIR").expect("cargo sets it");
+    println!("cargo:rustc-link-search=native={root}/../target/staticlib");
+    println!("cargo:rustc-link-lib=static=measured");
+    println!("cargo:rerun-if-changed={root}/../target/staticlib/libmeasured.a");
+}
