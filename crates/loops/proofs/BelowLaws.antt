@@ -1,10 +1,11 @@
 -- Laws of tests over the numbers below a bound. A computed test, `refl`, gives the rule at each number by `every-at`.
 -- Assumes nothing.
-use mathlib.Core.Path.{_≡_, refl, ap, _∙_}
+use mathlib.Core.Path.{_≡_, refl, ap, ap₂, _∙_}
 use mathlib.Core.Logic.{_⊎_, inl, inr}
 use mathlib.Core.Bool.{Bool, true, false, _&&_, false≢true}
 use Prim.Native.Nat.{ℕ, zero, suc, _<_}
 use native.Mathlib.Nat.{not-suc-le-zero, le-of-suc-le-suc, eq-or-lt-of-le}
+use native.Mathlib.Omega.{arith}
 use borrow.Author.Tests.{eqb-true}
 use lib.Dec.{eqb}
 use Rattle.loops.specs.Below.{every}
@@ -26,6 +27,11 @@ every-at (suc n) p e k h =
     go : (k ≡ n) ⊎ (k < n) → (k < n → p k ≡ true) → p k ≡ true
     go (inl q) rest = ap p q ∙ and-left (p n) (every n p) e
     go (inr l) rest = rest l
+
+pub every-all : (n : ℕ) (p : ℕ → Bool) → ((k : ℕ) → k < n → p k ≡ true) → every n p ≡ true
+unfolding every
+every-all zero p h = refl
+every-all (suc n) p h = ap₂ (λ (a b : Bool). a && b) (h n (omega arith)) (every-all n p (λ k l. h k (omega arith)))
 
 -- two rules that a test finds equal at each number below n
 pub every-equal : (n : ℕ) (f g : ℕ → ℕ) → every n (λ k. eqb (f k) (g k)) ≡ true → (k : ℕ) → k < n → f k ≡ g k

@@ -1,0 +1,24 @@
+-- The four steps, one after the other, are the chain along the row of subselectors.
+-- Assumes nothing.
+use Rattle.handle.specs.Sizes.{segments}
+use Rattle.handle.proofs.CodeLaws.{code-opened}
+use borrow.Author.Needs.{needs}
+use Rattle.handle.proofs.Handle.opened_with.Statement.{statement}
+use Rattle.handle.proofs.Handle.opened_with.Tie as tie
+
+returns : tie.Need-returns
+returns c = search (needs, code-opened segments)
+
+pub opened-with-spec : {M : Type 1} → statement M
+opened-with-spec =
+    tie.close
+    (tie.spec
+    (λ c. search needs)
+    (λ c κs. search needs)
+    (λ c. search needs)
+    (λ c κs. search needs)
+    (λ c. search needs)
+    (λ c κs. search needs)
+    (λ c. search needs)
+    (λ c κs. search needs)
+    returns)

@@ -1,0 +1,6 @@
+pub mod Sizes
+pub mod Selectors
+pub mod Handles
+pub mod Conversion
+pub mod Opens
+pub mod Examples

@@ -1,0 +1,80 @@
+-- Document 01, "The handle" and "Weakening": rows of subselectors, for every width w; clusters of eight segments have
+-- width 8, and there full w is 255. Subselector 0 stands first, and bit i of each stands for segment i.
+--     references ss i    bit i is set in every subselector
+--     excludes m ss i    segment i is referenced and its bit of the mask m is clear
+--     flat s             all bits of the width are set
+--     allFlat, anyFlat   every subselector is flat; some subselector is
+--     gapped             a flat subselector stands below one that is not flat
+--     firstFlat          the place of the first flat subselector; how many there are, where none is flat
+--     common             the bits set in every subselector
+--     referenced         how many segments are referenced
+--     keepsAll m ss      the mask m excludes none
+--     parameter m ss     all bits of the width less those of the excluded segments
+--     replaced v ss      the first flat subselector becomes v
+--     spent m ss         something would be excluded and no subselector is flat
+--     flats              every subselector flat
+--     inFirst s          subselector 0 is s and the others are flat
+--     Within ss          no subselector has a bit at or above the width
+-- Assumes nothing.
+use Prim.Native.Nat.{ℕ, zero, suc, _-_, _^_, _<_}
+use mathlib.Core.Bool.{Bool, true, false, not, _&&_, _||_}
+use mathlib.Core.List.{List, [], _∷_}
+use lib.Dec.{eqb}
+use lib.ListN.{set, replicate}
+use Rattle.bits.specs.Sets.{has, full, setOf, count}
+use Rattle.handle.specs.Sizes.{subselectors}
+
+abbrev pub references : List ℕ → ℕ → Bool
+references [] i = true
+references (s ∷ ss) i = has i s && references ss i
+
+abbrev pub excludes : ℕ → List ℕ → ℕ → Bool
+excludes mask ss i = references ss i && not (has i mask)
+
+module _ (w : ℕ) where
+  abbrev pub flat : ℕ → Bool
+  flat s = eqb s (full w)
+
+  abbrev pub allFlat : List ℕ → Bool
+  allFlat [] = true
+  allFlat (s ∷ ss) = flat s && allFlat ss
+
+  abbrev pub anyFlat : List ℕ → Bool
+  anyFlat [] = false
+  anyFlat (s ∷ ss) = flat s || anyFlat ss
+
+  abbrev pub gapped : List ℕ → Bool
+  gapped [] = false
+  gapped (s ∷ ss) = flat s && not (allFlat ss) || gapped ss
+
+  abbrev pub firstFlat : List ℕ → ℕ
+  firstFlat [] = zero
+  firstFlat (s ∷ ss) = elim (flat s) [ true ↦ zero | false ↦ suc (firstFlat ss) ]
+
+  abbrev pub common : List ℕ → ℕ
+  common ss = setOf w (references ss)
+
+  abbrev pub referenced : List ℕ → ℕ
+  referenced ss = count w (references ss)
+
+  abbrev pub keepsAll : ℕ → List ℕ → Bool
+  keepsAll mask ss = eqb (count w (excludes mask ss)) 0
+
+  abbrev pub parameter : ℕ → List ℕ → ℕ
+  parameter mask ss = full w - setOf w (excludes mask ss)
+
+  abbrev pub replaced : ℕ → List ℕ → List ℕ
+  replaced v ss = set ss (firstFlat ss) v
+
+  abbrev pub spent : ℕ → List ℕ → Bool
+  spent mask ss = not (keepsAll mask ss) && not (anyFlat ss)
+
+  abbrev pub flats : List ℕ
+  flats = replicate subselectors (full w)
+
+  abbrev pub inFirst : ℕ → List ℕ
+  inFirst s = s ∷ replicate (subselectors - 1) (full w)
+
+  abbrev pub Within : List ℕ → Type 0
+  Within [] = Unit
+  Within (s ∷ ss) = (s < 2 ^ w) × Within ss
