@@ -2,7 +2,7 @@
 -- twice the rest, and bit i + 1 of the number is bit i of the rest.
 -- Assumes nothing.
 use Prim.Native.Nat.{ℕ, zero, suc, _+_, _*_, _/_, _%_, _^_, _<_}
-use native.Mathlib.Nat.{pow-suc, mod-lt}
+use native.Mathlib.Nat.{pow-suc, mod-lt, div-eq-of-lt}
 use native.Mathlib.Numerals.{one-add}
 use native.Mathlib.Omega.{arith}
 use mathlib.Core.Path.{_≡_, refl, sym, ap, ap₂, _∙_}
@@ -46,6 +46,11 @@ low-bit s = ap one (has-zero s) ∙ go (s % 2) (mod-lt s (omega arith))
     go zero h = refl
     go (suc zero) h = refl
     go (suc (suc r)) h = absurd (omega arith)
+
+-- a number below 2 ^ i has no bit i
+pub has-beyond : (i s : ℕ) → s < 2 ^ i → has i s ≡ false
+unfolding has
+has-beyond i s h = ap (λ (n : ℕ). eqb (n % 2) 1) (div-eq-of-lt h)
 
 -- a number is its lowest bit and the rest
 pub parts : (s : ℕ) → s / 2 * 2 + one (has 0 s) ≡ s
