@@ -1,0 +1,4 @@
+pub mod PlaceLaws
+pub mod MarkLaws
+pub mod JumpLaws
+pub mod PlacementLaws

@@ -1,0 +1,4 @@
+pub mod Records
+pub mod Sound
+pub mod Placement
+pub mod Passes
