@@ -15,11 +15,14 @@ use borrow.Rule.Slice.PartMut.{putMid, midOf, postOf, post-is, mid-len}
 use Rattle.loops.specs.Below.{every}
 use Rattle.loops.proofs.BelowLaws.{every-same}
 use Rattle.loops.proofs.RunningLaws.{Running, running-none, running-more, running-all}
+use Rattle.loops.proofs.TurnLaws.{Turning, turning-none, turning-more, turning-all}
 use Rattle.store.specs.declared.Place.{Place}
 use Rattle.store.specs.declared.Place.the-variants.{Absent, Present}
-use Rattle.store.specs.Records.{nodeMemory}
-use Rattle.store.specs.Sound.{inside, inRanges, endsInside}
-use Rattle.store.specs.Passes.{zeros, free, marked, stamped, claimable, stampedBy, claims}
+use Rattle.store.specs.declared.Cluster.{Cluster}
+use Rattle.store.specs.declared.Store.{Store}
+use Rattle.store.specs.Records.{clusters, segments, nodeMemory, tableOf, recordOf, clusterAt, tableAt, placeOf, placeAt}
+use Rattle.store.specs.Sound.{inside, inRanges, endsInside, settled}
+use Rattle.store.specs.Passes.{zeros, free, marked, stamped, claimable, stampedBy, claims, Claimed, ClaimedAll, blank, nodeMap, clusterSound}
 use Rattle.store.proofs.PlaceLaws.{Inside, inside-in, inside-off}
 
 -- ---- the loop over a part
@@ -64,25 +67,25 @@ module _ (before part : List ℕ) (fresh : Bool) (i : ℕ) (m : Marking before p
 
 -- ---- one place
 
-pub claim-absent : (p : Place) (map : List ℕ) → p ≡ Absent → (true ≡ claimable p map) × (map ≡ stamped p map)
+pub claim-absent : (p : Place) (map : List ℕ) → p ≡ Absent → Claimed p map true map
 unfolding claimable stamped inside inRanges endsInside free marked
-claim-absent p map e = rw e (refl, refl)
+claim-absent p map e = rw e (record { told = refl; left = refl })
 
 module _ (p : Place) (base size : ℕ) (map : List ℕ) (e : p ≡ Present base size) where
   stamp : Bool → List ℕ
   unfolding stamped
   stamp t = elim t [ true ↦ marked (Present base size) map | false ↦ map ]
 
-  refused : (Inside base size → ⊥) → (false ≡ claimable p map) × (map ≡ stamped p map)
+  refused : (Inside base size → ⊥) → Claimed p map false map
   unfolding claimable stamped stamp
   refused f =
       let off = inside-off base size f in
-      rw e (ap (λ (t : Bool). t && free (Present base size) map) (sym off), ap stamp (sym off))
+      rw e (record { told = ap (λ (t : Bool). t && free (Present base size) map) (sym off); left = ap stamp (sym off) })
 
-  pub claim-short : size < 1 → (false ≡ claimable p map) × (map ≡ stamped p map)
+  pub claim-short : size < 1 → Claimed p map false map
   claim-short h = refused (λ (r : Inside base size). omega arith)
 
-  pub claim-long : nodeMemory < base + size → (false ≡ claimable p map) × (map ≡ stamped p map)
+  pub claim-long : nodeMemory < base + size → Claimed p map false map
   claim-long h = refused (λ (r : Inside base size). omega arith)
 
   module _ (one : 1 ≤ size) (ends : base + size ≤ nodeMemory) (whole : length map ≡ nodeMemory) where
@@ -103,17 +106,78 @@ module _ (p : Place) (base size : ℕ) (map : List ℕ) (e : p ≡ Present base 
 
     pub claim-mark : (r : Bool) (after : List ℕ)
         → (r ≡ zeros (midOf base (base + size - base) map)) × (after ≡ replicate (length (midOf base (base + size - base) map)) 1)
-        → (r ≡ claimable p map) × (putMid base (base + size - base) map after ≡ stamped p map)
+        → Claimed p map r (putMid base (base + size - base) map after)
     unfolding claimable stamped free marked zeros part stamp
     claim-mark r after g =
         let on = inside-in base size (record { some = one; ends = ends }) in
-        rw e
-        (g .0
-        ∙ ap (λ (n : ℕ). every n (λ i. eqb (getD part i 0) 0)) part-length
-        ∙ every-same size (λ i. eqb (getD part i 0) 0) (λ i. eqb (getD map (base + i) 0) 0)
-        (λ i h. ap (λ (x : ℕ). eqb x 0) (part-byte i h))
-        ∙ ap (λ (t : Bool). t && free (Present base size) map) (sym on),
-        ap (λ (z : List ℕ). take base map ++ (z ++ postOf base (base + size - base) map))
-        (g .1 ∙ ap (λ (n : ℕ). replicate n 1) part-length)
-        ∙ ap (λ (z : List ℕ). take base map ++ (replicate size 1 ++ z)) (post-is base (base + size) map (omega arith))
-        ∙ ap stamp (sym on))
+        rw e (record {
+          told =
+              g .0
+              ∙ ap (λ (n : ℕ). every n (λ i. eqb (getD part i 0) 0)) part-length
+              ∙ every-same size (λ i. eqb (getD part i 0) 0) (λ i. eqb (getD map (base + i) 0) 0)
+              (λ i h. ap (λ (x : ℕ). eqb x 0) (part-byte i h))
+              ∙ ap (λ (t : Bool). t && free (Present base size) map) (sym on);
+          left =
+              ap (λ (z : List ℕ). take base map ++ (z ++ postOf base (base + size - base) map))
+              (g .1 ∙ ap (λ (n : ℕ). replicate n 1) part-length)
+              ∙ ap (λ (z : List ℕ). take base map ++ (replicate size 1 ++ z))
+              (post-is base (base + size) map (omega arith))
+              ∙ ap stamp (sym on);
+        })
+
+-- ---- the segments of a cluster
+
+-- the places of i segments had their turn: `ok` tells whether each was claimable then
+pub record Claiming (c : Cluster) (before : List ℕ) (i : ℕ) (ok : Bool) (map : List ℕ) : Type 0 where
+  pub told : Running segments (λ k. claimable (placeOf (tableOf c) k) (stampedBy k (placeOf (tableOf c)) before)) i ok
+  pub left : Turning segments (λ k. stamped (placeOf (tableOf c) k)) before i map
+
+pub claiming-none : (c : Cluster) (before : List ℕ) → Claiming c before 0 true before
+claiming-none c before = record { told = running-none _ _; left = turning-none _ _ _ }
+
+module _ (c : Cluster) (before : List ℕ) (i : ℕ) (ok : Bool) (map : List ℕ) (w : Claiming c before i ok map) where
+  pub claiming-more : (r : Bool) (after : List ℕ) → i < segments
+      → Claimed (placeOf (tableOf c) i) map r after
+      → Claiming c before (i + 1) (r && ok) after
+  unfolding stampedBy
+  claiming-more r after h e =
+      record {
+        told =
+            running-more _ _ i ok (w .told) r h
+            (e .told ∙ ap (λ (m : List ℕ). claimable (placeOf (tableOf c) i) m) (w .left .told));
+        left = turning-more _ _ before i map (w .left) after h (e .left);
+      }
+
+  pub claiming-all : segments ≤ i → ClaimedAll c before ok map
+  unfolding claims stampedBy
+  claiming-all h =
+      record { told = running-all _ _ i ok (w .told) h; left = turning-all _ _ before i map (w .left) h }
+
+-- ---- the clusters of a node
+
+-- l clusters had their turn
+pub record Passing (s : Store) (node l : ℕ) (ok : Bool) (map : List ℕ) : Type 0 where
+  pub told : Running clusters (clusterSound s node) l ok
+  pub left : Turning clusters (λ m. stampedBy segments (placeAt (tableAt s) (recordOf node m))) blank l map
+
+pub passing-none : (s : Store) (node : ℕ) → Passing s node 0 true blank
+passing-none s node = record { told = running-none _ _; left = turning-none _ _ _ }
+
+module _ (s : Store) (node l : ℕ) (ok : Bool) (map : List ℕ) (w : Passing s node l ok map) where
+  pub passing-more : (a b : Bool) (after : List ℕ) → l < clusters
+      → a ≡ settled (clusterAt s (recordOf node l))
+      → ClaimedAll (clusterAt s (recordOf node l)) map b after
+      → Passing s node (l + 1) (a && b && ok) after
+  unfolding clusterSound nodeMap
+  passing-more a b after h e f =
+      record {
+        told =
+            running-more _ _ l ok (w .told) (a && b) h
+            (ap (λ (x : Bool). x && b) e
+            ∙ ap (λ (x : Bool). settled (clusterAt s (recordOf node l)) && x)
+            (f .told ∙ ap (λ (m : List ℕ). claims segments (placeAt (tableAt s) (recordOf node l)) m) (w .left .told)));
+        left = turning-more _ _ blank l map (w .left) after h (f .left);
+      }
+
+  pub passing-all : clusters ≤ l → ok ≡ every clusters (clusterSound s node)
+  passing-all h = running-all _ _ l ok (w .told) h

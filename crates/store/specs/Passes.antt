@@ -6,6 +6,7 @@
 --     stamped p map             the map after the place's turn: marked, if the place lies inside
 --     stampedBy n ps map        the map after n places
 --     claims n ps map           each of n places was claimable when its turn came
+--     Claimed, ClaimedAll       what is told of a place, and of a cluster's segments, and how the map is left
 --     blank, nodeMap            a node's map with no byte marked, and after the segments of l clusters
 --     clusterSound s node l     cluster l of a node is settled, and its segments were claimable
 --     endOf p                   where the bytes of a present place end
@@ -13,6 +14,7 @@
 --     climb n ps size base      the base to try after n places
 --     nodeClimb                 the base to try after all segments of a node
 -- Assumes nothing.
+use mathlib.Core.Path.{_≡_}
 use Prim.Native.Nat.{ℕ, _+_}
 use mathlib.Core.Bool.{Bool, true, false, _&&_}
 use mathlib.Core.List.{List, _++_}
@@ -22,8 +24,9 @@ use Rattle.loops.specs.Below.{every}
 use Rattle.loops.specs.Turns.{turns}
 use Rattle.store.specs.declared.Place.{Place}
 use Rattle.store.specs.declared.Place.the-variants.{Absent, Present}
+use Rattle.store.specs.declared.Cluster.{Cluster}
 use Rattle.store.specs.declared.Store.{Store}
-use Rattle.store.specs.Records.{clusters, segments, nodeMemory, Tables, recordOf, clusterAt, tableAt, placeAt}
+use Rattle.store.specs.Records.{clusters, segments, nodeMemory, Tables, tableOf, recordOf, clusterAt, tableAt, placeOf, placeAt}
 use Rattle.store.specs.Sound.{inside, apart, settled}
 
 -- ---- marking bytes
@@ -50,6 +53,14 @@ stampedBy n ps map = turns n (λ i. stamped (ps i)) map
 
 unfoldable pub claims : ℕ → (ℕ → Place) → List ℕ → Bool
 claims n ps map = every n (λ i. claimable (ps i) (stampedBy i ps map))
+
+pub record Claimed (p : Place) (before : List ℕ) (r : Bool) (after : List ℕ) : Type 0 where
+  pub told : r ≡ claimable p before
+  pub left : after ≡ stamped p before
+
+pub record ClaimedAll (c : Cluster) (before : List ℕ) (r : Bool) (after : List ℕ) : Type 0 where
+  pub told : r ≡ claims segments (placeOf (tableOf c)) before
+  pub left : after ≡ stampedBy segments (placeOf (tableOf c)) before
 
 abbrev pub blank : List ℕ
 blank = replicate nodeMemory 0

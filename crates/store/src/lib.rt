@@ -74,7 +74,7 @@ fn mark(part: &mut [u8]) -> bool
 // The end is worked out in usize, where the sum of two u16 does not wrap.
 fn claim(place: Place, map: &mut [u8]) -> bool
     requires { ⌜ length (now map) ≡ nodeMemory ⌝ }
-    ensures { λ r. ⌜ (r ≡ passes.claimable place (now (map .entry))) × (now (map .exit) ≡ passes.stamped place (now (map .entry))) ⌝ }
+    ensures { λ r. ⌜ passes.Claimed place (now (map .entry)) r (now (map .exit)) ⌝ }
 {
     match place {
         Place::Absent => true,
@@ -96,8 +96,7 @@ fn claim(place: Place, map: &mut [u8]) -> bool
 // Claims each segment of a cluster in turn.
 fn claim_all(cluster: Cluster, map: &mut [u8]) -> bool
     requires { ⌜ length (now map) ≡ nodeMemory ⌝ }
-    ensures { λ r. ⌜ (r ≡ passes.claims segments (placeOf (tableOf cluster)) (now (map .entry)))
-        × (now (map .exit) ≡ passes.stampedBy segments (placeOf (tableOf cluster)) (now (map .entry))) ⌝ }
+    ensures { λ r. ⌜ passes.ClaimedAll cluster (now (map .entry)) r (now (map .exit)) ⌝ }
 {
     let mut ok = true;
     let mut i: usize = 0;
