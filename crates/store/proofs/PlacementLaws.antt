@@ -87,8 +87,8 @@ module _ (ts : Tables) (node size : ℕ) where
               and-off (ltb node nodes && inside (Present k size)) (clear ts node (Present k size))
               (jumps-node ts node size .skips base k (ltb-false k base t) (subst (λ (n : ℕ). k < n) e h))
 
-      pub base-rises : (next ≡ base → ⊥) → base < next
-      base-rises f = let h = jumps-node ts node size .rises base in omega arith
+      pub base-rises : 1 ≤ size → base ≤ nodeMemory - size → (next ≡ base → ⊥) → nodeMemory - next < nodeMemory - base
+      base-rises a b f = let h = jumps-node ts node size .rises base in omega arith
 
       pub base-found : node < nodes → 1 ≤ size → size ≤ nodeMemory → base ≤ nodeMemory - size → next ≡ base
           → some base ≡ newBase ts node size
