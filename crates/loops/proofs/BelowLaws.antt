@@ -63,3 +63,11 @@ every-same n p q h =
     tests-equal (every n p) (every n q)
     (λ e. every-in n q (λ k b. sym (h k b) ∙ every-at n p e k b))
     (λ e. every-in n p (λ k b. h k b ∙ every-at n q e k b))
+
+-- a test over pairs of numbers
+module _ (n m : ℕ) (p : ℕ → ℕ → Bool) where
+  pub every-pair-at : every n (λ i. every m (p i)) ≡ true → (i j : ℕ) → i < n → j < m → p i j ≡ true
+  every-pair-at e i j hi hj = every-at m (p i) (every-at n (λ i. every m (p i)) e i hi) j hj
+
+  pub every-pair-in : ((i j : ℕ) → i < n → j < m → p i j ≡ true) → every n (λ i. every m (p i)) ≡ true
+  every-pair-in h = every-in n (λ i. every m (p i)) (λ i hi. every-in m (p i) (λ j hj. h i j hi hj))

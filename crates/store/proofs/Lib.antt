@@ -1,4 +1,6 @@
 pub mod PlaceLaws
 pub mod MarkLaws
+pub mod MapLaws
 pub mod JumpLaws
 pub mod PlacementLaws
+pub mod SoundLaws

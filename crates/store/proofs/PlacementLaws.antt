@@ -9,7 +9,7 @@ use native.Mathlib.Omega.{arith}
 use lib.Dec.{ltb}
 use borrow.Author.Tests.{ltb-true, ltb-false, lt-ltb}
 use Rattle.loops.specs.Below.{every}
-use Rattle.loops.proofs.BelowLaws.{and-left, and-right, and-both, and-off, test-off, every-at}
+use Rattle.loops.proofs.BelowLaws.{and-left, and-right, and-both, and-off, test-off, every-pair-at}
 use Rattle.loops.proofs.SearchLaws.{least-none, least-is, least-holds}
 use Rattle.store.specs.declared.Place.{Place}
 use Rattle.store.specs.declared.Place.the-variants.{Absent, Present}
@@ -35,11 +35,10 @@ module _ (ts : Tables) (node size : ℕ) where
       record {
         known = ltb-true node nodes (and-left (ltb node nodes) (inside (Present base size)) f);
         within = and-right (ltb node nodes) (inside (Present base size)) f;
-        free = λ l i hl hi. every-at segments (test l) (every-at clusters (λ m. every segments (test m)) (and-right front (clear ts node (Present base size)) e) l hl) i hi;
+        free =
+            every-pair-at clusters segments (λ l i. apart (Present base size) (placeAt ts (recordOf node l) i))
+            (and-right front (clear ts node (Present base size)) e);
       }
-    where
-      test : ℕ → ℕ → Bool
-      test l i = apart (Present base size) (placeAt ts (recordOf node l) i)
 
   -- bases tried so far: none below this one fits
   pub record Tried (base : ℕ) : Type 0 where
