@@ -4,3 +4,4 @@ pub mod MapLaws
 pub mod JumpLaws
 pub mod PlacementLaws
 pub mod SoundLaws
+pub mod ClaimLaws

@@ -117,6 +117,11 @@ stamps-turns (suc n) t f s = more (stamps-turns n t f s)
 
 -- ---- a node
 
+-- segment j of cluster m had its turn before segment i of cluster l
+pub data Before (l i m j : ℕ) : Type 0 where
+  beside : m ≡ l → j < i → Before l i m j
+  above : m < l → j < segments → Before l i m j
+
 module _ (ts : Tables) (node : ℕ) where
   place : ℕ → ℕ → Place
   place l i = placeAt ts (recordOf node l) i
@@ -126,7 +131,7 @@ module _ (ts : Tables) (node : ℕ) where
   stamps-cluster l n = stamps-turns n (λ i x. leaves x (place l i)) (λ i. stamped (place l i)) (λ i. stamps-place (place l i))
 
   -- the map before the turn of segment i of cluster l
-  pub mapAt : ℕ → ℕ → List ℕ
+  unfoldable pub mapAt : ℕ → ℕ → List ℕ
   mapAt l i = stampedBy i (placeAt ts (recordOf node l)) (nodeMap ts node l)
 
   blank-length : length blank ≡ nodeMemory
@@ -151,11 +156,6 @@ module _ (ts : Tables) (node : ℕ) where
       (stamps-node l .byte blank blank-length x
       ∙ ap (λ (b : Bool). earlier l x && b) (eq-eqb (getD blank x 0) 0 (getD-replicate nodeMemory x 0 0 h))
       ∙ and-true (earlier l x))
-
-  -- segment j of cluster m had its turn before segment i of cluster l
-  pub data Before (l i m j : ℕ) : Type 0 where
-    beside : m ≡ l → j < i → Before l i m j
-    above : m < l → j < segments → Before l i m j
 
   pub unmarked-out : (l i m j x : ℕ) → x < nodeMemory → unmarked x (mapAt l i) ≡ true → Before l i m j
       → leaves x (placeAt ts (recordOf node m) j) ≡ true
