@@ -5,12 +5,13 @@
 use mathlib.Core.Path.{_≡_, refl, sym, ap, _∙_, subst}
 use mathlib.Core.Logic.{_≢_, _⊎_, inl, inr}
 use mathlib.Core.Bool.{Bool, true, false, _&&_}
-use Prim.Native.Nat.{ℕ, _+_, _*_, _/_, _%_, _<_}
+use Prim.Native.Nat.{ℕ, _+_, _*_, _/_, _%_, _≤_, _<_}
 use native.Mathlib.Omega.{arith}
 use lib.Dec.{ltb, eqb}
 use borrow.Author.Tests.{ltb-true, ltb-false, eqb-true, eq-eqb}
 use Rattle.loops.specs.Below.{every}
 use Rattle.loops.proofs.BelowLaws.{and-left, and-right, and-both, tests-equal, every-in, every-at, every-pair-in, every-pair-at}
+use Rattle.loops.proofs.RunningLaws.{Running, running-all}
 use Rattle.store.specs.declared.Place.{Place}
 use Rattle.store.specs.declared.Store.{Store}
 use Rattle.store.specs.Records.{nodes, clusters, segments, records, memory, recordOf, clusterAt, tableAt, segmentOf, placeAt}
@@ -21,7 +22,7 @@ use Rattle.store.proofs.MapLaws.{mapAt, Before, beside, above, unmarked
 use Rattle.store.proofs.SoundLaws.{Sound, sound-out, sound-in}
 
 -- what the code works out
-abbrev pub tested : Store → ℕ → Bool
+abbrev tested : Store → ℕ → Bool
 tested s size = eqb size memory && every nodes (λ node. every clusters (clusterSound s node))
 
 module _ (s : Store) (size : ℕ) where
@@ -128,6 +129,11 @@ module _ (s : Store) (size : ℕ) where
         (every-in segments (λ i. claimable (place node l i) (mapAt (tableAt s) node l i)) (λ i hi.
         and-both (inside (place node l i)) _ (sound-inside node l i hv hl hi) (sound-free node l i hv hl hi)))))
 
-  pub tested-is : tested s size ≡ sound s size
+  tested-is : tested s size ≡ sound s size
   tested-is =
       tests-equal (tested s size) (sound s size) (λ e. sound-in s size (tested-sound e)) (λ e. sound-tested (sound-out s size e))
+
+  -- the code's loop over the nodes has come to its end
+  pub tested-told : (node : ℕ) (ok : Bool) → Running nodes (λ v. every clusters (clusterSound s v)) node ok → nodes ≤ node
+      → (eqb size memory && ok) ≡ sound s size
+  tested-told node ok r h = ap (λ (t : Bool). eqb size memory && t) (running-all _ _ node ok r h) ∙ tested-is
