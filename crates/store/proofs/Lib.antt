@@ -5,3 +5,4 @@ pub mod JumpLaws
 pub mod PlacementLaws
 pub mod SoundLaws
 pub mod ClaimLaws
+pub mod ChangeLaws

@@ -40,6 +40,11 @@ module _ (ts : Tables) (node size : ℕ) where
             (and-right front (clear ts node (Present base size)) e);
       }
 
+  -- what placement gives fits
+  pub newBase-fits : (base : ℕ) → newBase ts node size ≡ some base → Fits base
+  unfolding newBase
+  newBase-fits base e = fits-out base (least-holds (fits ts node size) nodeMemory base e)
+
   -- bases tried so far: none below this one fits
   pub record Tried (base : ℕ) : Type 0 where
     pub below : (k : ℕ) → k < base → fits ts node size k ≡ false

@@ -5,6 +5,7 @@
 --     passwordSize                 bytes of a password
 --     absentSegment, inactive      an absent segment, and a cluster's record as in the starting store
 --     startingStore                all clusters inactive
+--     started                      the record of a new cluster with these passwords
 --     Table, Tables                all of a cluster's record but its passwords; the tables of all records
 --     recordOf                     the number of the record of a node's cluster
 --     clusterAt, tableAt           record n of the store, and its table
@@ -14,7 +15,7 @@
 -- What lies past an array's end is the element that the code's own reads give there: an inactive cluster, an absent segment.
 -- Assumes nothing.
 use Prim.Native.Nat.{ℕ, _+_, _*_}
-use mathlib.Core.Bool.{Bool, false}
+use mathlib.Core.Bool.{Bool, true, false}
 use mathlib.Core.List.{List, []}
 use lib.ListN.{getD, set, replicate}
 use Rattle.store.specs.declared.Place.{Place}
@@ -60,6 +61,10 @@ inactive =
 
 abbrev pub startingStore : Store
 startingStore = record { clusters = replicate records inactive }
+
+abbrev pub started : List ℕ → List ℕ → Cluster
+started read write =
+    record { active = true; read = read; write = write; segments = replicate segments absentSegment }
 
 -- ---- reading the records
 

@@ -9,7 +9,6 @@ use Rattle.store.proofs.MarkLaws.{Claiming, claiming-none, claiming-mor
 use Rattle.store.proofs.claim_all.Statement.{statement}
 use Rattle.store.proofs.claim_all.Tie as tie
 use Rattle.store.proofs.claim_all.Reads as reads
-use Rattle.store.proofs.claim_all.Lts as lts
 use Rattle.store.proofs.claim.Reads as claim-reads
 
 abbrev Inv-loop : tie.InvT-loop
@@ -18,39 +17,12 @@ Inv-loop map₀ cluster ok₀ i₀ map ok i = Claiming cluster map₀ i ok map �
 abbrev μ-loop : tie.MeasureT-loop
 μ-loop map₀ cluster ok₀ i₀ map ok i = segments - i
 
--- src/lib.rt:104:5
 loop-holds : tie.Need-loop-holds Inv-loop μ-loop
 loop-holds c = (claiming-none _ _, search needs)
 
--- src/lib.rt:105:23
-mul-segment : tie.Need-mul-segment Inv-loop μ-loop
-mul-segment c = search needs
-
--- src/lib.rt:105:23
-element-copy-out-segment : tie.Need-element-copy-out-segment Inv-loop μ-loop
-element-copy-out-segment c = search needs
-
--- src/lib.rt:107:14
-claim-requires : tie.Need-claim-requires Inv-loop μ-loop
-claim-requires c κs = search needs
-
--- src/lib.rt:108:9
-add-i : tie.Need-add-i Inv-loop μ-loop
-add-i c = search needs
-
--- src/lib.rt:104:5
-loop-less : tie.Need-loop-less Inv-loop μ-loop
-loop-less c = search needs
-
--- src/lib.rt:104:5
 loop-again : tie.Need-loop-again Inv-loop μ-loop
 loop-again c = (search (needs, claiming-more), search needs)
 
--- src/lib.rt:97:1
-same-length : tie.Need-same-length Inv-loop μ-loop
-same-length c = search needs
-
--- src/lib.rt:97:1
 returns : tie.Need-returns Inv-loop μ-loop
 returns c = search (needs, claiming-all)
 
@@ -61,11 +33,11 @@ claim-all-spec =
     Inv-loop
     μ-loop
     loop-holds
-    mul-segment
-    element-copy-out-segment
-    claim-requires
-    add-i
-    loop-less
+    (λ c. search needs)
+    (λ c. search needs)
+    (λ c κs. search needs)
+    (λ c. search needs)
+    (λ c. search needs)
     loop-again
-    same-length
+    (λ c. search needs)
     returns)

@@ -8,7 +8,6 @@ use Rattle.store.proofs.PlacementLaws.{base-no-node, base-no-size, base
 use Rattle.store.proofs.new_base.Statement.{statement}
 use Rattle.store.proofs.new_base.Tie as tie
 use Rattle.store.proofs.new_base.Reads as reads
-use Rattle.store.proofs.new_base.Lts as lts
 use Rattle.store.proofs.past_node.Reads as past-node-reads
 
 abbrev Inv-loop : tie.InvT-loop
@@ -17,39 +16,27 @@ Inv-loop store node size last base₀ base = Tried (tableAt store) node size bas
 abbrev μ-loop : tie.MeasureT-loop
 μ-loop store node size last base₀ base = nodeMemory - base
 
--- src/lib.rt:245:9
 returns : tie.Need-returns Inv-loop μ-loop
 returns c = search (needs, base-no-node)
 
--- src/lib.rt:248:9
 returns-2 : tie.Need-returns-2 Inv-loop μ-loop
 returns-2 c = search (needs, base-no-size)
 
--- src/lib.rt:251:9
 returns-3 : tie.Need-returns-3 Inv-loop μ-loop
 returns-3 c = search (needs, base-too-long)
 
--- src/lib.rt:255:5
 loop-holds : tie.Need-loop-holds Inv-loop μ-loop
 loop-holds c = tried-none _ _ _
 
--- src/lib.rt:256:13
-past-node-requires : tie.Need-past-node-requires Inv-loop μ-loop
-past-node-requires c κs = search needs
-
--- src/lib.rt:258:13
 returns-4 : tie.Need-returns-4 Inv-loop μ-loop
 returns-4 c = search (needs, base-found)
 
--- src/lib.rt:255:5
 loop-less : tie.Need-loop-less Inv-loop μ-loop
 loop-less c = search (needs, base-rises)
 
--- src/lib.rt:255:5
 loop-again : tie.Need-loop-again Inv-loop μ-loop
 loop-again c = search (needs, tried-more)
 
--- src/lib.rt:241:1
 returns-5 : tie.Need-returns-5 Inv-loop μ-loop
 returns-5 c = search (needs, tried-all)
 
@@ -63,7 +50,7 @@ new-base-spec =
     returns-2
     returns-3
     loop-holds
-    past-node-requires
+    (λ c κs. search needs)
     returns-4
     loop-less
     loop-again

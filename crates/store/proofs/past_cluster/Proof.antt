@@ -8,7 +8,6 @@ use Rattle.store.specs.Passes.{past, climb}
 use Rattle.store.proofs.past_cluster.Statement.{statement}
 use Rattle.store.proofs.past_cluster.Tie as tie
 use Rattle.store.proofs.past_cluster.Reads as reads
-use Rattle.store.proofs.past_cluster.Lts as lts
 use Rattle.store.proofs.past.Reads as past-reads
 
 abbrev Inv-loop : tie.InvT-loop
@@ -17,35 +16,12 @@ Inv-loop base size cluster next₀ i₀ next i = Turning segments (λ k. past si
 abbrev μ-loop : tie.MeasureT-loop
 μ-loop base size cluster next₀ i₀ next i = segments - i
 
--- src/lib.rt:216:5
 loop-holds : tie.Need-loop-holds Inv-loop μ-loop
 loop-holds c = turning-none _ _ _
 
--- src/lib.rt:217:23
-mul-segment : tie.Need-mul-segment Inv-loop μ-loop
-mul-segment c = search needs
-
--- src/lib.rt:217:23
-element-copy-out-segment : tie.Need-element-copy-out-segment Inv-loop μ-loop
-element-copy-out-segment c = search needs
-
--- src/lib.rt:219:9
-past-requires : tie.Need-past-requires Inv-loop μ-loop
-past-requires c κs = search needs
-
--- src/lib.rt:220:9
-add-i : tie.Need-add-i Inv-loop μ-loop
-add-i c = search needs
-
--- src/lib.rt:216:5
-loop-less : tie.Need-loop-less Inv-loop μ-loop
-loop-less c = search needs
-
--- src/lib.rt:216:5
 loop-again : tie.Need-loop-again Inv-loop μ-loop
 loop-again c = search (needs, turning-more)
 
--- src/lib.rt:211:1
 returns : tie.Need-returns Inv-loop μ-loop
 unfolding climb
 returns c = search (needs, turning-all)
@@ -57,10 +33,10 @@ past-cluster-spec =
     Inv-loop
     μ-loop
     loop-holds
-    mul-segment
-    element-copy-out-segment
-    past-requires
-    add-i
-    loop-less
+    (λ c. search needs)
+    (λ c. search needs)
+    (λ c κs. search needs)
+    (λ c. search needs)
+    (λ c. search needs)
     loop-again
     returns)

@@ -10,7 +10,6 @@ use Rattle.store.proofs.ClaimLaws.{tested-told}
 use Rattle.store.proofs.sound.Statement.{statement}
 use Rattle.store.proofs.sound.Tie as tie
 use Rattle.store.proofs.sound.Reads as reads
-use Rattle.store.proofs.sound.Lts as lts
 use Rattle.store.proofs.node_sound.Reads as node-sound-reads
 
 abbrev Inv-loop : tie.InvT-loop
@@ -19,31 +18,16 @@ Inv-loop store size ok₀ node₀ ok node = Running nodes (λ v. every clusters 
 abbrev μ-loop : tie.MeasureT-loop
 μ-loop store size ok₀ node₀ ok node = nodes - node
 
--- src/lib.rt:178:5
 loop-holds : tie.Need-loop-holds Inv-loop μ-loop
 loop-holds c = running-none _ _
 
--- src/lib.rt:179:14
-node-sound-requires : tie.Need-node-sound-requires Inv-loop μ-loop
-node-sound-requires c κs = search needs
-
--- src/lib.rt:180:9
-add-node : tie.Need-add-node Inv-loop μ-loop
-add-node c = search needs
-
--- src/lib.rt:178:5
-loop-less : tie.Need-loop-less Inv-loop μ-loop
-loop-less c = search needs
-
--- src/lib.rt:178:5
 loop-again : tie.Need-loop-again Inv-loop μ-loop
 loop-again c = search (needs, running-more)
 
--- src/lib.rt:173:1
 returns : tie.Need-returns Inv-loop μ-loop
 returns c = search (needs, tested-told)
 
 pub sound-spec : {M : Type 1} → statement M
 sound-spec =
     tie.close
-    (tie.spec Inv-loop μ-loop loop-holds node-sound-requires add-node loop-less loop-again returns)
+    (tie.spec Inv-loop μ-loop loop-holds (λ c κs. search needs) (λ c. search needs) (λ c. search needs) loop-again returns)

@@ -8,16 +8,10 @@ use borrow.Author.Needs.{needs}
 use Rattle.store.proofs.starting.Statement.{statement}
 use Rattle.store.proofs.starting.Tie as tie
 use Rattle.store.proofs.starting.Reads as reads
-use Rattle.store.proofs.starting.Lts as lts
 use Rattle.store.proofs.inactive_cluster.Reads as inactive-cluster-reads
 
--- src/lib.rt:55:9
-inactive-cluster-requires : tie.Need-inactive-cluster-requires
-inactive-cluster-requires c κs = search needs
-
--- src/lib.rt:52:1
 returns : tie.Need-returns
 returns c = ap (λ (d : Cluster). record { clusters = replicate records d }) (c .inactive-cluster .ensures)
 
 pub starting-spec : {M : Type 1} → statement M
-starting-spec = tie.close (tie.spec inactive-cluster-requires returns)
+starting-spec = tie.close (tie.spec (λ c κs. search needs) returns)

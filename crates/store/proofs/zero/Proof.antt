@@ -9,8 +9,6 @@ use Rattle.store.specs.Records.{passwordSize}
 use Rattle.store.specs.Sound.{zeroBytes}
 use Rattle.store.proofs.zero.Statement.{statement}
 use Rattle.store.proofs.zero.Tie as tie
-use Rattle.store.proofs.zero.Reads as reads
-use Rattle.store.proofs.zero.Lts as lts
 
 abbrev Inv-loop : tie.InvT-loop
 Inv-loop password ok₀ i₀ ok i = Running passwordSize (λ k. eqb (getD password k 0) 0) i ok
@@ -18,27 +16,12 @@ Inv-loop password ok₀ i₀ ok i = Running passwordSize (λ k. eqb (getD passwo
 abbrev μ-loop : tie.MeasureT-loop
 μ-loop password ok₀ i₀ ok i = passwordSize - i
 
--- src/lib.rt:118:5
 loop-holds : tie.Need-loop-holds Inv-loop μ-loop
 loop-holds c = running-none _ _
 
--- src/lib.rt:119:15
-array-read-ok : tie.Need-array-read-ok Inv-loop μ-loop
-array-read-ok c = search needs
-
--- src/lib.rt:120:9
-add-i : tie.Need-add-i Inv-loop μ-loop
-add-i c = search needs
-
--- src/lib.rt:118:5
-loop-less : tie.Need-loop-less Inv-loop μ-loop
-loop-less c = search needs
-
--- src/lib.rt:118:5
 loop-again : tie.Need-loop-again Inv-loop μ-loop
 loop-again c = search (needs, running-more)
 
--- src/lib.rt:113:1
 returns : tie.Need-returns Inv-loop μ-loop
 unfolding zeroBytes
 returns c = search (needs, running-all)
@@ -46,4 +29,4 @@ returns c = search (needs, running-all)
 pub zero-spec : {M : Type 1} → statement M
 zero-spec =
     tie.close
-    (tie.spec Inv-loop μ-loop loop-holds array-read-ok add-i loop-less loop-again returns)
+    (tie.spec Inv-loop μ-loop loop-holds (λ c. search needs) (λ c. search needs) (λ c. search needs) loop-again returns)
