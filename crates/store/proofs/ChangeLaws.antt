@@ -19,12 +19,11 @@ use Rattle.store.specs.declared.Store.{Store}
 use Rattle.store.specs.Records.{nodes, clusters, segments, records, memory, absentSegment, inactive, started, startingStore}
 use Rattle.store.specs.Records.{Table, tableOf, recordOf, noCluster, clusterAt, tableAt, segmentOf, placeOf, placeAt}
 use Rattle.store.specs.Records.{putRecord, withSegment, withPlace}
-use Rattle.store.specs.Sound.{inRanges, endsInside, inside, soundSegment, apart, zeroBytes, settled, idle, sound}
+use Rattle.store.specs.Sound.{inRanges, endsInside, inside, soundSegment, apart, settled, sound}
 use Rattle.store.specs.Placement.{newBase}
-use Rattle.loops.specs.Below.{every}
 use Rattle.store.proofs.PlaceLaws.{apart-sym}
 use Rattle.store.proofs.PlacementLaws.{Fits, newBase-fits}
-use Rattle.store.proofs.SoundLaws.{Sound, sound-out, sound-in}
+use Rattle.store.proofs.SoundLaws.{Sound, sound-out, sound-in, settled-active, settled-inactive}
 
 -- ---- one record replaced
 
@@ -146,14 +145,6 @@ module _ (s : Store) (size : ℕ) (r : Sound s size) (node local new : ℕ) (hv 
         go (no h) = rw (put-out s (recordOf node local) c (omega arith)) r
 
 -- ---- the changes of the calls
-
-pub settled-active : (c : Cluster) → c .active ≡ true → settled c ≡ true
-unfolding settled
-settled-active c e = ap (λ (t : Bool). t || idle c) e
-
-settled-inactive : settled inactive ≡ true
-unfolding settled idle zeroBytes every
-settled-inactive = refl
 
 module _ (s : Store) (size : ℕ) (e : sound s size ≡ true) (node local : ℕ) (hv : node < nodes) (hl : local < clusters) where
   put : (new : ℕ) (c : Cluster) → settled c ≡ true → ((i : ℕ) → i < segments → Fate s node local new i (segmentOf (tableOf c) i))

@@ -6,3 +6,4 @@ pub mod PlacementLaws
 pub mod SoundLaws
 pub mod ClaimLaws
 pub mod ChangeLaws
+pub mod ExampleLaws

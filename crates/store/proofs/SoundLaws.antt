@@ -1,6 +1,5 @@
--- Soundness as facts: one law out of it, `sound-out`, and one into it, `sound-in`; no other law looks inside `sound`.
--- The code's test is equal to it: where every segment was claimable in its turn, all lie inside and each is apart from
--- those before it, and the other way round.
+-- Soundness as facts: one law out of it, `sound-out`, and one into it, `sound-in`, clause by clause; no other law looks
+-- inside `sound`. The starting store is sound: every record in it is inactive and every segment absent.
 -- Assumes nothing.
 use mathlib.Core.Path.{_≡_, refl, sym, ap, _∙_, subst}
 use mathlib.Core.Logic.{_≢_, _⊎_, inl, inr}
@@ -9,14 +8,17 @@ use Prim.Native.Nat.{ℕ, _+_, _*_, _/_, _%_, _≤_, _<_}
 use native.Mathlib.Omega.{arith}
 use native.Mathlib.Decide.{ℕ-discrete}
 use lib.Dec.{ltb, eqb}
+use lib.ListN.{getD-replicate}
 use borrow.Author.Tests.{ltb-true, ltb-false, eqb-true, eq-eqb}
 use Rattle.loops.specs.Below.{every}
 use Rattle.loops.proofs.BelowLaws.{and-left, and-right, and-both, tests-equal, every-in, every-at, every-pair-in, every-pair-at}
 use Rattle.store.specs.declared.Place.{Place}
+use Rattle.store.specs.declared.Segment.{Segment}
 use Rattle.store.specs.declared.Cluster.{Cluster}
 use Rattle.store.specs.declared.Store.{Store}
-use Rattle.store.specs.Records.{nodes, clusters, segments, records, memory, recordOf, clusterAt, tableAt, segmentOf, placeAt}
-use Rattle.store.specs.Sound.{inside, soundSegment, apart, nodeApart, settled, sound}
+use Rattle.store.specs.Records.{nodes, clusters, segments, records, memory, absentSegment, inactive, startingStore}
+use Rattle.store.specs.Records.{tableOf, recordOf, noCluster, clusterAt, tableAt, segmentOf, placeAt}
+use Rattle.store.specs.Sound.{inRanges, endsInside, inside, soundSegment, apart, nodeApart, zeroBytes, idle, settled, sound}
 use Rattle.store.specs.Passes.{free, claimable, claims, nodeMap, clusterSound}
 use Rattle.store.proofs.PlaceLaws.{apart-sym}
 use Rattle.store.proofs.MapLaws.{mapAt, Before, beside, above, unmarked-out, unmarked-in, free-apart, free-in, apart-leaves}
@@ -28,6 +30,14 @@ pub record Sound (s : Store) (size : ℕ) : Type 0 where
   pub apartness : (node l i m j : ℕ) → node < nodes → l < clusters → i < segments → m < clusters → j < segments → (l ≢ m) ⊎ (i ≢ j)
       → apart (placeAt (tableAt s) (recordOf node l) i) (placeAt (tableAt s) (recordOf node m) j) ≡ true
   pub settling : (n : ℕ) → n < records → settled (clusterAt s n) ≡ true
+
+pub settled-active : (c : Cluster) → c .active ≡ true → settled c ≡ true
+unfolding settled
+settled-active c e = ap (λ (t : Bool). t || idle c) e
+
+pub settled-inactive : settled inactive ≡ true
+unfolding settled idle zeroBytes every
+settled-inactive = refl
 
 -- ---- out of soundness, and into it
 
@@ -104,3 +114,22 @@ module _ (s : Store) (size : ℕ) where
       every-pair-in clusters segments (λ l i. every clusters (λ m. every segments (pair node l i m))) (λ l i hl hi.
       every-pair-in clusters segments (pair node l i) (λ m j hm hj. pair-in r node l i m j hv hl hi hm hj)))))
       (every-in records (λ n. settled (clusterAt s n)) (r .settling))
+
+-- ---- the starting store
+
+pub sound-starting : sound startingStore memory ≡ true
+unfolding soundSegment inside inRanges endsInside apart
+sound-starting =
+    sound-in startingStore memory (record {
+      whole = refl;
+      ranged = λ n i hn hi. ap soundSegment (vacant n i hn hi);
+      apartness = λ node l i m j hv hl hi hm hj d.
+          ap (λ (g : Segment). apart (g .place) (placeAt (tableAt startingStore) (recordOf node m) j)) (vacant (recordOf node l) i (omega arith) hi);
+      settling = λ n hn. ap settled (record-at n hn) ∙ settled-inactive;
+    })
+  where
+    record-at : (n : ℕ) → n < records → clusterAt startingStore n ≡ inactive
+    record-at n h = getD-replicate records n inactive noCluster h
+    vacant : (n i : ℕ) → n < records → i < segments → segmentOf (tableAt startingStore n) i ≡ absentSegment
+    vacant n i h k =
+        ap (λ (c : Cluster). segmentOf (tableOf c) i) (record-at n h) ∙ getD-replicate segments i absentSegment absentSegment k

@@ -2,3 +2,4 @@ pub mod Records
 pub mod Sound
 pub mod Placement
 pub mod Passes
+pub mod Examples
