@@ -3,10 +3,10 @@
 -- Assumes nothing.
 use mathlib.Core.Path.{_≡_, refl, sym, ap, _∙_}
 use mathlib.Core.Logic.{_≢_, _⊎_, inl, inr}
-use mathlib.Core.Bool.{Bool, true, false, _||_}
+use mathlib.Core.Bool.{true}
 use mathlib.Core.List.{List}
 use mathlib.Core.Option.{some}
-use Prim.Native.Nat.{ℕ, _+_, _*_, _≤_, _<_}
+use Prim.Native.Nat.{ℕ, _≤_, _<_}
 use native.Mathlib.Omega.{arith}
 use native.Mathlib.Decide.{ℕ-discrete, decLt}
 use lib.ListN.{length, getD, set, replicate, getD-replicate}
@@ -16,13 +16,13 @@ use Rattle.store.specs.declared.Place.the-variants.{Absent, Present}
 use Rattle.store.specs.declared.Segment.{Segment}
 use Rattle.store.specs.declared.Cluster.{Cluster}
 use Rattle.store.specs.declared.Store.{Store}
-use Rattle.store.specs.Records.{nodes, clusters, segments, records, memory, absentSegment, inactive, started, startingStore}
+use Rattle.store.specs.Records.{nodes, clusters, segments, records, absentSegment, inactive, started}
 use Rattle.store.specs.Records.{Table, tableOf, recordOf, noCluster, clusterAt, tableAt, segmentOf, placeOf, placeAt}
-use Rattle.store.specs.Records.{putRecord, withSegment, withPlace}
+use Rattle.store.specs.Records.{putRecord, withPlace}
 use Rattle.store.specs.Sound.{inRanges, endsInside, inside, soundSegment, apart, settled, sound}
 use Rattle.store.specs.Placement.{newBase}
 use Rattle.store.proofs.PlaceLaws.{apart-sym}
-use Rattle.store.proofs.PlacementLaws.{Fits, newBase-fits}
+use Rattle.store.proofs.PlacementLaws.{newBase-fits}
 use Rattle.store.proofs.SoundLaws.{Sound, sound-out, sound-in, settled-active, settled-inactive}
 
 -- ---- one record replaced
@@ -116,11 +116,13 @@ module _ (s : Store) (size : ℕ) (r : Sound s size) (node local new : ℕ) (hv 
               ap (λ (g : Segment). apart (g .place) (placeAt (tableAt after) (recordOf v m) j)) e
               ∙ ap (λ (g : Segment). apart (p .place) (g .place)) f
               ∙ a
+
           mixed : (i m j : ℕ) → i < segments → m < clusters → j < segments → v ≡ node → m ≢ local
               → apart (placeOf (tableOf c) i) (placeAt (tableAt s) (recordOf v m) j) ≡ true
           mixed i m j bi bm bj e u =
               ap (λ (k : ℕ). apart (placeOf (tableOf c) i) (placeAt (tableAt s) (recordOf k m) j)) e
               ∙ fate-other i m j (segmentOf (tableOf c) i) bi bm bj u (fates i bi)
+
           go : Dec (recordOf v l ≡ recordOf node local) → Dec (recordOf v m ≡ recordOf node local)
               → apart (placeAt (tableAt after) (recordOf v l) i) (placeAt (tableAt after) (recordOf v m) j) ≡ true
           go (no p) (no q) = from _ _ (there _ i p) (there _ j q) (r .apartness v l i m j bv bl bi bm bj d)
@@ -177,8 +179,10 @@ module _ (s : Store) (size : ℕ) (e : sound s size ≡ true) (node local : ℕ)
       where
         c : Cluster
         c = clusterAt s (recordOf node local)
+
         g : Segment
         g = record { place = p }
+
         fate : (k : ℕ) → Dec (k ≡ i) → Dec (i < length (c .segments)) → Fate s node local i k (segmentOf (tableOf (withPlace c i p)) k)
         fate k (no q) d = kept (getD-set-other (c .segments) i k g absentSegment q)
         fate k (yes q) (no d) = kept (ap (λ (l : List Segment). getD l k absentSegment) (set-out (c .segments) i g (omega arith)))

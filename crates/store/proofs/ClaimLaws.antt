@@ -2,10 +2,10 @@
 -- later was free of the earlier, so they are apart; where all lie inside and are apart, no byte of a segment is marked
 -- when its turn comes.
 -- Assumes nothing.
-use mathlib.Core.Path.{_≡_, refl, sym, ap, _∙_, subst}
+use mathlib.Core.Path.{_≡_, refl, ap, _∙_, subst}
 use mathlib.Core.Logic.{_≢_, _⊎_, inl, inr}
 use mathlib.Core.Bool.{Bool, true, false, _&&_}
-use Prim.Native.Nat.{ℕ, _+_, _*_, _/_, _%_, _≤_, _<_}
+use Prim.Native.Nat.{ℕ, _/_, _%_, _≤_, _<_}
 use native.Mathlib.Omega.{arith}
 use lib.Dec.{ltb, eqb}
 use borrow.Author.Tests.{ltb-true, ltb-false, eqb-true, eq-eqb}
@@ -14,10 +14,10 @@ use Rattle.loops.proofs.BelowLaws.{and-left, and-right, and-both, tests-equal, 
 use Rattle.loops.proofs.RunningLaws.{Running, running-all}
 use Rattle.store.specs.declared.Place.{Place}
 use Rattle.store.specs.declared.Store.{Store}
-use Rattle.store.specs.Records.{nodes, clusters, segments, records, memory, recordOf, clusterAt, tableAt, segmentOf, placeAt}
+use Rattle.store.specs.Records.{nodes, clusters, segments, memory, recordOf, clusterAt, tableAt, placeAt}
 use Rattle.store.specs.Sound.{inside, soundSegment, apart, settled, sound}
 use Rattle.store.specs.Passes.{free, claimable, claims, nodeMap, clusterSound}
-use Rattle.store.proofs.PlaceLaws.{apart-sym, holds}
+use Rattle.store.proofs.PlaceLaws.{apart-sym}
 use Rattle.store.proofs.MapLaws.{mapAt, Before, beside, above, unmarked-out, unmarked-in, free-apart, free-in, apart-leaves}
 use Rattle.store.proofs.SoundLaws.{Sound, sound-out, sound-in}
 
@@ -74,6 +74,7 @@ module _ (s : Store) (size : ℕ) where
           where
             same : l ≡ m
             same = let a = ltb-false m l t in let b = ltb-false l m p in omega arith
+
             less : (l ≢ m) ⊎ (i ≢ j) → i < j
             less (inl n) = absurd (n same)
             less (inr n) = let c = ltb-false j i q in omega arith

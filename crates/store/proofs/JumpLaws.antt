@@ -17,7 +17,7 @@ use Rattle.store.specs.Records.{clusters, segments, Tables, recordOf, pl
 use Rattle.store.specs.Sound.{apart}
 use Rattle.store.specs.Placement.{clear}
 use Rattle.store.specs.Passes.{endOf, past, climb, nodeClimb}
-use Rattle.store.proofs.PlaceLaws.{apart-low, apart-high, apart-off, Meet, apart-meet}
+use Rattle.store.proofs.PlaceLaws.{apart-low, apart-high, apart-off, apart-meet}
 
 -- ---- one place
 
@@ -74,18 +74,21 @@ jumps-place size (Present from length) =
   where
     q : Place
     q = Present from length
+
     rises : (b : ℕ) (t : Bool) → apart (Present b size) (Present from length) ≡ t → b ≤ past size (Present from length) b
     rises b true e = let h = past-apart size (Present from length) b e in omega arith
     rises b false e =
         let h = past-meets size (Present from length) b e in
         let m = apart-meet b size from length e in
         omega arith
+
     stays : (b : ℕ) → past size (Present from length) b ≡ b → (t : Bool) → apart (Present b size) (Present from length) ≡ t → t ≡ true
     stays b s true e = refl
     stays b s false e =
         let h = past-meets size (Present from length) b e in
         let m = apart-meet b size from length e in
         absurd (omega arith)
+
     skips : (b k : ℕ) → b ≤ k → k < past size (Present from length) b → (t : Bool) → apart (Present b size) (Present from length) ≡ t
         → apart (Present k size) (Present from length) ≡ false
     skips b k a l true e = let h = past-apart size (Present from length) b e in absurd (omega arith)
@@ -110,8 +113,10 @@ jumps-turns (suc n) t f j = more (jumps-turns n t f j)
       where
         same : (b : ℕ) → f n (turns n f b) ≡ b → turns n f b ≡ b
         same b e = let u = r .rises b in let v = j n .rises (turns n f b) in omega arith
+
         stays : (b : ℕ) → f n (turns n f b) ≡ b → turns n f b ≡ b → (t n b && every n (λ i. t i b)) ≡ true
         stays b e s = and-both (t n b) (every n (λ i. t i b)) (j n .stays b (ap (f n) (sym s) ∙ e)) (r .stays b s)
+
         skips : (b k : ℕ) → b ≤ k → k < f n (turns n f b) → (o : Bool) → ltb k (turns n f b) ≡ o
             → (t n k && every n (λ i. t i k)) ≡ false
         skips b k h l true o = and-off (t n k) (every n (λ i. t i k)) (r .skips b k h (ltb-true k (turns n f b) o))

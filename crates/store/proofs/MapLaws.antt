@@ -85,6 +85,7 @@ stamps-marked (Present base size) e =
   where
     ends : (map : List ℕ) → length map ≡ nodeMemory → base + size ≤ length map
     ends map h = let b = inside-out base size e in omega arith
+
     bytes : (map : List ℕ) → base + size ≤ length map → (x : ℕ) (t : Bool) → leb base x ≡ t → (u : Bool) → ltb x (base + size) ≡ u
         → unmarked x (marked (Present base size) map) ≡ (not (t && u) && unmarked x map)
     bytes map f x false t u k = ap (λ (y : ℕ). eqb y 0) (marked-low map base size f x (leb-false base x t))
@@ -164,6 +165,7 @@ module _ (ts : Tables) (node : ℕ) where
     where
       both : (every i (λ j. leaves x (place l j)) && earlier l x) ≡ true
       both = sym (byte-at l i x h) ∙ e
+
       go : Before l i m j → leaves x (place m j) ≡ true
       go (beside q k) =
           ap (λ (n : ℕ). leaves x (place n j)) q
@@ -193,8 +195,10 @@ free-apart (Present base size) (Present base′ size′) map a b e f = go (apart
   where
     here : Inside base size
     here = inside-out base size a
+
     there : Inside base′ size′
     there = inside-out base′ size′ b
+
     -- no byte is in both
     only : (x : ℕ) → base ≤ x → x < base + size → base′ ≤ x → x < base′ + size′ → ⊥
     only x h k h′ k′ =
@@ -205,6 +209,7 @@ free-apart (Present base size) (Present base′ size′) map a b e f = go (apart
         true≢false
         (sym (and-both (inside (Present base′ size′)) (holds x (Present base′ size′)) b (holds-in x base′ size′ h′ k′))
         ∙ not-true (inside (Present base′ size′) && holds x (Present base′ size′)) l)
+
     largest : Meet base size base′ size′ → (t : Bool) → leb base base′ ≡ t → ⊥
     largest m true t =
         let h = leb-true base base′ t in
@@ -214,6 +219,7 @@ free-apart (Present base size) (Present base′ size′) map a b e f = go (apart
         let h = leb-false base base′ t in
         let r = here .some in
         only base (omega arith) (omega arith) (omega arith) (omega arith)
+
     go : (t : Bool) → apart (Present base size) (Present base′ size′) ≡ t → t ≡ true
     go true t = refl
     go false t = absurd (largest (apart-meet base size base′ size′ t) (leb base base′) refl)

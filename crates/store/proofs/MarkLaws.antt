@@ -3,9 +3,8 @@
 -- Assumes nothing.
 use mathlib.Core.Path.{_≡_, refl, sym, ap, _∙_}
 use mathlib.Core.Bool.{Bool, true, false, _&&_}
-use mathlib.Core.List.{List, [], _∷_, _++_, append-nil}
-use Prim.Native.Nat.{ℕ, zero, suc, _+_, _-_, _≤_, _<_}
-use native.Mathlib.Numerals.{add-one}
+use mathlib.Core.List.{List, _++_, append-nil}
+use Prim.Native.Nat.{ℕ, suc, _+_, _-_, _≤_, _<_}
 use native.Mathlib.Omega.{arith}
 use lib.Dec.{eqb}
 use lib.ListN.{length, getD, set, take, drop, replicate, length-set, length-replicate, drop-of-length-le}
@@ -55,12 +54,13 @@ module _ (before part : List ℕ) (fresh : Bool) (i : ℕ) (m : Marking before p
   unfolding zeros
   marking-all h =
       let low : i ≤ length before = m .told .low in
-      let q : i ≡ length before = both i (length before) low h in
-      (running-all _ _ i fresh (m .told) h,
-      m .list
-      ∙ ap (λ (l : List ℕ). replicate i 1 ++ l) (drop-of-length-le before h)
-      ∙ append-nil (replicate i 1)
-      ∙ ap (λ (n : ℕ). replicate n 1) q)
+      let q : i ≡ length before = both i (length before) low h in (
+        running-all _ _ i fresh (m .told) h,
+        m .list
+            ∙ ap (λ (l : List ℕ). replicate i 1 ++ l) (drop-of-length-le before h)
+            ∙ append-nil (replicate i 1)
+            ∙ ap (λ (n : ℕ). replicate n 1) q,
+      )
     where
       both : (a b : ℕ) → a ≤ b → b ≤ a → a ≡ b
       both a b p q = omega arith

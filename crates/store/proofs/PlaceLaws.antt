@@ -1,12 +1,12 @@
 -- Laws of places. What `inside` tests are three plain bounds, one law out of it and one into it; two places inside a
 -- node's memory are apart exactly if no byte is held by both, since of two that meet the larger base is in both.
 -- Assumes nothing.
-use mathlib.Core.Path.{_≡_, refl, sym, _∙_}
+use mathlib.Core.Path.{_≡_, refl}
 use mathlib.Core.Bool.{Bool, true, false, _&&_, _||_, true≢false, or-comm, or-true}
 use Prim.Native.Nat.{ℕ, _+_, _≤_, _<_}
 use native.Mathlib.Omega.{arith}
 use lib.Dec.{leb, ltb}
-use borrow.Author.Tests.{leb-true, leb-false, ltb-true, le-leb, lt-leb, lt-ltb}
+use borrow.Author.Tests.{leb-true, leb-false, le-leb, lt-leb, lt-ltb}
 use Rattle.loops.proofs.BelowLaws.{and-left, and-right, and-both, test-off}
 use Rattle.store.specs.declared.Place.{Place}
 use Rattle.store.specs.declared.Place.the-variants.{Absent, Present}
@@ -33,9 +33,12 @@ module _ (base length : ℕ) where
   pub inside-in : Inside base length → inside (Present base length) ≡ true
   unfolding inside inRanges endsInside
   inside-in r =
-      simp
-      (lt-ltb base nodeMemory (omega arith), le-leb 1 length (omega arith), le-leb length nodeMemory (omega arith),
-      le-leb (base + length) nodeMemory (omega arith))
+      simp (
+        lt-ltb base nodeMemory (omega arith),
+        le-leb 1 length (omega arith),
+        le-leb length nodeMemory (omega arith),
+        le-leb (base + length) nodeMemory (omega arith),
+      )
 
   pub inside-off : (Inside base length → ⊥) → inside (Present base length) ≡ false
   inside-off f = test-off (inside (Present base length)) (λ e. f (inside-out e))

@@ -3,22 +3,20 @@
 -- Assumes nothing.
 use mathlib.Core.Path.{_≡_, refl, sym, _∙_, subst}
 use mathlib.Core.Bool.{Bool, true, false, _&&_}
-use mathlib.Core.Option.{Option, none, some}
-use Prim.Native.Nat.{ℕ, _+_, _-_, _≤_, _<_}
+use mathlib.Core.Option.{none, some}
+use Prim.Native.Nat.{ℕ, _-_, _≤_, _<_}
 use native.Mathlib.Omega.{arith}
 use lib.Dec.{ltb}
 use borrow.Author.Tests.{ltb-true, ltb-false, lt-ltb}
-use Rattle.loops.specs.Below.{every}
 use Rattle.loops.proofs.BelowLaws.{and-left, and-right, and-both, and-off, test-off, every-pair-at}
 use Rattle.loops.proofs.SearchLaws.{least-none, least-is, least-holds}
-use Rattle.store.specs.declared.Place.{Place}
-use Rattle.store.specs.declared.Place.the-variants.{Absent, Present}
+use Rattle.store.specs.declared.Place.the-variants.{Present}
 use Rattle.store.specs.Records.{nodes, clusters, segments, nodeMemory, Tables, recordOf, placeAt}
 use Rattle.store.specs.Sound.{inside, apart}
 use Rattle.store.specs.Placement.{clear, fits, newBase}
 use Rattle.store.specs.Passes.{nodeClimb}
 use Rattle.store.proofs.PlaceLaws.{Inside, inside-out, inside-in}
-use Rattle.store.proofs.JumpLaws.{Jumps, jumps-node}
+use Rattle.store.proofs.JumpLaws.{jumps-node}
 
 module _ (ts : Tables) (node size : ℕ) where
   -- what fits says: one law out, one in

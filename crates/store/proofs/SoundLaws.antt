@@ -1,27 +1,23 @@
 -- Soundness as facts: one law out of it, `sound-out`, and one into it, `sound-in`, clause by clause; no other law looks
 -- inside `sound`. The starting store is sound: every record in it is inactive and every segment absent.
 -- Assumes nothing.
-use mathlib.Core.Path.{_≡_, refl, sym, ap, _∙_, subst}
+use mathlib.Core.Path.{_≡_, refl, ap, _∙_}
 use mathlib.Core.Logic.{_≢_, _⊎_, inl, inr}
 use mathlib.Core.Bool.{Bool, true, false, _&&_, _||_, or-true}
-use Prim.Native.Nat.{ℕ, _+_, _*_, _/_, _%_, _≤_, _<_}
+use Prim.Native.Nat.{ℕ, _<_}
 use native.Mathlib.Omega.{arith}
 use native.Mathlib.Decide.{ℕ-discrete}
-use lib.Dec.{ltb, eqb}
+use lib.Dec.{eqb}
 use lib.ListN.{getD-replicate}
-use borrow.Author.Tests.{ltb-true, ltb-false, eqb-true, eq-eqb}
+use borrow.Author.Tests.{eqb-true, eq-eqb}
 use Rattle.loops.specs.Below.{every}
-use Rattle.loops.proofs.BelowLaws.{and-left, and-right, and-both, tests-equal, every-in, every-at, every-pair-in, every-pair-at}
-use Rattle.store.specs.declared.Place.{Place}
+use Rattle.loops.proofs.BelowLaws.{and-left, and-right, and-both, every-in, every-at, every-pair-in, every-pair-at}
 use Rattle.store.specs.declared.Segment.{Segment}
 use Rattle.store.specs.declared.Cluster.{Cluster}
 use Rattle.store.specs.declared.Store.{Store}
 use Rattle.store.specs.Records.{nodes, clusters, segments, records, memory, absentSegment, inactive, startingStore}
 use Rattle.store.specs.Records.{tableOf, recordOf, noCluster, clusterAt, tableAt, segmentOf, placeAt}
 use Rattle.store.specs.Sound.{inRanges, endsInside, inside, soundSegment, apart, nodeApart, zeroBytes, idle, settled, sound}
-use Rattle.store.specs.Passes.{free, claimable, claims, nodeMap, clusterSound}
-use Rattle.store.proofs.PlaceLaws.{apart-sym}
-use Rattle.store.proofs.MapLaws.{mapAt, Before, beside, above, unmarked-out, unmarked-in, free-apart, free-in, apart-leaves}
 
 -- the facts of soundness, in the order of its clauses
 pub record Sound (s : Store) (size : ℕ) : Type 0 where
@@ -45,12 +41,16 @@ module _ (s : Store) (size : ℕ) where
   -- the four clauses
   one : Bool
   one = eqb size memory
+
   segment : ℕ → ℕ → Bool
   segment n i = soundSegment (segmentOf (tableAt s n) i)
+
   two : Bool
   two = every records (λ n. every segments (segment n))
+
   three : Bool
   three = every nodes (nodeApart (tableAt s))
+
   four : Bool
   four = every records (λ n. settled (clusterAt s n))
 
@@ -89,6 +89,7 @@ module _ (s : Store) (size : ℕ) where
     where
       front : (one && two && three) ≡ true
       front = and-left (one && two && three) four e
+
       first : (one && two) ≡ true
       first = and-left (one && two) three front
 
@@ -99,6 +100,7 @@ module _ (s : Store) (size : ℕ) where
     where
       other : (l ≢ m) ⊎ (i ≢ j) → pair node l i m j ≡ true
       other d = ap (λ (t : Bool). eqb l m && eqb i j || t) (r .apartness node l i m j hv hl hi hm hj d) ∙ or-true (eqb l m && eqb i j)
+
       go : Dec (l ≡ m) → Dec (i ≡ j) → pair node l i m j ≡ true
       go (yes p) (yes q) = rw (eq-eqb l m p, eq-eqb i j q)
       go (no p) d = other (inl p)
@@ -130,6 +132,7 @@ sound-starting =
   where
     record-at : (n : ℕ) → n < records → clusterAt startingStore n ≡ inactive
     record-at n h = getD-replicate records n inactive noCluster h
+
     vacant : (n i : ℕ) → n < records → i < segments → segmentOf (tableAt startingStore n) i ≡ absentSegment
     vacant n i h k =
         ap (λ (c : Cluster). segmentOf (tableOf c) i) (record-at n h) ∙ getD-replicate segments i absentSegment absentSegment k

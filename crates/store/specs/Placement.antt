@@ -12,7 +12,7 @@ use lib.Dec.{ltb}
 use Rattle.loops.specs.Below.{every}
 use Rattle.loops.specs.Search.{least}
 use Rattle.store.specs.declared.Place.{Place}
-use Rattle.store.specs.declared.Place.the-variants.{Absent, Present}
+use Rattle.store.specs.declared.Place.the-variants.{Present}
 use Rattle.store.specs.declared.Found.{Found}
 use Rattle.store.specs.declared.Found.the-variants.{At, Nowhere}
 use Rattle.store.specs.Records.{nodes, clusters, segments, nodeMemory, Tables, recordOf, placeAt}

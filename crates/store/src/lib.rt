@@ -9,11 +9,17 @@ ghost use Rattle.store.specs.Placement.{found, newBase};
 ghost use Rattle.store.specs.Passes as passes;
 
 pub const NODES: usize = 4;
+
 pub const CLUSTERS: usize = 8;
+
 pub const SEGMENTS: usize = 8;
+
 pub const RECORDS: usize = 32;
+
 pub const NODE_MEMORY: usize = 4096;
+
 pub const MEMORY: usize = 16384;
+
 pub const PASSWORD_SIZE: usize = 16;
 
 pub enum Place {
@@ -45,15 +51,24 @@ pub enum Found {
 pub fn inactive_cluster() -> Cluster
     ensures { λ r. ⌜ r ≡ inactive ⌝ }
 {
-    let segment = Segment { place: Place::Absent };
-    Cluster { active: false, read: [0; PASSWORD_SIZE], write: [0; PASSWORD_SIZE], segments: [segment; SEGMENTS] }
+    let segment = Segment {
+        place: Place::Absent,
+    };
+    Cluster {
+        active: false,
+        read: [0; PASSWORD_SIZE],
+        write: [0; PASSWORD_SIZE],
+        segments: [segment; SEGMENTS],
+    }
 }
 
 pub fn starting() -> Store
     ensures { λ r. ⌜ r ≡ startingStore ⌝ }
 {
     let cluster = inactive_cluster();
-    Store { clusters: [cluster; RECORDS] }
+    Store {
+        clusters: [cluster; RECORDS],
+    }
 }
 
 // Marks every byte of the part and tells whether none was marked. No early exit: a loop without one is quicker here.
@@ -189,7 +204,10 @@ fn past(place: Place, base: usize, size: usize) -> usize
 {
     match place {
         Place::Absent => base,
-        Place::Present { base: start, length } => {
+        Place::Present {
+            base: start,
+            length,
+        } => {
             let from = start as usize;
             let to = from + length as usize;
             if to <= base {

@@ -4,8 +4,6 @@ use Rattle.store.proofs.MarkLaws.{claim-short, claim-long, claim-absent
 use borrow.Author.Needs.{needs}
 use Rattle.store.proofs.claim.Statement.{statement}
 use Rattle.store.proofs.claim.Tie as tie
-use Rattle.store.proofs.claim.Reads as reads
-use Rattle.store.proofs.mark.Reads as mark-reads
 
 returns : tie.Need-returns
 returns c = search (needs, claim-short)

@@ -7,8 +7,6 @@ use Rattle.store.specs.Records.{segments, tableOf, placeOf}
 use Rattle.store.specs.Sound.{isAbsent}
 use Rattle.store.proofs.empty.Statement.{statement}
 use Rattle.store.proofs.empty.Tie as tie
-use Rattle.store.proofs.empty.Reads as reads
-use Rattle.store.proofs.absent.Reads as absent-reads
 
 abbrev Inv-loop : tie.InvT-loop
 Inv-loop cluster ok₀ i₀ ok i = Running segments (λ k. isAbsent (placeOf (tableOf cluster) k)) i ok

@@ -7,8 +7,6 @@ use Rattle.store.proofs.PlacementLaws.{Tried, tried-none, tried-more, t
 use Rattle.store.proofs.PlacementLaws.{base-no-node, base-no-size, base-too-long, base-found, base-rises}
 use Rattle.store.proofs.new_base.Statement.{statement}
 use Rattle.store.proofs.new_base.Tie as tie
-use Rattle.store.proofs.new_base.Reads as reads
-use Rattle.store.proofs.past_node.Reads as past-node-reads
 
 abbrev Inv-loop : tie.InvT-loop
 Inv-loop store node size last base₀ base = Tried (tableAt store) node size base

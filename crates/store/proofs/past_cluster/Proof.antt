@@ -7,8 +7,6 @@ use Rattle.store.specs.Records.{segments, tableOf, placeOf}
 use Rattle.store.specs.Passes.{past, climb}
 use Rattle.store.proofs.past_cluster.Statement.{statement}
 use Rattle.store.proofs.past_cluster.Tie as tie
-use Rattle.store.proofs.past_cluster.Reads as reads
-use Rattle.store.proofs.past.Reads as past-reads
 
 abbrev Inv-loop : tie.InvT-loop
 Inv-loop base size cluster next₀ i₀ next i = Turning segments (λ k. past size (placeOf (tableOf cluster) k)) base i next

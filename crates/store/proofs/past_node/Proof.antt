@@ -7,8 +7,6 @@ use Rattle.store.specs.Records.{clusters, segments, recordOf, tableAt, p
 use Rattle.store.specs.Passes.{climb, nodeClimb}
 use Rattle.store.proofs.past_node.Statement.{statement}
 use Rattle.store.proofs.past_node.Tie as tie
-use Rattle.store.proofs.past_node.Reads as reads
-use Rattle.store.proofs.past_cluster.Reads as past-cluster-reads
 
 abbrev Inv-loop : tie.InvT-loop
 Inv-loop node base size store next₀ local₀ next local = Turning clusters (λ l. climb segments (placeAt (tableAt store) (recordOf node l)) size) base local next

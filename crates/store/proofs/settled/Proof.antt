@@ -4,9 +4,6 @@ use Rattle.store.specs.Sound.{settled, idle}
 use borrow.Author.Needs.{needs}
 use Rattle.store.proofs.settled.Statement.{statement}
 use Rattle.store.proofs.settled.Tie as tie
-use Rattle.store.proofs.settled.Reads as reads
-use Rattle.store.proofs.empty.Reads as empty-reads
-use Rattle.store.proofs.zero.Reads as zero-reads
 
 returns : tie.Need-returns
 unfolding settled idle

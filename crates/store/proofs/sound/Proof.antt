@@ -3,14 +3,12 @@
 use borrow.Author.Needs.{needs}
 use Prim.Native.Nat.{_-_}
 use Rattle.loops.specs.Below.{every}
-use Rattle.loops.proofs.RunningLaws.{Running, running-none, running-more, running-all}
+use Rattle.loops.proofs.RunningLaws.{Running, running-none, running-more}
 use Rattle.store.specs.Records.{nodes, clusters}
 use Rattle.store.specs.Passes.{clusterSound}
 use Rattle.store.proofs.ClaimLaws.{tested-told}
 use Rattle.store.proofs.sound.Statement.{statement}
 use Rattle.store.proofs.sound.Tie as tie
-use Rattle.store.proofs.sound.Reads as reads
-use Rattle.store.proofs.node_sound.Reads as node-sound-reads
 
 abbrev Inv-loop : tie.InvT-loop
 Inv-loop store size ok₀ node₀ ok node = Running nodes (λ v. every clusters (clusterSound store v)) node ok

@@ -7,8 +7,6 @@ use Rattle.store.specs.Records.{records}
 use borrow.Author.Needs.{needs}
 use Rattle.store.proofs.starting.Statement.{statement}
 use Rattle.store.proofs.starting.Tie as tie
-use Rattle.store.proofs.starting.Reads as reads
-use Rattle.store.proofs.inactive_cluster.Reads as inactive-cluster-reads
 
 returns : tie.Need-returns
 returns c = ap (λ (d : Cluster). record { clusters = replicate records d }) (c .inactive-cluster .ensures)
