@@ -17,7 +17,7 @@ use Rattle.store.specs.declared.Segment.{Segment}
 use Rattle.store.specs.declared.Cluster.{Cluster}
 use Rattle.store.specs.declared.Store.{Store}
 use Rattle.store.specs.Records.{nodes, clusters, segments, records, absentSegment, inactive, started}
-use Rattle.store.specs.Records.{Table, tableOf, recordOf, noCluster, clusterAt, tableAt, segmentOf, placeOf, placeAt}
+use Rattle.store.specs.Records.{Table, tableOf, recordOf, noCluster, clusterAt, tableAt, segmentOf, placeOf, placeAt, placeOn}
 use Rattle.store.specs.Records.{putRecord, withPlace}
 use Rattle.store.specs.Sound.{inRanges, endsInside, inside, soundSegment, apart, settled, sound}
 use Rattle.store.specs.Placement.{newBase}
@@ -42,7 +42,7 @@ data Fate (s : Store) (node local new i : ℕ) (g : Segment) : Type 0 where
   kept : g ≡ segmentOf (tableAt s (recordOf node local)) i → Fate s node local new i g
   gone : g ≡ absentSegment → Fate s node local new i g
   fresh : i ≡ new → soundSegment g ≡ true
-      → ((m j : ℕ) → m < clusters → j < segments → apart (g .place) (placeAt (tableAt s) (recordOf node m) j) ≡ true)
+      → ((m j : ℕ) → m < clusters → j < segments → apart (g .place) (placeOn (tableAt s) node m j) ≡ true)
       → Fate s node local new i g
 
 absent-apart : (p : Place) → apart p Absent ≡ true
@@ -58,7 +58,7 @@ module _ (s : Store) (size : ℕ) (r : Sound s size) (node local new : ℕ) (hv 
   fate-sound i g hi (fresh e t f) = t
 
   fate-other : (i m j : ℕ) (g : Segment) → i < segments → m < clusters → j < segments → m ≢ local → Fate s node local new i g
-      → apart (g .place) (placeAt (tableAt s) (recordOf node m) j) ≡ true
+      → apart (g .place) (placeOn (tableAt s) node m j) ≡ true
   unfolding apart
   fate-other i m j g hi hm hj d (kept e) = rw e (r .apartness node local i m j hv hl hi hm hj (inl (λ q. d (sym q))))
   fate-other i m j g hi hm hj d (gone e) = rw e refl
@@ -106,25 +106,25 @@ module _ (s : Store) (size : ℕ) (r : Sound s size) (node local new : ℕ) (hv 
           go (no q) = ap settled (put-other s (recordOf node local) c n q) ∙ r .settling n hn
 
       apart-put : (v l i m j : ℕ) → v < nodes → l < clusters → i < segments → m < clusters → j < segments → (l ≢ m) ⊎ (i ≢ j)
-          → apart (placeAt (tableAt after) (recordOf v l) i) (placeAt (tableAt after) (recordOf v m) j) ≡ true
+          → apart (placeOn (tableAt after) v l i) (placeOn (tableAt after) v m j) ≡ true
       apart-put v l i m j bv bl bi bm bj d = go (ℕ-discrete (recordOf v l) (recordOf node local)) (ℕ-discrete (recordOf v m) (recordOf node local))
         where
           from : (p q : Segment) → segmentOf (tableAt after (recordOf v l)) i ≡ p → segmentOf (tableAt after (recordOf v m)) j ≡ q
               → apart (p .place) (q .place) ≡ true
-              → apart (placeAt (tableAt after) (recordOf v l) i) (placeAt (tableAt after) (recordOf v m) j) ≡ true
+              → apart (placeOn (tableAt after) v l i) (placeOn (tableAt after) v m j) ≡ true
           from p q e f a =
-              ap (λ (g : Segment). apart (g .place) (placeAt (tableAt after) (recordOf v m) j)) e
+              ap (λ (g : Segment). apart (g .place) (placeOn (tableAt after) v m j)) e
               ∙ ap (λ (g : Segment). apart (p .place) (g .place)) f
               ∙ a
 
           mixed : (i m j : ℕ) → i < segments → m < clusters → j < segments → v ≡ node → m ≢ local
-              → apart (placeOf (tableOf c) i) (placeAt (tableAt s) (recordOf v m) j) ≡ true
+              → apart (placeOf (tableOf c) i) (placeOn (tableAt s) v m j) ≡ true
           mixed i m j bi bm bj e u =
-              ap (λ (k : ℕ). apart (placeOf (tableOf c) i) (placeAt (tableAt s) (recordOf k m) j)) e
+              ap (λ (k : ℕ). apart (placeOf (tableOf c) i) (placeOn (tableAt s) k m j)) e
               ∙ fate-other i m j (segmentOf (tableOf c) i) bi bm bj u (fates i bi)
 
           go : Dec (recordOf v l ≡ recordOf node local) → Dec (recordOf v m ≡ recordOf node local)
-              → apart (placeAt (tableAt after) (recordOf v l) i) (placeAt (tableAt after) (recordOf v m) j) ≡ true
+              → apart (placeOn (tableAt after) v l i) (placeOn (tableAt after) v m j) ≡ true
           go (no p) (no q) = from _ _ (there _ i p) (there _ j q) (r .apartness v l i m j bv bl bi bm bj d)
           go (yes p) (yes q) =
               from _ _ (here _ i p) (here _ j q) (fate-own i j _ _ bi bj (other d) (fates i bi) (fates j bj))
@@ -135,7 +135,7 @@ module _ (s : Store) (size : ℕ) (r : Sound s size) (node local new : ℕ) (hv 
           go (yes p) (no q) = from _ _ (here _ i p) (there _ j q) (mixed i m j bi bm bj (omega arith) (λ u. q (omega arith)))
           go (no p) (yes q) =
               from _ _ (there _ i p) (here _ j q)
-              (apart-sym (placeAt (tableAt s) (recordOf v l) i) (placeOf (tableOf c) j)
+              (apart-sym (placeOn (tableAt s) v l i) (placeOf (tableOf c) j)
               ∙ mixed j l i bj bl bi (omega arith) (λ u. p (omega arith)))
 
     sound-put : Sound (putRecord s (recordOf node local) c) size
@@ -173,7 +173,7 @@ module _ (s : Store) (size : ℕ) (e : sound s size ≡ true) (node local : ℕ)
   module _ (i : ℕ) (active : clusterAt s (recordOf node local) .active ≡ true) where
     -- segment i replaced by one that lies inside and is apart from all segments of the node
     one : (p : Place) → soundSegment (record { place = p }) ≡ true
-        → ((m j : ℕ) → m < clusters → j < segments → apart p (placeAt (tableAt s) (recordOf node m) j) ≡ true)
+        → ((m j : ℕ) → m < clusters → j < segments → apart p (placeOn (tableAt s) node m j) ≡ true)
         → sound (putRecord s (recordOf node local) (withPlace (clusterAt s (recordOf node local)) i p)) size ≡ true
     one p t f = put i (withPlace c i p) (settled-active (withPlace c i p) active) (λ k h. fate k (ℕ-discrete k i) (decLt i (length (c .segments))))
       where

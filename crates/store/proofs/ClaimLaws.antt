@@ -14,7 +14,7 @@ use Rattle.loops.proofs.BelowLaws.{and-left, and-right, and-both, tests-equal, 
 use Rattle.loops.proofs.RunningLaws.{Running, running-all}
 use Rattle.store.specs.declared.Place.{Place}
 use Rattle.store.specs.declared.Store.{Store}
-use Rattle.store.specs.Records.{nodes, clusters, segments, memory, recordOf, clusterAt, tableAt, placeAt}
+use Rattle.store.specs.Records.{nodes, clusters, segments, memory, recordOf, clusterAt, tableAt, placeAt, placeOn}
 use Rattle.store.specs.Sound.{inside, soundSegment, apart, settled, sound}
 use Rattle.store.specs.Passes.{free, claimable, claims, nodeMap, clusterSound}
 use Rattle.store.proofs.PlaceLaws.{apart-sym}
@@ -26,8 +26,8 @@ abbrev tested : Store → ℕ → Bool
 tested s size = eqb size memory && every nodes (λ node. every clusters (clusterSound s node))
 
 module _ (s : Store) (size : ℕ) where
-  place : ℕ → ℕ → ℕ → Place
-  place node l i = placeAt (tableAt s) (recordOf node l) i
+  abbrev place : ℕ → ℕ → ℕ → Place
+  place node l i = placeOn (tableAt s) node l i
 
   -- ---- from the code's test to the facts
 
@@ -39,11 +39,11 @@ module _ (s : Store) (size : ℕ) where
 
     module _ (node l i : ℕ) (hv : node < nodes) (hl : l < clusters) (hi : i < segments) where
       claimed : (inside (place node l i) && free (place node l i) (mapAt (tableAt s) node l i)) ≡ true
-      unfolding clusterSound claims claimable mapAt place
+      unfolding clusterSound claims claimable mapAt
       claimed =
           every-at segments (λ i. claimable (place node l i) (mapAt (tableAt s) node l i))
           (and-right (settled (clusterAt s (recordOf node l)))
-          (claims segments (placeAt (tableAt s) (recordOf node l)) (nodeMap (tableAt s) node l))
+          (claims segments (placeOn (tableAt s) node l) (nodeMap (tableAt s) node l))
           (cluster node l hv hl)) i hi
 
       claimed-inside : inside (place node l i) ≡ true
@@ -54,7 +54,6 @@ module _ (s : Store) (size : ℕ) where
 
     apart-before : (node l i m j : ℕ) → node < nodes → l < clusters → i < segments → m < clusters → j < segments
         → Before l i m j → apart (place node l i) (place node m j) ≡ true
-    unfolding place
     apart-before node l i m j hv hl hi hm hj b =
         free-apart (place node l i) (place node m j) (mapAt (tableAt s) node l i)
         (claimed-inside node l i hv hl hi) (claimed-inside node m j hv hm hj) (claimed-free node l i hv hl hi)
@@ -84,7 +83,7 @@ module _ (s : Store) (size : ℕ) where
     split n = omega arith
 
     tested-sound : Sound s size
-    unfolding soundSegment clusterSound place
+    unfolding soundSegment clusterSound
     tested-sound =
         record {
           whole = eqb-true size memory (and-left (eqb size memory) (every nodes (λ node. every clusters (clusterSound s node))) e);
@@ -107,12 +106,11 @@ module _ (s : Store) (size : ℕ) where
 
   module _ (r : Sound s size) where
     sound-inside : (node l i : ℕ) → node < nodes → l < clusters → i < segments → inside (place node l i) ≡ true
-    unfolding soundSegment place
+    unfolding soundSegment
     sound-inside node l i hv hl hi = r .ranged (recordOf node l) i (omega arith) hi
 
     sound-free : (node l i : ℕ) → node < nodes → l < clusters → i < segments
         → free (place node l i) (mapAt (tableAt s) node l i) ≡ true
-    unfolding place
     sound-free node l i hv hl hi =
         free-in (place node l i) (mapAt (tableAt s) node l i) (sound-inside node l i hv hl hi)
         (λ x h o. unmarked-in (tableAt s) node l i x h (λ m j b. apart-leaves (place node l i) (place node m j) x (earlier m j b) o))
@@ -122,7 +120,7 @@ module _ (s : Store) (size : ℕ) where
         earlier m j (above k t) = r .apartness node l i m j hv hl hi (omega arith) t (inl (λ p. omega arith))
 
     sound-tested : tested s size ≡ true
-    unfolding clusterSound claims claimable mapAt place
+    unfolding clusterSound claims claimable mapAt
     sound-tested =
         and-both (eqb size memory) _ (eq-eqb size memory (r .whole))
         (every-pair-in nodes clusters (clusterSound s) (λ node l hv hl.

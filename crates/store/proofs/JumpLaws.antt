@@ -13,7 +13,7 @@ use Rattle.loops.specs.Turns.{turns}
 use Rattle.loops.proofs.BelowLaws.{and-both, and-off}
 use Rattle.store.specs.declared.Place.{Place}
 use Rattle.store.specs.declared.Place.the-variants.{Absent, Present}
-use Rattle.store.specs.Records.{clusters, segments, Tables, recordOf, placeAt}
+use Rattle.store.specs.Records.{clusters, segments, Tables, recordOf, placeAt, placeOn}
 use Rattle.store.specs.Sound.{apart}
 use Rattle.store.specs.Placement.{clear}
 use Rattle.store.specs.Passes.{endOf, past, climb, nodeClimb}
@@ -35,24 +35,27 @@ module _ (size : ℕ) (p : Place) (base : ℕ) where
 
 -- the code's ways through an absent place and a present one
 pub past-absent : (p : Place) (base size : ℕ) → p ≡ Absent → base ≡ past size p base
-unfolding past apart
-past-absent p base size e = rw e refl
+unfolding apart
+past-absent p base size e = rw e (sym (past-apart size Absent base refl))
 
 module _ (p : Place) (base size from length : ℕ) (e : p ≡ Present from length) where
-  there : (r : ℕ) → r ≡ past size (Present from length) base → r ≡ past size p base
-  there r q = rw e q
+  stays-at : apart (Present base size) (Present from length) ≡ true → base ≡ past size p base
+  stays-at t = rw e (sym (past-apart size (Present from length) base t))
+
+  jumps-to : apart (Present base size) (Present from length) ≡ false → from + length ≡ past size p base
+  jumps-to t = rw e (sym (past-meets size (Present from length) base t))
 
   pub past-before : from + length ≤ base → base ≡ past size p base
-  past-before h = there base (sym (past-apart size (Present from length) base (apart-high base size from length h)))
+  past-before h = stays-at (apart-high base size from length h)
 
   pub past-within : base < from + length → from < base → from + length ≡ past size p base
-  past-within h k = there (from + length) (sym (past-meets size (Present from length) base (apart-off base size from length (omega arith) h)))
+  past-within h k = jumps-to (apart-off base size from length (omega arith) h)
 
   pub past-clear : base ≤ from → size ≤ from - base → base ≡ past size p base
-  past-clear h k = there base (sym (past-apart size (Present from length) base (apart-low base size from length (omega arith))))
+  past-clear h k = stays-at (apart-low base size from length (omega arith))
 
   pub past-over : base < from + length → base ≤ from → from - base < size → from + length ≡ past size p base
-  past-over h k l = there (from + length) (sym (past-meets size (Present from length) base (apart-off base size from length (omega arith) h)))
+  past-over h k l = jumps-to (apart-off base size from length (omega arith) h)
 
 -- ---- one place, and any number of them
 
@@ -62,45 +65,49 @@ pub record Jumps (t : ℕ → Bool) (f : ℕ → ℕ) : Type 0 where
   pub stays : (b : ℕ) → f b ≡ b → t b ≡ true
   pub skips : (b k : ℕ) → b ≤ k → k < f b → t k ≡ false
 
+jumps-nowhere : Jumps (λ b. true) (λ b. b)
+jumps-nowhere = record { rises = λ b. omega arith; stays = λ b e. refl; skips = λ b k h l. absurd (omega arith) }
+
+module _ (size from length : ℕ) where
+  abbrev here : Place
+  here = Present from length
+
+  place-rises : (b : ℕ) (t : Bool) → apart (Present b size) here ≡ t → b ≤ past size here b
+  place-rises b true e = let h = past-apart size here b e in omega arith
+  place-rises b false e =
+      let h = past-meets size here b e in
+      let m = apart-meet b size from length e in
+      omega arith
+
+  place-stays : (b : ℕ) → past size here b ≡ b → (t : Bool) → apart (Present b size) here ≡ t → t ≡ true
+  place-stays b s true e = refl
+  place-stays b s false e =
+      let h = past-meets size here b e in
+      let m = apart-meet b size from length e in
+      absurd (omega arith)
+
+  place-skips : (b k : ℕ) → b ≤ k → k < past size here b → (t : Bool) → apart (Present b size) here ≡ t
+      → apart (Present k size) here ≡ false
+  place-skips b k a l true e = let h = past-apart size here b e in absurd (omega arith)
+  place-skips b k a l false e =
+      let h = past-meets size here b e in
+      let m = apart-meet b size from length e in
+      apart-off k size from length (omega arith) (omega arith)
+
 jumps-place : (size : ℕ) (p : Place) → Jumps (λ b. apart (Present b size) p) (past size p)
 unfolding apart past
-jumps-place size Absent = record { rises = λ b. omega arith; stays = λ b e. refl; skips = λ b k h l. absurd (omega arith) }
+jumps-place size Absent = jumps-nowhere
 jumps-place size (Present from length) =
     record {
-      rises = λ b. rises b (apart (Present b size) q) refl;
-      stays = λ b e. stays b e (apart (Present b size) q) refl;
-      skips = λ b k h l. skips b k h l (apart (Present b size) q) refl;
+      rises = λ b. place-rises size from length b (apart (Present b size) (Present from length)) refl;
+      stays = λ b e. place-stays size from length b e (apart (Present b size) (Present from length)) refl;
+      skips = λ b k h l. place-skips size from length b k h l (apart (Present b size) (Present from length)) refl;
     }
-  where
-    q : Place
-    q = Present from length
-
-    rises : (b : ℕ) (t : Bool) → apart (Present b size) (Present from length) ≡ t → b ≤ past size (Present from length) b
-    rises b true e = let h = past-apart size (Present from length) b e in omega arith
-    rises b false e =
-        let h = past-meets size (Present from length) b e in
-        let m = apart-meet b size from length e in
-        omega arith
-
-    stays : (b : ℕ) → past size (Present from length) b ≡ b → (t : Bool) → apart (Present b size) (Present from length) ≡ t → t ≡ true
-    stays b s true e = refl
-    stays b s false e =
-        let h = past-meets size (Present from length) b e in
-        let m = apart-meet b size from length e in
-        absurd (omega arith)
-
-    skips : (b k : ℕ) → b ≤ k → k < past size (Present from length) b → (t : Bool) → apart (Present b size) (Present from length) ≡ t
-        → apart (Present k size) (Present from length) ≡ false
-    skips b k a l true e = let h = past-apart size (Present from length) b e in absurd (omega arith)
-    skips b k a l false e =
-        let h = past-meets size (Present from length) b e in
-        let m = apart-meet b size from length e in
-        apart-off k size from length (omega arith) (omega arith)
 
 jumps-turns : (n : ℕ) (t : ℕ → ℕ → Bool) (f : ℕ → ℕ → ℕ) → ((i : ℕ) → Jumps (t i) (f i))
     → Jumps (λ b. every n (λ i. t i b)) (turns n f)
 unfolding every turns
-jumps-turns zero t f j = record { rises = λ b. omega arith; stays = λ b e. refl; skips = λ b k h l. absurd (omega arith) }
+jumps-turns zero t f j = jumps-nowhere
 jumps-turns (suc n) t f j = more (jumps-turns n t f j)
   where
     more : Jumps (λ b. every n (λ i. t i b)) (turns n f) → Jumps (λ b. every (suc n) (λ i. t i b)) (turns (suc n) f)
@@ -129,9 +136,9 @@ pub jumps-node : (ts : Tables) (node size : ℕ) → Jumps (λ b. clear ts node 
 unfolding nodeClimb climb clear
 jumps-node ts node size =
     jumps-turns clusters
-    (λ l b. every segments (λ i. apart (Present b size) (placeAt ts (recordOf node l) i)))
-    (λ l. turns segments (λ i. past size (placeAt ts (recordOf node l) i)))
+    (λ l b. every segments (λ i. apart (Present b size) (placeOn ts node l i)))
+    (λ l. turns segments (λ i. past size (placeOn ts node l i)))
     (λ l. jumps-turns segments
-    (λ i b. apart (Present b size) (placeAt ts (recordOf node l) i))
-    (λ i. past size (placeAt ts (recordOf node l) i))
-    (λ i. jumps-place size (placeAt ts (recordOf node l) i)))
+    (λ i b. apart (Present b size) (placeOn ts node l i))
+    (λ i. past size (placeOn ts node l i))
+    (λ i. jumps-place size (placeOn ts node l i)))

@@ -17,7 +17,7 @@ use Rattle.loops.specs.Turns.{turns}
 use Rattle.loops.proofs.BelowLaws.{and-left, and-right, and-both, and-off, test-off, every-in, every-at, every-pair-in, every-pair-at}
 use Rattle.store.specs.declared.Place.{Place}
 use Rattle.store.specs.declared.Place.the-variants.{Absent, Present}
-use Rattle.store.specs.Records.{segments, nodeMemory, Tables, recordOf, placeAt}
+use Rattle.store.specs.Records.{segments, nodeMemory, Tables, recordOf, placeAt, placeOn}
 use Rattle.store.specs.Sound.{inside, apart}
 use Rattle.store.specs.Passes.{free, marked, stamped, stampedBy, blank, nodeMap}
 use Rattle.store.proofs.PlaceLaws.{Inside, inside-out, holds, holds-in, Meet, apart-meet, apart-off}
@@ -124,16 +124,16 @@ pub data Before (l i m j : ℕ) : Type 0 where
   above : m < l → j < segments → Before l i m j
 
 module _ (ts : Tables) (node : ℕ) where
-  place : ℕ → ℕ → Place
-  place l i = placeAt ts (recordOf node l) i
+  abbrev place : ℕ → ℕ → Place
+  place l i = placeOn ts node l i
 
-  stamps-cluster : (l n : ℕ) → Stamps (λ x. every n (λ i. leaves x (place l i))) (stampedBy n (placeAt ts (recordOf node l)))
-  unfolding stampedBy place
+  stamps-cluster : (l n : ℕ) → Stamps (λ x. every n (λ i. leaves x (place l i))) (stampedBy n (placeOn ts node l))
+  unfolding stampedBy
   stamps-cluster l n = stamps-turns n (λ i x. leaves x (place l i)) (λ i. stamped (place l i)) (λ i. stamps-place (place l i))
 
   -- the map before the turn of segment i of cluster l
   unfoldable pub mapAt : ℕ → ℕ → List ℕ
-  mapAt l i = stampedBy i (placeAt ts (recordOf node l)) (nodeMap ts node l)
+  mapAt l i = stampedBy i (placeOn ts node l) (nodeMap ts node l)
 
   blank-length : length blank ≡ nodeMemory
   blank-length = length-replicate {A = ℕ} nodeMemory 0
@@ -141,12 +141,12 @@ module _ (ts : Tables) (node : ℕ) where
   earlier : ℕ → ℕ → Bool
   earlier l x = every l (λ m. every segments (λ j. leaves x (place m j)))
 
-  stamps-node : (l : ℕ) → Stamps (earlier l) (turns l (λ m. stampedBy segments (placeAt ts (recordOf node m))))
+  stamps-node : (l : ℕ) → Stamps (earlier l) (turns l (λ m. stampedBy segments (placeOn ts node m)))
   unfolding earlier
   stamps-node l =
       stamps-turns l
       (λ m x. every segments (λ j. leaves x (place m j)))
-      (λ m. stampedBy segments (placeAt ts (recordOf node m)))
+      (λ m. stampedBy segments (placeOn ts node m))
       (λ m. stamps-cluster m segments)
 
   byte-at : (l i x : ℕ) → x < nodeMemory → unmarked x (mapAt l i) ≡ every i (λ j. leaves x (place l j)) && earlier l x
@@ -159,8 +159,8 @@ module _ (ts : Tables) (node : ℕ) where
       ∙ and-true (earlier l x))
 
   pub unmarked-out : (l i m j x : ℕ) → x < nodeMemory → unmarked x (mapAt l i) ≡ true → Before l i m j
-      → leaves x (placeAt ts (recordOf node m) j) ≡ true
-  unfolding earlier place
+      → leaves x (placeOn ts node m j) ≡ true
+  unfolding earlier
   unmarked-out l i m j x h e b = go b
     where
       both : (every i (λ j. leaves x (place l j)) && earlier l x) ≡ true
@@ -175,8 +175,8 @@ module _ (ts : Tables) (node : ℕ) where
           (and-right (every i (λ j. leaves x (place l j))) (earlier l x) both) m j k t
 
   pub unmarked-in : (l i x : ℕ) → x < nodeMemory
-      → ((m j : ℕ) → Before l i m j → leaves x (placeAt ts (recordOf node m) j) ≡ true) → unmarked x (mapAt l i) ≡ true
-  unfolding earlier place
+      → ((m j : ℕ) → Before l i m j → leaves x (placeOn ts node m j) ≡ true) → unmarked x (mapAt l i) ≡ true
+  unfolding earlier
   unmarked-in l i x h f =
       byte-at l i x h
       ∙ and-both (every i (λ j. leaves x (place l j))) (earlier l x)

@@ -19,7 +19,7 @@ use Rattle.store.specs.declared.Place.{Place}
 use Rattle.store.specs.declared.Place.the-variants.{Absent, Present}
 use Rattle.store.specs.declared.Cluster.{Cluster}
 use Rattle.store.specs.declared.Store.{Store}
-use Rattle.store.specs.Records.{clusters, segments, nodeMemory, tableOf, recordOf, clusterAt, tableAt, placeOf, placeAt}
+use Rattle.store.specs.Records.{clusters, segments, nodeMemory, tableOf, recordOf, clusterAt, tableAt, placeOf, placeAt, placeOn}
 use Rattle.store.specs.Sound.{inside, inRanges, endsInside, settled}
 use Rattle.store.specs.Passes.{zeros, free, marked, stamped, claimable, stampedBy, claims, Claimed, ClaimedAll, blank, nodeMap, clusterSound}
 use Rattle.store.proofs.PlaceLaws.{Inside, inside-in, inside-off}
@@ -158,7 +158,7 @@ module _ (c : Cluster) (before : List ℕ) (i : ℕ) (ok : Bool) (map : List ℕ
 -- l clusters had their turn
 pub record Passing (s : Store) (node l : ℕ) (ok : Bool) (map : List ℕ) : Type 0 where
   pub told : Running clusters (clusterSound s node) l ok
-  pub left : Turning clusters (λ m. stampedBy segments (placeAt (tableAt s) (recordOf node m))) blank l map
+  pub left : Turning clusters (λ m. stampedBy segments (placeOn (tableAt s) node m)) blank l map
 
 pub passing-none : (s : Store) (node : ℕ) → Passing s node 0 true blank
 passing-none s node = record { told = running-none _ _; left = turning-none _ _ _ }
@@ -175,7 +175,7 @@ module _ (s : Store) (node l : ℕ) (ok : Bool) (map : List ℕ) (w : Passing s 
             running-more _ _ l ok (w .told) (a && b) h
             (ap (λ (x : Bool). x && b) e
             ∙ ap (λ (x : Bool). settled (clusterAt s (recordOf node l)) && x)
-            (f .told ∙ ap (λ (m : List ℕ). claims segments (placeAt (tableAt s) (recordOf node l)) m) (w .left .told)));
+            (f .told ∙ ap (λ (m : List ℕ). claims segments (placeOn (tableAt s) node l) m) (w .left .told)));
         left = turning-more _ _ blank l map (w .left) after h (f .left);
       }
 

@@ -11,7 +11,7 @@ use borrow.Author.Tests.{ltb-true, ltb-false, lt-ltb}
 use Rattle.loops.proofs.BelowLaws.{and-left, and-right, and-both, and-off, test-off, every-pair-at}
 use Rattle.loops.proofs.SearchLaws.{least-none, least-is, least-holds}
 use Rattle.store.specs.declared.Place.the-variants.{Present}
-use Rattle.store.specs.Records.{nodes, clusters, segments, nodeMemory, Tables, recordOf, placeAt}
+use Rattle.store.specs.Records.{nodes, clusters, segments, nodeMemory, Tables, recordOf, placeAt, placeOn}
 use Rattle.store.specs.Sound.{inside, apart}
 use Rattle.store.specs.Placement.{clear, fits, newBase}
 use Rattle.store.specs.Passes.{nodeClimb}
@@ -23,7 +23,7 @@ module _ (ts : Tables) (node size : ℕ) where
   pub record Fits (base : ℕ) : Type 0 where
     pub known : node < nodes
     pub within : inside (Present base size) ≡ true
-    pub free : (l i : ℕ) → l < clusters → i < segments → apart (Present base size) (placeAt ts (recordOf node l) i) ≡ true
+    pub free : (l i : ℕ) → l < clusters → i < segments → apart (Present base size) (placeOn ts node l i) ≡ true
 
   pub fits-out : (base : ℕ) → fits ts node size base ≡ true → Fits base
   unfolding fits clear
@@ -34,7 +34,7 @@ module _ (ts : Tables) (node size : ℕ) where
         known = ltb-true node nodes (and-left (ltb node nodes) (inside (Present base size)) f);
         within = and-right (ltb node nodes) (inside (Present base size)) f;
         free =
-            every-pair-at clusters segments (λ l i. apart (Present base size) (placeAt ts (recordOf node l) i))
+            every-pair-at clusters segments (λ l i. apart (Present base size) (placeOn ts node l i))
             (and-right front (clear ts node (Present base size)) e);
       }
 

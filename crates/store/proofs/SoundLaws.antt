@@ -16,7 +16,7 @@ use Rattle.store.specs.declared.Segment.{Segment}
 use Rattle.store.specs.declared.Cluster.{Cluster}
 use Rattle.store.specs.declared.Store.{Store}
 use Rattle.store.specs.Records.{nodes, clusters, segments, records, memory, absentSegment, inactive, startingStore}
-use Rattle.store.specs.Records.{tableOf, recordOf, noCluster, clusterAt, tableAt, segmentOf, placeAt}
+use Rattle.store.specs.Records.{tableOf, recordOf, noCluster, clusterAt, tableAt, segmentOf, placeAt, placeOn}
 use Rattle.store.specs.Sound.{inRanges, endsInside, inside, soundSegment, apart, nodeApart, zeroBytes, idle, settled, sound}
 
 -- the facts of soundness, in the order of its clauses
@@ -24,7 +24,7 @@ pub record Sound (s : Store) (size : ℕ) : Type 0 where
   pub whole : size ≡ memory
   pub ranged : (n i : ℕ) → n < records → i < segments → soundSegment (segmentOf (tableAt s n) i) ≡ true
   pub apartness : (node l i m j : ℕ) → node < nodes → l < clusters → i < segments → m < clusters → j < segments → (l ≢ m) ⊎ (i ≢ j)
-      → apart (placeAt (tableAt s) (recordOf node l) i) (placeAt (tableAt s) (recordOf node m) j) ≡ true
+      → apart (placeOn (tableAt s) node l i) (placeOn (tableAt s) node m j) ≡ true
   pub settling : (n : ℕ) → n < records → settled (clusterAt s n) ≡ true
 
 pub settled-active : (c : Cluster) → c .active ≡ true → settled c ≡ true
@@ -56,16 +56,16 @@ module _ (s : Store) (size : ℕ) where
 
   -- a pair of the third clause: one segment, or two apart
   pair : ℕ → ℕ → ℕ → ℕ → ℕ → Bool
-  pair node l i m j = eqb l m && eqb i j || apart (placeAt (tableAt s) (recordOf node l) i) (placeAt (tableAt s) (recordOf node m) j)
+  pair node l i m j = eqb l m && eqb i j || apart (placeOn (tableAt s) node l i) (placeOn (tableAt s) node m j)
 
   pair-out : (node l i m j : ℕ) → (l ≢ m) ⊎ (i ≢ j) → pair node l i m j ≡ true
-      → apart (placeAt (tableAt s) (recordOf node l) i) (placeAt (tableAt s) (recordOf node m) j) ≡ true
+      → apart (placeOn (tableAt s) node l i) (placeOn (tableAt s) node m j) ≡ true
   unfolding pair
   pair-out node l i m j d e = go (eqb l m && eqb i j) refl e
     where
       go : (t : Bool) → (eqb l m && eqb i j) ≡ t
-          → (t || apart (placeAt (tableAt s) (recordOf node l) i) (placeAt (tableAt s) (recordOf node m) j)) ≡ true
-          → apart (placeAt (tableAt s) (recordOf node l) i) (placeAt (tableAt s) (recordOf node m) j) ≡ true
+          → (t || apart (placeOn (tableAt s) node l i) (placeOn (tableAt s) node m j)) ≡ true
+          → apart (placeOn (tableAt s) node l i) (placeOn (tableAt s) node m j) ≡ true
       go false q e = e
       go true q e = absurd (differ d)
         where
@@ -126,7 +126,7 @@ sound-starting =
       whole = refl;
       ranged = λ n i hn hi. ap soundSegment (vacant n i hn hi);
       apartness = λ node l i m j hv hl hi hm hj d.
-          ap (λ (g : Segment). apart (g .place) (placeAt (tableAt startingStore) (recordOf node m) j)) (vacant (recordOf node l) i (omega arith) hi);
+          ap (λ (g : Segment). apart (g .place) (placeOn (tableAt startingStore) node m j)) (vacant (recordOf node l) i (omega arith) hi);
       settling = λ n hn. ap settled (record-at n hn) ∙ settled-inactive;
     })
   where

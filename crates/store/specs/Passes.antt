@@ -26,7 +26,7 @@ use Rattle.store.specs.declared.Place.{Place}
 use Rattle.store.specs.declared.Place.the-variants.{Absent, Present}
 use Rattle.store.specs.declared.Cluster.{Cluster}
 use Rattle.store.specs.declared.Store.{Store}
-use Rattle.store.specs.Records.{clusters, segments, nodeMemory, Tables, tableOf, recordOf, clusterAt, tableAt, placeOf, placeAt}
+use Rattle.store.specs.Records.{clusters, segments, nodeMemory, Tables, tableOf, recordOf, clusterAt, tableAt, placeOf, placeAt, placeOn}
 use Rattle.store.specs.Sound.{inside, apart, settled}
 
 -- ---- marking bytes
@@ -66,12 +66,12 @@ abbrev pub blank : List ℕ
 blank = replicate nodeMemory 0
 
 unfoldable pub nodeMap : Tables → ℕ → ℕ → List ℕ
-nodeMap ts node l = turns l (λ m. stampedBy segments (placeAt ts (recordOf node m))) blank
+nodeMap ts node l = turns l (λ m. stampedBy segments (placeOn ts node m)) blank
 
 unfoldable pub clusterSound : Store → ℕ → ℕ → Bool
 clusterSound s node l =
     settled (clusterAt s (recordOf node l))
-    && claims segments (placeAt (tableAt s) (recordOf node l)) (nodeMap (tableAt s) node l)
+    && claims segments (placeOn (tableAt s) node l) (nodeMap (tableAt s) node l)
 
 -- ---- jumping from end to end
 
@@ -86,4 +86,4 @@ unfoldable pub climb : ℕ → (ℕ → Place) → ℕ → ℕ → ℕ
 climb n ps size base = turns n (λ i. past size (ps i)) base
 
 unfoldable pub nodeClimb : Tables → ℕ → ℕ → ℕ → ℕ
-nodeClimb ts node size base = turns clusters (λ l. climb segments (placeAt ts (recordOf node l)) size) base
+nodeClimb ts node size base = turns clusters (λ l. climb segments (placeOn ts node l) size) base

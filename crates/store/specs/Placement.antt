@@ -15,11 +15,11 @@ use Rattle.store.specs.declared.Place.{Place}
 use Rattle.store.specs.declared.Place.the-variants.{Present}
 use Rattle.store.specs.declared.Found.{Found}
 use Rattle.store.specs.declared.Found.the-variants.{At, Nowhere}
-use Rattle.store.specs.Records.{nodes, clusters, segments, nodeMemory, Tables, recordOf, placeAt}
+use Rattle.store.specs.Records.{nodes, clusters, segments, nodeMemory, Tables, recordOf, placeAt, placeOn}
 use Rattle.store.specs.Sound.{inside, apart}
 
 unfoldable pub clear : Tables → ℕ → Place → Bool
-clear ts node p = every clusters (λ l. every segments (λ i. apart p (placeAt ts (recordOf node l) i)))
+clear ts node p = every clusters (λ l. every segments (λ i. apart p (placeOn ts node l i)))
 
 unfoldable pub fits : Tables → ℕ → ℕ → ℕ → Bool
 fits ts node size base = ltb node nodes && inside (Present base size) && clear ts node (Present base size)

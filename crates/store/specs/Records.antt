@@ -10,9 +10,10 @@
 --     recordOf                     the number of the record of a node's cluster
 --     clusterAt, tableAt           record n of the store, and its table
 --     segmentOf, placeOf, placeAt  segment i of a table, its place, and the place in table n
+--     placeOn                      the place of segment i of a node's cluster
 --     putRecord                    the store with record n replaced
 --     withSegment, withPlace       the record with segment i, or its place, replaced
--- What lies past an array's end is the element that the code's own reads give there: an inactive cluster, an absent segment.
+-- Past an array's end lies what the code's own reads give there: an inactive cluster, an absent segment.
 -- Assumes nothing.
 use Prim.Native.Nat.{ℕ, _+_, _*_}
 use mathlib.Core.Bool.{Bool, true, false}
@@ -98,6 +99,9 @@ placeOf t i = segmentOf t i .place
 
 abbrev pub placeAt : Tables → ℕ → ℕ → Place
 placeAt ts n i = placeOf (ts n) i
+
+abbrev pub placeOn : Tables → ℕ → ℕ → ℕ → Place
+placeOn ts node local i = placeAt ts (recordOf node local) i
 
 -- ---- changing them
 

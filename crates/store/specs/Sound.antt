@@ -22,7 +22,7 @@ use Rattle.store.specs.declared.Segment.{Segment}
 use Rattle.store.specs.declared.Cluster.{Cluster}
 use Rattle.store.specs.declared.Store.{Store}
 use Rattle.store.specs.Records.{nodes, clusters, segments, records, nodeMemory, memory, passwordSize}
-use Rattle.store.specs.Records.{Tables, tableOf, recordOf, clusterAt, tableAt, segmentOf, placeOf, placeAt}
+use Rattle.store.specs.Records.{Tables, tableOf, recordOf, clusterAt, tableAt, segmentOf, placeOf, placeAt, placeOn}
 
 unfoldable pub inRanges : Place → Bool
 inRanges Absent = true
@@ -50,7 +50,7 @@ nodeApart ts node =
     (λ l. every segments
     (λ i. every clusters
     (λ m. every segments
-    (λ j. eqb l m && eqb i j || apart (placeAt ts (recordOf node l) i) (placeAt ts (recordOf node m) j)))))
+    (λ j. eqb l m && eqb i j || apart (placeOn ts node l i) (placeOn ts node m j)))))
 
 abbrev pub isAbsent : Place → Bool
 isAbsent Absent = true

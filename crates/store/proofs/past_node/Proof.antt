@@ -3,13 +3,13 @@
 use borrow.Author.Needs.{needs}
 use Prim.Native.Nat.{_-_}
 use Rattle.loops.proofs.TurnLaws.{Turning, turning-none, turning-more, turning-all}
-use Rattle.store.specs.Records.{clusters, segments, recordOf, tableAt, placeAt}
+use Rattle.store.specs.Records.{clusters, segments, tableAt, placeOn}
 use Rattle.store.specs.Passes.{climb, nodeClimb}
 use Rattle.store.proofs.past_node.Statement.{statement}
 use Rattle.store.proofs.past_node.Tie as tie
 
 abbrev Inv-loop : tie.InvT-loop
-Inv-loop node base size store next₀ local₀ next local = Turning clusters (λ l. climb segments (placeAt (tableAt store) (recordOf node l)) size) base local next
+Inv-loop node base size store next₀ local₀ next local = Turning clusters (λ l. climb segments (placeOn (tableAt store) node l) size) base local next
 
 abbrev μ-loop : tie.MeasureT-loop
 μ-loop node base size store next₀ local₀ next local = clusters - local
