@@ -4,8 +4,8 @@ use borrow.Author.Needs.{needs}
 use Prim.Native.Nat.{_-_}
 use lib.ListN.{length}
 use Rattle.store.proofs.MarkLaws.{Marking, marking-none, marking-more, marking-all}
-use Rattle.store.proofs.mark.Statement.{statement}
-use Rattle.store.proofs.mark.Tie as tie
+use Rattle.store.proofs.soundness.mark.Statement.{statement}
+use Rattle.store.proofs.soundness.mark.Tie as tie
 
 abbrev Inv-loop : tie.InvT-loop
 Inv-loop part₀ fresh₀ i₀ part fresh i = Marking part₀ part fresh i

@@ -6,8 +6,8 @@ use mathlib.Core.Path.{_≡_}
 use lib.ListN.{length}
 use Rattle.store.specs.Records.{segments, nodeMemory}
 use Rattle.store.proofs.MarkLaws.{Claiming, claiming-none, claiming-more, claiming-all}
-use Rattle.store.proofs.claim_all.Statement.{statement}
-use Rattle.store.proofs.claim_all.Tie as tie
+use Rattle.store.proofs.soundness.claim_all.Statement.{statement}
+use Rattle.store.proofs.soundness.claim_all.Tie as tie
 
 abbrev Inv-loop : tie.InvT-loop
 Inv-loop map₀ cluster ok₀ i₀ map ok i = Claiming cluster map₀ i ok map × (length map ≡ nodeMemory)

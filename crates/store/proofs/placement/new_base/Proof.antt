@@ -5,8 +5,8 @@ use Prim.Native.Nat.{_-_}
 use Rattle.store.specs.Records.{nodeMemory, tableAt}
 use Rattle.store.proofs.PlacementLaws.{Tried, tried-none, tried-more, tried-all}
 use Rattle.store.proofs.PlacementLaws.{base-no-node, base-no-size, base-too-long, base-found, base-rises}
-use Rattle.store.proofs.new_base.Statement.{statement}
-use Rattle.store.proofs.new_base.Tie as tie
+use Rattle.store.proofs.placement.new_base.Statement.{statement}
+use Rattle.store.proofs.placement.new_base.Tie as tie
 
 abbrev Inv-loop : tie.InvT-loop
 Inv-loop store node size last base₀ base = Tried (tableAt store) node size base

@@ -6,8 +6,8 @@ use mathlib.Core.Path.{_≡_}
 use lib.ListN.{length}
 use Rattle.store.specs.Records.{clusters, nodeMemory}
 use Rattle.store.proofs.MarkLaws.{Passing, passing-none, passing-more, passing-all}
-use Rattle.store.proofs.node_sound.Statement.{statement}
-use Rattle.store.proofs.node_sound.Tie as tie
+use Rattle.store.proofs.soundness.node_sound.Statement.{statement}
+use Rattle.store.proofs.soundness.node_sound.Tie as tie
 
 abbrev Inv-loop : tie.InvT-loop
 Inv-loop node store map₀ ok₀ local₀ map ok local = Passing store node local ok map × (length map ≡ nodeMemory)

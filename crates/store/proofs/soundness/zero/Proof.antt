@@ -7,8 +7,8 @@ use lib.ListN.{getD}
 use Rattle.loops.proofs.RunningLaws.{Running, running-none, running-more, running-all}
 use Rattle.store.specs.Records.{passwordSize}
 use Rattle.store.specs.Sound.{zeroBytes}
-use Rattle.store.proofs.zero.Statement.{statement}
-use Rattle.store.proofs.zero.Tie as tie
+use Rattle.store.proofs.soundness.zero.Statement.{statement}
+use Rattle.store.proofs.soundness.zero.Tie as tie
 
 abbrev Inv-loop : tie.InvT-loop
 Inv-loop password ok₀ i₀ ok i = Running passwordSize (λ k. eqb (getD password k 0) 0) i ok

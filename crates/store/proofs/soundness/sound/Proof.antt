@@ -7,8 +7,8 @@ use Rattle.loops.proofs.RunningLaws.{Running, running-none, running-more}
 use Rattle.store.specs.Records.{nodes, clusters}
 use Rattle.store.specs.Passes.{clusterSound}
 use Rattle.store.proofs.ClaimLaws.{tested-told}
-use Rattle.store.proofs.sound.Statement.{statement}
-use Rattle.store.proofs.sound.Tie as tie
+use Rattle.store.proofs.soundness.sound.Statement.{statement}
+use Rattle.store.proofs.soundness.sound.Tie as tie
 
 abbrev Inv-loop : tie.InvT-loop
 Inv-loop store size ok₀ node₀ ok node = Running nodes (λ v. every clusters (clusterSound store v)) node ok

@@ -5,8 +5,8 @@ use Prim.Native.Nat.{_-_}
 use Rattle.loops.proofs.RunningLaws.{Running, running-none, running-more, running-all}
 use Rattle.store.specs.Records.{segments, tableOf, placeOf}
 use Rattle.store.specs.Sound.{isAbsent}
-use Rattle.store.proofs.empty.Statement.{statement}
-use Rattle.store.proofs.empty.Tie as tie
+use Rattle.store.proofs.soundness.empty.Statement.{statement}
+use Rattle.store.proofs.soundness.empty.Tie as tie
 
 abbrev Inv-loop : tie.InvT-loop
 Inv-loop cluster ok₀ i₀ ok i = Running segments (λ k. isAbsent (placeOf (tableOf cluster) k)) i ok

@@ -2,8 +2,8 @@
 -- Assumes nothing.
 use Rattle.store.specs.Sound.{settled, idle}
 use borrow.Author.Needs.{needs}
-use Rattle.store.proofs.settled.Statement.{statement}
-use Rattle.store.proofs.settled.Tie as tie
+use Rattle.store.proofs.soundness.settled.Statement.{statement}
+use Rattle.store.proofs.soundness.settled.Tie as tie
 
 returns : tie.Need-returns
 unfolding settled idle

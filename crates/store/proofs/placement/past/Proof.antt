@@ -2,8 +2,8 @@
 -- Assumes nothing.
 use Rattle.store.proofs.JumpLaws.{past-before, past-within, past-clear, past-over, past-absent}
 use borrow.Author.Needs.{needs}
-use Rattle.store.proofs.past.Statement.{statement}
-use Rattle.store.proofs.past.Tie as tie
+use Rattle.store.proofs.placement.past.Statement.{statement}
+use Rattle.store.proofs.placement.past.Tie as tie
 
 returns : tie.Need-returns
 returns c = search (needs, past-before)

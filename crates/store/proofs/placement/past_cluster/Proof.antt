@@ -1,18 +1,18 @@
--- The loop carries the base through the clusters so far.
+-- The loop carries the base through the segments so far.
 -- Assumes nothing.
 use borrow.Author.Needs.{needs}
 use Prim.Native.Nat.{_-_}
 use Rattle.loops.proofs.TurnLaws.{Turning, turning-none, turning-more, turning-all}
-use Rattle.store.specs.Records.{clusters, segments, tableAt, placeOn}
-use Rattle.store.specs.Passes.{climb, nodeClimb}
-use Rattle.store.proofs.past_node.Statement.{statement}
-use Rattle.store.proofs.past_node.Tie as tie
+use Rattle.store.specs.Records.{segments, tableOf, placeOf}
+use Rattle.store.specs.Passes.{past, climb}
+use Rattle.store.proofs.placement.past_cluster.Statement.{statement}
+use Rattle.store.proofs.placement.past_cluster.Tie as tie
 
 abbrev Inv-loop : tie.InvT-loop
-Inv-loop node base size store next₀ local₀ next local = Turning clusters (λ l. climb segments (placeOn (tableAt store) node l) size) base local next
+Inv-loop base size cluster next₀ i₀ next i = Turning segments (λ k. past size (placeOf (tableOf cluster) k)) base i next
 
 abbrev μ-loop : tie.MeasureT-loop
-μ-loop node base size store next₀ local₀ next local = clusters - local
+μ-loop base size cluster next₀ i₀ next i = segments - i
 
 loop-holds : tie.Need-loop-holds Inv-loop μ-loop
 loop-holds c = turning-none _ _ _
@@ -21,18 +21,16 @@ loop-again : tie.Need-loop-again Inv-loop μ-loop
 loop-again c = search (needs, turning-more)
 
 returns : tie.Need-returns Inv-loop μ-loop
-unfolding nodeClimb
+unfolding climb
 returns c = search (needs, turning-all)
 
-pub past-node-spec : {M : Type 1} → statement M
-past-node-spec =
+pub past-cluster-spec : {M : Type 1} → statement M
+past-cluster-spec =
     tie.close
     (tie.spec
     Inv-loop
     μ-loop
     loop-holds
-    (λ c. search needs)
-    (λ c. search needs)
     (λ c. search needs)
     (λ c. search needs)
     (λ c κs. search needs)

@@ -2,8 +2,8 @@
 -- Assumes nothing.
 use Rattle.store.proofs.MarkLaws.{claim-short, claim-long, claim-absent, claim-mark}
 use borrow.Author.Needs.{needs}
-use Rattle.store.proofs.claim.Statement.{statement}
-use Rattle.store.proofs.claim.Tie as tie
+use Rattle.store.proofs.soundness.claim.Statement.{statement}
+use Rattle.store.proofs.soundness.claim.Tie as tie
 
 returns : tie.Need-returns
 returns c = search (needs, claim-short)
