@@ -1,5 +1,6 @@
 -- The loop carries the base through the clusters so far.
 -- Assumes nothing.
+use native.Mathlib.Omega.{arith}
 use borrow.Author.Needs.{needs}
 use Prim.Native.Nat.{_-_}
 use Rattle.loops.proofs.TurnLaws.{Turning, turning-none, turning-more, turning-all}
@@ -18,7 +19,8 @@ loop-holds : tie.Need-loop-holds Inv-loop μ-loop
 loop-holds c = turning-none _ _ _
 
 loop-again : tie.Need-loop-again Inv-loop μ-loop
-loop-again c = search (needs, turning-more)
+loop-again c =
+    turning-more _ _ _ _ _ (c .before .before .before .loop .inv) _ (omega arith) (c .past-cluster .ensures)
 
 returns : tie.Need-returns Inv-loop μ-loop
 unfolding nodeClimb

@@ -1,5 +1,6 @@
 -- The clusters so far had their turn (`Passing`), and the map keeps its length.
 -- Assumes nothing.
+use native.Mathlib.Omega.{arith}
 use borrow.Author.Needs.{needs}
 use Prim.Native.Nat.{_-_}
 use mathlib.Core.Path.{_≡_}
@@ -19,7 +20,10 @@ loop-holds : tie.Need-loop-holds Inv-loop μ-loop
 loop-holds c = (passing-none _ _, search needs)
 
 loop-again : tie.Need-loop-again Inv-loop μ-loop
-loop-again c = (search (needs, passing-more), search needs)
+loop-again c =
+    (passing-more _ _ _ _ _ (c .before .before .before .before .before .before .loop .inv .0) _ _ _ (omega arith)
+    (c .before .before .before .settled .ensures) (c .before .claim-all .ensures),
+    search needs)
 
 returns : tie.Need-returns Inv-loop μ-loop
 returns c = search (needs, passing-all)
