@@ -17,7 +17,7 @@ use Rattle.store.specs.declared.Segment.{Segment}
 use Rattle.store.specs.declared.Cluster.{Cluster}
 use Rattle.store.specs.declared.Store.{Store}
 use Rattle.store.specs.Records.{nodes, clusters, segments, records, absentSegment, inactive, started}
-use Rattle.store.specs.Records.{Table, tableOf, recordOf, noCluster, clusterAt, tableAt, segmentOf, placeOf, placeAt, placeOn}
+use Rattle.store.specs.Records.{Table, tableOf, recordOf, noCluster, clusterAt, tableAt, segmentOf, placeOf, placeOn}
 use Rattle.store.specs.Records.{putRecord, withPlace}
 use Rattle.store.specs.Sound.{inRanges, endsInside, inside, soundSegment, apart, settled, sound}
 use Rattle.store.specs.Placement.{newBase}

@@ -1,9 +1,9 @@
 -- Laws of the map. A place's turn marks its own bytes and no other, so before a turn a byte is unmarked exactly if no
--- earlier place holds it. Of two places that are not apart the larger base is a byte of both; hence a place that is
--- free in the map is apart from every earlier one, and the other way round.
+-- earlier place holds it. Since places that are not apart share a byte, a place that is free in the map is apart from
+-- every earlier one, and the other way round.
 -- Assumes nothing.
 use mathlib.Core.Path.{_≡_, refl, sym, ap, _∙_, subst}
-use mathlib.Core.Bool.{Bool, true, false, not, _&&_, true≢false, and-assoc, and-true, and-false}
+use mathlib.Core.Bool.{Bool, true, false, not, _&&_, true≢false, and-assoc, and-true}
 use mathlib.Core.List.{List, _++_}
 use Prim.Native.Nat.{ℕ, zero, suc, _+_, _-_, _≤_, _<_}
 use native.Mathlib.Omega.{arith}
@@ -17,10 +17,10 @@ use Rattle.loops.specs.Turns.{turns}
 use Rattle.loops.proofs.BelowLaws.{and-left, and-right, and-both, and-off, test-off, every-in, every-at, every-pair-in, every-pair-at}
 use Rattle.store.specs.declared.Place.{Place}
 use Rattle.store.specs.declared.Place.the-variants.{Absent, Present}
-use Rattle.store.specs.Records.{segments, nodeMemory, Tables, recordOf, placeAt, placeOn}
+use Rattle.store.specs.Records.{segments, nodeMemory, Tables, placeOn}
 use Rattle.store.specs.Sound.{inside, apart}
 use Rattle.store.specs.Passes.{free, marked, stamped, stampedBy, blank, nodeMap}
-use Rattle.store.proofs.PlaceLaws.{Inside, inside-out, holds, holds-in, Meet, apart-meet, apart-off}
+use Rattle.store.proofs.PlaceLaws.{inside-out, holds, holds-in, holds-out, Shared, apart-shares-none, not-apart-shares}
 
 -- byte x of the map is unmarked
 abbrev pub unmarked : ℕ → List ℕ → Bool
@@ -185,65 +185,47 @@ module _ (ts : Tables) (node : ℕ) where
 
 -- ---- free, and apart
 
--- a place that is free in a map whose unmarked bytes q's turn has left
-pub free-apart : (p q : Place) (map : List ℕ) → inside p ≡ true → inside q ≡ true → free p map ≡ true
-    → ((x : ℕ) → x < nodeMemory → unmarked x map ≡ true → leaves x q ≡ true) → apart p q ≡ true
-unfolding free apart
-free-apart Absent q map a b e f = refl
-free-apart (Present base size) Absent map a b e f = refl
-free-apart (Present base size) (Present base′ size′) map a b e f = go (apart (Present base size) (Present base′ size′)) refl
-  where
-    here : Inside base size
-    here = inside-out base size a
+holds-below : (p : Place) (x : ℕ) → inside p ≡ true → holds x p ≡ true → x < nodeMemory
+holds-below Absent x s h = absurd (true≢false (sym h))
+holds-below (Present base size) x s h =
+    let b = inside-out base size s in
+    let o = holds-out x base size h in
+    omega arith
 
-    there : Inside base′ size′
-    there = inside-out base′ size′ b
-
-    -- no byte is in both
-    only : (x : ℕ) → base ≤ x → x < base + size → base′ ≤ x → x < base′ + size′ → ⊥
-    only x h k h′ k′ =
-        let r = here .ends in
-        let o : base + (x - base) ≡ x = omega arith in
-        let u : unmarked (base + (x - base)) map ≡ true = every-at size (λ i. unmarked (base + i) map) e (x - base) (omega arith) in
-        let l : leaves x (Present base′ size′) ≡ true = f x (omega arith) (subst (λ (y : ℕ). unmarked y map ≡ true) o u) in
-        true≢false
-        (sym (and-both (inside (Present base′ size′)) (holds x (Present base′ size′)) b (holds-in x base′ size′ h′ k′))
-        ∙ not-true (inside (Present base′ size′) && holds x (Present base′ size′)) l)
-
-    largest : Meet base size base′ size′ → (t : Bool) → leb base base′ ≡ t → ⊥
-    largest m true t =
-        let h = leb-true base base′ t in
-        let r = there .some in
-        only base′ (omega arith) (omega arith) (omega arith) (omega arith)
-    largest m false t =
-        let h = leb-false base base′ t in
-        let r = here .some in
-        only base (omega arith) (omega arith) (omega arith) (omega arith)
-
-    go : (t : Bool) → apart (Present base size) (Present base′ size′) ≡ t → t ≡ true
-    go true t = refl
-    go false t = absurd (largest (apart-meet base size base′ size′ t) (leb base base′) refl)
+free-out : (p : Place) (map : List ℕ) (x : ℕ) → free p map ≡ true → holds x p ≡ true → unmarked x map ≡ true
+unfolding free
+free-out Absent map x f h = absurd (true≢false (sym h))
+free-out (Present base size) map x f h =
+    let o = holds-out x base size h in
+    let back : base + (x - base) ≡ x = omega arith in
+    subst (λ (y : ℕ). unmarked y map ≡ true) back
+    (every-at size (λ i. unmarked (base + i) map) f (x - base) (omega arith))
 
 pub free-in : (p : Place) (map : List ℕ) → inside p ≡ true
     → ((x : ℕ) → x < nodeMemory → holds x p ≡ true → unmarked x map ≡ true) → free p map ≡ true
 unfolding free
-free-in Absent map a f = refl
-free-in (Present base size) map a f =
+free-in Absent map s f = refl
+free-in (Present base size) map s f =
     every-in size (λ i. unmarked (base + i) map) (λ i h.
-    let r = inside-out base size a in
+    let b = inside-out base size s in
     f (base + i) (omega arith) (holds-in (base + i) base size (omega arith) (omega arith)))
 
--- what holds a byte is apart from no other that holds it
-pub apart-leaves : (p q : Place) (x : ℕ) → apart p q ≡ true → holds x p ≡ true → leaves x q ≡ true
-apart-leaves Absent q x a h = absurd (true≢false (sym h))
-apart-leaves (Present base size) Absent x a h = ap not (and-false (inside Absent))
-apart-leaves (Present base size) (Present base′ size′) x a h =
-    ap not (and-off (inside (Present base′ size′)) (holds x (Present base′ size′)) (test-off (holds x (Present base′ size′)) other))
+-- a place that is free in a map whose unmarked bytes q's turn has left
+pub free-apart : (p q : Place) (map : List ℕ) → inside p ≡ true → inside q ≡ true → free p map ≡ true
+    → ((x : ℕ) → x < nodeMemory → unmarked x map ≡ true → leaves x q ≡ true) → apart p q ≡ true
+free-apart p q map s t f g = go (apart p q) refl
   where
-    other : holds x (Present base′ size′) ≡ true → ⊥
-    other h′ =
-        let b = leb-true base x (and-left (leb base x) (ltb x (base + size)) h) in
-        let t = ltb-true x (base + size) (and-right (leb base x) (ltb x (base + size)) h) in
-        let b′ = leb-true base′ x (and-left (leb base′ x) (ltb x (base′ + size′)) h′) in
-        let t′ = ltb-true x (base′ + size′) (and-right (leb base′ x) (ltb x (base′ + size′)) h′) in
-        true≢false (sym a ∙ apart-off base size base′ size′ (omega arith) (omega arith))
+    none : Shared p q → ⊥
+    none h =
+        let x = h .at in
+        let left : leaves x q ≡ true = g x (holds-below p x s (h .one)) (free-out p map x f (h .one)) in
+        true≢false (sym (and-both (inside q) (holds x q) t (h .two)) ∙ not-true (inside q && holds x q) left)
+
+    go : (t : Bool) → apart p q ≡ t → t ≡ true
+    go true e = refl
+    go false e = absurd (none (not-apart-shares p q s t e))
+
+pub apart-leaves : (p q : Place) (x : ℕ) → apart p q ≡ true → holds x p ≡ true → leaves x q ≡ true
+apart-leaves p q x a h =
+    ap not (and-off (inside q) (holds x q)
+    (test-off (holds x q) (λ k. apart-shares-none p q a (record { at = x; one = h; two = k }))))

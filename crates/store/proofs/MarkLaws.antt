@@ -19,7 +19,7 @@ use Rattle.store.specs.declared.Place.{Place}
 use Rattle.store.specs.declared.Place.the-variants.{Absent, Present}
 use Rattle.store.specs.declared.Cluster.{Cluster}
 use Rattle.store.specs.declared.Store.{Store}
-use Rattle.store.specs.Records.{clusters, segments, nodeMemory, tableOf, recordOf, clusterAt, tableAt, placeOf, placeAt, placeOn}
+use Rattle.store.specs.Records.{clusters, segments, nodeMemory, tableOf, recordOf, clusterAt, tableAt, placeOf, placeOn}
 use Rattle.store.specs.Sound.{inside, inRanges, endsInside, settled}
 use Rattle.store.specs.Passes.{zeros, free, marked, stamped, claimable, stampedBy, claims, Claimed, ClaimedAll, blank, nodeMap, clusterSound}
 use Rattle.store.proofs.PlaceLaws.{Inside, inside-in, inside-off}

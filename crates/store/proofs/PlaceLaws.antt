@@ -1,12 +1,12 @@
--- Laws of places. What `inside` tests are three plain bounds, one law out of it and one into it; two places inside a
--- node's memory are apart exactly if no byte is held by both, since of two that meet the larger base is in both.
+-- Laws of places. What `inside` tests are two plain bounds, one law out of it and one into it. Two places are apart
+-- exactly if no byte is of both: of two inside a node's memory that are not apart, the larger base is a byte of both.
 -- Assumes nothing.
-use mathlib.Core.Path.{_≡_, refl}
+use mathlib.Core.Path.{_≡_, refl, sym, _∙_}
 use mathlib.Core.Bool.{Bool, true, false, _&&_, _||_, true≢false, or-comm, or-true}
 use Prim.Native.Nat.{ℕ, _+_, _≤_, _<_}
 use native.Mathlib.Omega.{arith}
 use lib.Dec.{leb, ltb}
-use borrow.Author.Tests.{leb-true, leb-false, le-leb, lt-leb, lt-ltb}
+use borrow.Author.Tests.{leb-true, leb-false, ltb-true, le-leb, lt-leb, lt-ltb}
 use Rattle.loops.proofs.BelowLaws.{and-left, and-right, and-both, test-off}
 use Rattle.store.specs.declared.Place.{Place}
 use Rattle.store.specs.declared.Place.the-variants.{Absent, Present}
@@ -43,13 +43,7 @@ module _ (base length : ℕ) where
   pub inside-off : (Inside base length → ⊥) → inside (Present base length) ≡ false
   inside-off f = test-off (inside (Present base length)) (λ e. f (inside-out e))
 
--- byte x is one of the place's
-abbrev pub holds : ℕ → Place → Bool
-holds x Absent = false
-holds x (Present base length) = leb base x && ltb x (base + length)
-
-pub holds-in : (x base length : ℕ) → base ≤ x → x < base + length → holds x (Present base length) ≡ true
-holds-in x base length a b = and-both (leb base x) (ltb x (base + length)) (le-leb base x a) (lt-ltb x (base + length) b)
+-- ---- apart
 
 pub apart-sym : (p q : Place) → apart p q ≡ apart q p
 unfolding apart
@@ -84,3 +78,62 @@ module _ (b l b′ l′ : ℕ) where
       go true p u q f = absurd (true≢false f)
       go false p true q f = absurd (true≢false f)
       go false p false q f = record { low = leb-false (b + l) b′ p; high = leb-false (b′ + l′) b q }
+
+-- ---- bytes
+
+-- byte x is one of the place's
+abbrev pub holds : ℕ → Place → Bool
+holds x Absent = false
+holds x (Present base length) = leb base x && ltb x (base + length)
+
+pub holds-in : (x base length : ℕ) → base ≤ x → x < base + length → holds x (Present base length) ≡ true
+holds-in x base length a b =
+    and-both (leb base x) (ltb x (base + length)) (le-leb base x a) (lt-ltb x (base + length) b)
+
+pub record Holds (x base length : ℕ) : Type 0 where
+  pub from : base ≤ x
+  pub below : x < base + length
+
+pub holds-out : (x base length : ℕ) → holds x (Present base length) ≡ true → Holds x base length
+holds-out x base length e =
+    record {
+      from = leb-true base x (and-left (leb base x) (ltb x (base + length)) e);
+      below = ltb-true x (base + length) (and-right (leb base x) (ltb x (base + length)) e);
+    }
+
+-- a byte of both places
+pub record Shared (p q : Place) : Type 0 where
+  pub at : ℕ
+  pub one : holds at p ≡ true
+  pub two : holds at q ≡ true
+
+pub apart-shares-none : (p q : Place) → apart p q ≡ true → Shared p q → ⊥
+apart-shares-none Absent q a h = true≢false (sym (h .one))
+apart-shares-none (Present b l) Absent a h = true≢false (sym (h .two))
+apart-shares-none (Present b l) (Present b′ l′) a h =
+    let u = holds-out (h .at) b l (h .one) in
+    let v = holds-out (h .at) b′ l′ (h .two) in
+    true≢false (sym a ∙ apart-off b l b′ l′ (omega arith) (omega arith))
+
+pub not-apart-shares : (p q : Place) → inside p ≡ true → inside q ≡ true → apart p q ≡ false → Shared p q
+unfolding apart
+not-apart-shares Absent q s t e = absurd (true≢false e)
+not-apart-shares (Present b l) Absent s t e = absurd (true≢false e)
+not-apart-shares (Present b l) (Present b′ l′) s t e =
+    go (leb b b′) refl (inside-out b l s) (inside-out b′ l′ t) (apart-meet b l b′ l′ e)
+  where
+    go : (o : Bool) → leb b b′ ≡ o → Inside b l → Inside b′ l′ → Meet b l b′ l′ → Shared (Present b l) (Present b′ l′)
+    go true o u v m =
+        let h = leb-true b b′ o in
+        record {
+          at = b′;
+          one = holds-in b′ b l (omega arith) (omega arith);
+          two = holds-in b′ b′ l′ (omega arith) (omega arith);
+        }
+    go false o u v m =
+        let h = leb-false b b′ o in
+        record {
+          at = b;
+          one = holds-in b b l (omega arith) (omega arith);
+          two = holds-in b b′ l′ (omega arith) (omega arith);
+        }

@@ -16,7 +16,7 @@ use Rattle.store.specs.declared.Segment.{Segment}
 use Rattle.store.specs.declared.Cluster.{Cluster}
 use Rattle.store.specs.declared.Store.{Store}
 use Rattle.store.specs.Records.{nodes, clusters, segments, records, memory, absentSegment, inactive, startingStore}
-use Rattle.store.specs.Records.{tableOf, recordOf, noCluster, clusterAt, tableAt, segmentOf, placeAt, placeOn}
+use Rattle.store.specs.Records.{tableOf, recordOf, noCluster, clusterAt, tableAt, segmentOf, placeOn}
 use Rattle.store.specs.Sound.{inRanges, endsInside, inside, soundSegment, apart, nodeApart, zeroBytes, idle, settled, sound}
 
 -- the facts of soundness, in the order of its clauses

@@ -20,10 +20,11 @@ loop-holds : tie.Need-loop-holds Inv-loop μ-loop
 loop-holds c = (passing-none _ _, search needs)
 
 loop-again : tie.Need-loop-again Inv-loop μ-loop
-loop-again c =
-    (passing-more _ _ _ _ _ (c .before .before .before .before .before .before .loop .inv .0) _ _ _ (omega arith)
-    (c .before .before .before .settled .ensures) (c .before .claim-all .ensures),
-    search needs)
+loop-again c = (
+  passing-more _ _ _ _ _ (c .before .before .before .before .before .before .loop .inv .0) _ _ _ (omega arith)
+      (c .before .before .before .settled .ensures) (c .before .claim-all .ensures),
+  search needs,
+)
 
 returns : tie.Need-returns Inv-loop μ-loop
 returns c = search (needs, passing-all)
