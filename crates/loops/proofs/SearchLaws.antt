@@ -32,7 +32,8 @@ module _ (p : ℕ → Bool) where
   from-is : (n k j : ℕ) → k ≤ j → j < k + n → p j ≡ true → ((i : ℕ) → k ≤ i → i < j → p i ≡ false)
       → leastFrom n k p ≡ some j
   from-is zero k j a b e h = absurd (omega arith)
-  from-is (suc n) k j a b e h = go (eq-or-lt-of-le a) (λ l. from-is n (suc k) j l (omega arith) e (λ i c d. h i (omega arith) d))
+  from-is (suc n) k j a b e h =
+      go (eq-or-lt-of-le a) (λ l. from-is n (suc k) j l (omega arith) e (λ i c d. h i (omega arith) d))
     where
       go : (k ≡ j) ⊎ (k < j) → (k < j → leastFrom n (suc k) p ≡ some j) → leastFrom (suc n) k p ≡ some j
       go (inl q) rest = from-yes n k (ap p q ∙ e) ∙ ap some q

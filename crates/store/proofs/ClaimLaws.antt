@@ -10,7 +10,8 @@ use native.Mathlib.Omega.{arith}
 use lib.Dec.{ltb, eqb}
 use borrow.Author.Tests.{ltb-true, ltb-false, eqb-true, eq-eqb}
 use Rattle.loops.specs.Below.{every}
-use Rattle.loops.proofs.BelowLaws.{and-left, and-right, and-both, tests-equal, every-in, every-at, every-pair-in, every-pair-at}
+use Rattle.loops.proofs.BelowLaws.{and-left, and-right, and-both, tests-equal}
+use Rattle.loops.proofs.BelowLaws.{every-in, every-at, every-pair-in, every-pair-at}
 use Rattle.loops.proofs.RunningLaws.{Running, running-all}
 use Rattle.store.specs.declared.Place.{Place}
 use Rattle.store.specs.declared.Store.{Store}
@@ -18,7 +19,8 @@ use Rattle.store.specs.Records.{nodes, clusters, segments, memory, recor
 use Rattle.store.specs.Sound.{inside, soundSegment, apart, settled, sound}
 use Rattle.store.specs.Passes.{free, claimable, claims, nodeMap, clusterSound}
 use Rattle.store.proofs.PlaceLaws.{apart-sym}
-use Rattle.store.proofs.MapLaws.{mapAt, Before, beside, above, unmarked-out, unmarked-in, free-apart, free-in, apart-leaves}
+use Rattle.store.proofs.MapLaws.{mapAt, Before, beside, above, unmarked-out, unmarked-in}
+use Rattle.store.proofs.MapLaws.{free-apart, free-in, apart-leaves}
 use Rattle.store.proofs.SoundLaws.{Sound, sound-out, sound-in}
 
 -- what the code works out
@@ -62,7 +64,8 @@ module _ (s : Store) (size : ℕ) where
     ordered : (l i m j : ℕ) → i < segments → j < segments → (l ≢ m) ⊎ (i ≢ j) → Before l i m j ⊎ Before m j l i
     ordered l i m j hi hj d = go (ltb m l) refl (ltb l m) refl (ltb j i) refl
       where
-        go : (t : Bool) → ltb m l ≡ t → (u : Bool) → ltb l m ≡ u → (v : Bool) → ltb j i ≡ v → Before l i m j ⊎ Before m j l i
+        go : (t : Bool) → ltb m l ≡ t → (u : Bool) → ltb l m ≡ u → (v : Bool) → ltb j i ≡ v
+            → Before l i m j ⊎ Before m j l i
         go true t u p v q = inl (above (ltb-true m l t) hj)
         go false t true p v q = inr (above (ltb-true l m p) hi)
         go false t false p true q =
@@ -86,14 +89,15 @@ module _ (s : Store) (size : ℕ) where
     unfolding soundSegment clusterSound
     tested-sound =
         record {
-          whole = eqb-true size memory (and-left (eqb size memory) (every nodes (λ node. every clusters (clusterSound s node))) e);
+          whole = eqb-true size memory (and-left (eqb size memory) _ e);
           ranged = λ n i hn hi.
               subst (λ (k : ℕ). inside (placeAt (tableAt s) k i) ≡ true) (split n)
               (claimed-inside (n / clusters) (n % clusters) i (omega arith) (omega arith) hi);
           apartness = λ node l i m j hv hl hi hm hj d. either node l i m j hv hl hi hm hj (ordered l i m j hi hj d);
           settling = λ n hn.
               subst (λ (k : ℕ). settled (clusterAt s k) ≡ true) (split n)
-              (and-left (settled (clusterAt s (recordOf (n / clusters) (n % clusters)))) _ (cluster (n / clusters) (n % clusters) (omega arith) (omega arith)));
+              (and-left (settled (clusterAt s (recordOf (n / clusters) (n % clusters)))) _
+              (cluster (n / clusters) (n % clusters) (omega arith) (omega arith)));
         }
       where
         either : (node l i m j : ℕ) → node < nodes → l < clusters → i < segments → m < clusters → j < segments
@@ -113,10 +117,12 @@ module _ (s : Store) (size : ℕ) where
         → free (place node l i) (mapAt (tableAt s) node l i) ≡ true
     sound-free node l i hv hl hi =
         free-in (place node l i) (mapAt (tableAt s) node l i) (sound-inside node l i hv hl hi)
-        (λ x h o. unmarked-in (tableAt s) node l i x h (λ m j b. apart-leaves (place node l i) (place node m j) x (earlier m j b) o))
+        (λ x h o. unmarked-in (tableAt s) node l i x h
+        (λ m j b. apart-leaves (place node l i) (place node m j) x (earlier m j b) o))
       where
         earlier : (m j : ℕ) → Before l i m j → apart (place node l i) (place node m j) ≡ true
-        earlier m j (beside q k) = r .apartness node l i m j hv hl hi (omega arith) (omega arith) (inr (λ p. omega arith))
+        earlier m j (beside q k) =
+            r .apartness node l i m j hv hl hi (omega arith) (omega arith) (inr (λ p. omega arith))
         earlier m j (above k t) = r .apartness node l i m j hv hl hi (omega arith) t (inl (λ p. omega arith))
 
     sound-tested : tested s size ≡ true
@@ -130,9 +136,11 @@ module _ (s : Store) (size : ℕ) where
 
   tested-is : tested s size ≡ sound s size
   tested-is =
-      tests-equal (tested s size) (sound s size) (λ e. sound-in s size (tested-sound e)) (λ e. sound-tested (sound-out s size e))
+      tests-equal (tested s size) (sound s size)
+      (λ e. sound-in s size (tested-sound e))
+      (λ e. sound-tested (sound-out s size e))
 
   -- the code's loop over the nodes has come to its end
-  pub tested-told : (node : ℕ) (ok : Bool) → Running nodes (λ v. every clusters (clusterSound s v)) node ok → nodes ≤ node
-      → (eqb size memory && ok) ≡ sound s size
+  pub tested-told : (node : ℕ) (ok : Bool) → Running nodes (λ v. every clusters (clusterSound s v)) node ok
+      → nodes ≤ node → (eqb size memory && ok) ≡ sound s size
   tested-told node ok r h = ap (λ (t : Bool). eqb size memory && t) (running-all _ _ node ok r h) ∙ tested-is

@@ -14,7 +14,8 @@ use lib.Seq.{getD-take, getD-drop, length-take-le, getD-append-add}
 use borrow.Author.Tests.{leb-true, leb-false, ltb-true, ltb-false, eq-eqb, not-true}
 use Rattle.loops.specs.Below.{every}
 use Rattle.loops.specs.Turns.{turns}
-use Rattle.loops.proofs.BelowLaws.{and-left, and-right, and-both, and-off, test-off, every-in, every-at, every-pair-in, every-pair-at}
+use Rattle.loops.proofs.BelowLaws.{and-left, and-right, and-both, and-off, test-off}
+use Rattle.loops.proofs.BelowLaws.{every-in, every-at, every-pair-in, every-pair-at}
 use Rattle.store.specs.declared.Place.{Place}
 use Rattle.store.specs.declared.Place.the-variants.{Absent, Present}
 use Rattle.store.specs.Records.{segments, nodeMemory, Tables, placeOn}
@@ -43,9 +44,11 @@ module _ (m : List ℕ) (base size : ℕ) (fits : base + size ≤ length m) wher
   marked-low : (x : ℕ) → x < base → getD (marked (Present base size) m) x 0 ≡ getD m x 0
   unfolding marked
   marked-low x h =
-      List·getD-append (take base m) (replicate size 1 ++ drop (base + size) m) 0 x (rw front h) ∙ getD-take base m x 0 h
+      List·getD-append (take base m) (replicate size 1 ++ drop (base + size) m) 0 x (rw front h)
+      ∙ getD-take base m x 0 h
 
-  marked-from : (x : ℕ) → base ≤ x → getD (marked (Present base size) m) x 0 ≡ getD (replicate size 1 ++ drop (base + size) m) (x - base) 0
+  marked-from : (x : ℕ) → base ≤ x
+      → getD (marked (Present base size) m) x 0 ≡ getD (replicate size 1 ++ drop (base + size) m) (x - base) 0
   unfolding marked
   marked-from x h =
       let e : length (take base m) + (x - base) ≡ x = rw front (omega arith) in
@@ -60,7 +63,8 @@ module _ (m : List ℕ) (base size : ℕ) (fits : base + size ≤ length m) wher
 
   marked-high : (x : ℕ) → base + size ≤ x → getD (marked (Present base size) m) x 0 ≡ getD m x 0
   marked-high x h =
-      let e : length (replicate {A = ℕ} size 1) + (x - (base + size)) ≡ x - base = rw (length-replicate {A = ℕ} size 1) (omega arith) in
+      let rest : ℕ = x - (base + size) in
+      let e : length (replicate {A = ℕ} size 1) + rest ≡ x - base = rw (length-replicate {A = ℕ} size 1) (omega arith) in
       marked-from x (omega arith)
       ∙ ap (λ (y : ℕ). getD (replicate size 1 ++ drop (base + size) m) y 0) (sym e)
       ∙ getD-append-add (replicate size 1) (drop (base + size) m) (x - (base + size)) 0
@@ -86,17 +90,20 @@ stamps-marked (Present base size) e =
     ends : (map : List ℕ) → length map ≡ nodeMemory → base + size ≤ length map
     ends map h = let b = inside-out base size e in omega arith
 
-    bytes : (map : List ℕ) → base + size ≤ length map → (x : ℕ) (t : Bool) → leb base x ≡ t → (u : Bool) → ltb x (base + size) ≡ u
+    bytes : (map : List ℕ) → base + size ≤ length map
+        → (x : ℕ) (t : Bool) → leb base x ≡ t → (u : Bool) → ltb x (base + size) ≡ u
         → unmarked x (marked (Present base size) map) ≡ (not (t && u) && unmarked x map)
     bytes map f x false t u k = ap (λ (y : ℕ). eqb y 0) (marked-low map base size f x (leb-false base x t))
     bytes map f x true t false k = ap (λ (y : ℕ). eqb y 0) (marked-high map base size f x (ltb-false x (base + size) k))
-    bytes map f x true t true k = ap (λ (y : ℕ). eqb y 0) (marked-in map base size f x (leb-true base x t) (ltb-true x (base + size) k))
+    bytes map f x true t true k =
+        ap (λ (y : ℕ). eqb y 0) (marked-in map base size f x (leb-true base x t) (ltb-true x (base + size) k))
 
 stamps-place : (p : Place) → Stamps (λ x. leaves x p) (stamped p)
 unfolding stamped
 stamps-place p = go (inside p) refl
   where
-    go : (t : Bool) → inside p ≡ t → Stamps (λ x. not (t && holds x p)) (λ map. elim t [ true ↦ marked p map | false ↦ map ])
+    go : (t : Bool) → inside p ≡ t
+        → Stamps (λ x. not (t && holds x p)) (λ map. elim t [ true ↦ marked p map | false ↦ map ])
     go true e = stamps-marked p e
     go false e = record { size = λ map h. h; byte = λ map h x. refl }
 
@@ -129,7 +136,8 @@ module _ (ts : Tables) (node : ℕ) where
 
   stamps-cluster : (l n : ℕ) → Stamps (λ x. every n (λ i. leaves x (place l i))) (stampedBy n (placeOn ts node l))
   unfolding stampedBy
-  stamps-cluster l n = stamps-turns n (λ i x. leaves x (place l i)) (λ i. stamped (place l i)) (λ i. stamps-place (place l i))
+  stamps-cluster l n =
+      stamps-turns n (λ i x. leaves x (place l i)) (λ i. stamped (place l i)) (λ i. stamps-place (place l i))
 
   -- the map before the turn of segment i of cluster l
   unfoldable pub mapAt : ℕ → ℕ → List ℕ
@@ -169,7 +177,8 @@ module _ (ts : Tables) (node : ℕ) where
       go : Before l i m j → leaves x (place m j) ≡ true
       go (beside q k) =
           ap (λ (n : ℕ). leaves x (place n j)) q
-          ∙ every-at i (λ j. leaves x (place l j)) (and-left (every i (λ j. leaves x (place l j))) (earlier l x) both) j k
+          ∙ every-at i (λ j. leaves x (place l j))
+          (and-left (every i (λ j. leaves x (place l j))) (earlier l x) both) j k
       go (above k t) =
           every-pair-at l segments (λ m j. leaves x (place m j))
           (and-right (every i (λ j. leaves x (place l j))) (earlier l x) both) m j k t

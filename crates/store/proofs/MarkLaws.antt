@@ -21,7 +21,8 @@ use Rattle.store.specs.declared.Cluster.{Cluster}
 use Rattle.store.specs.declared.Store.{Store}
 use Rattle.store.specs.Records.{clusters, segments, nodeMemory, tableOf, recordOf, clusterAt, tableAt, placeOf, placeOn}
 use Rattle.store.specs.Sound.{inside, inRanges, endsInside, settled}
-use Rattle.store.specs.Passes.{zeros, free, marked, stamped, claimable, stampedBy, claims, Claimed, ClaimedAll, blank, nodeMap, clusterSound}
+use Rattle.store.specs.Passes.{zeros, free, marked, stamped, claimable, stampedBy, claims}
+use Rattle.store.specs.Passes.{Claimed, ClaimedAll, blank, nodeMap, clusterSound}
 use Rattle.store.proofs.PlaceLaws.{Inside, inside-in, inside-off}
 
 -- ---- the loop over a part
@@ -105,7 +106,8 @@ module _ (p : Place) (base size : ℕ) (map : List ℕ) (e : p ≡ Present base 
     part-byte i h = getD-take (base + size - base) (drop base map) i 0 (omega arith) ∙ getD-drop base map i 0
 
     pub claim-mark : (r : Bool) (after : List ℕ)
-        → (r ≡ zeros (midOf base (base + size - base) map)) × (after ≡ replicate (length (midOf base (base + size - base) map)) 1)
+        → (r ≡ zeros (midOf base (base + size - base) map))
+        × (after ≡ replicate (length (midOf base (base + size - base) map)) 1)
         → Claimed p map r (putMid base (base + size - base) map after)
     unfolding claimable stamped free marked zeros part stamp
     claim-mark r after g =

@@ -50,7 +50,8 @@ module _ (ts : Tables) (node size : ℕ) where
   nothing : ((k : ℕ) → k < nodeMemory → Fits k → ⊥) → none ≡ newBase ts node size
   unfolding newBase
   nothing f =
-      sym (least-none (fits ts node size) nodeMemory (λ k h. test-off (fits ts node size k) (λ e. f k h (fits-out k e))))
+      sym
+      (least-none (fits ts node size) nodeMemory (λ k h. test-off (fits ts node size k) (λ e. f k h (fits-out k e))))
 
   pub base-no-node : nodes ≤ node → none ≡ newBase ts node size
   base-no-node h = nothing (λ k l (r : Fits k). omega arith)

@@ -15,16 +15,18 @@ use Rattle.loops.proofs.BelowLaws.{and-left, and-right, and-both, every-in, eve
 use Rattle.store.specs.declared.Segment.{Segment}
 use Rattle.store.specs.declared.Cluster.{Cluster}
 use Rattle.store.specs.declared.Store.{Store}
-use Rattle.store.specs.Records.{nodes, clusters, segments, records, memory, absentSegment, inactive, startingStore}
+use Rattle.store.specs.Records.{nodes, clusters, segments, records, memory}
+use Rattle.store.specs.Records.{absentSegment, inactive, startingStore}
 use Rattle.store.specs.Records.{tableOf, recordOf, noCluster, clusterAt, tableAt, segmentOf, placeOn}
-use Rattle.store.specs.Sound.{inRanges, endsInside, inside, soundSegment, apart, nodeApart, zeroBytes, idle, settled, sound}
+use Rattle.store.specs.Sound.{inRanges, endsInside, inside, soundSegment, apart, nodeApart}
+use Rattle.store.specs.Sound.{zeroBytes, idle, settled, sound}
 
 -- the facts of soundness, in the order of its clauses
 pub record Sound (s : Store) (size : ℕ) : Type 0 where
   pub whole : size ≡ memory
   pub ranged : (n i : ℕ) → n < records → i < segments → soundSegment (segmentOf (tableAt s n) i) ≡ true
-  pub apartness : (node l i m j : ℕ) → node < nodes → l < clusters → i < segments → m < clusters → j < segments → (l ≢ m) ⊎ (i ≢ j)
-      → apart (placeOn (tableAt s) node l i) (placeOn (tableAt s) node m j) ≡ true
+  pub apartness : (node l i m j : ℕ) → node < nodes → l < clusters → i < segments → m < clusters → j < segments
+      → (l ≢ m) ⊎ (i ≢ j) → apart (placeOn (tableAt s) node l i) (placeOn (tableAt s) node m j) ≡ true
   pub settling : (n : ℕ) → n < records → settled (clusterAt s n) ≡ true
 
 pub settled-active : (c : Cluster) → c .active ≡ true → settled c ≡ true
@@ -99,7 +101,9 @@ module _ (s : Store) (size : ℕ) where
   pair-in r node l i m j hv hl hi hm hj = go (ℕ-discrete l m) (ℕ-discrete i j)
     where
       other : (l ≢ m) ⊎ (i ≢ j) → pair node l i m j ≡ true
-      other d = ap (λ (t : Bool). eqb l m && eqb i j || t) (r .apartness node l i m j hv hl hi hm hj d) ∙ or-true (eqb l m && eqb i j)
+      other d =
+          ap (λ (t : Bool). eqb l m && eqb i j || t) (r .apartness node l i m j hv hl hi hm hj d)
+          ∙ or-true (eqb l m && eqb i j)
 
       go : Dec (l ≡ m) → Dec (i ≡ j) → pair node l i m j ≡ true
       go (yes p) (yes q) = rw (eq-eqb l m p, eq-eqb i j q)
@@ -126,7 +130,8 @@ sound-starting =
       whole = refl;
       ranged = λ n i hn hi. ap soundSegment (vacant n i hn hi);
       apartness = λ node l i m j hv hl hi hm hj d.
-          ap (λ (g : Segment). apart (g .place) (placeOn (tableAt startingStore) node m j)) (vacant (recordOf node l) i (omega arith) hi);
+          ap (λ (g : Segment). apart (g .place) (placeOn (tableAt startingStore) node m j))
+          (vacant (recordOf node l) i (omega arith) hi);
       settling = λ n hn. ap settled (record-at n hn) ∙ settled-inactive;
     })
   where
@@ -135,4 +140,5 @@ sound-starting =
 
     vacant : (n i : ℕ) → n < records → i < segments → segmentOf (tableAt startingStore n) i ≡ absentSegment
     vacant n i h k =
-        ap (λ (c : Cluster). segmentOf (tableOf c) i) (record-at n h) ∙ getD-replicate segments i absentSegment absentSegment k
+        ap (λ (c : Cluster). segmentOf (tableOf c) i) (record-at n h)
+        ∙ getD-replicate segments i absentSegment absentSegment k

@@ -1,6 +1,7 @@
 -- Document 01, "Selector and placement examples": the five of placement, P10 to P14.
 --     Example        a store, the size asked for on node 0, and the base told; none is number 16
 --     told           what placement tells
+--     holding        a cluster with one segment
 --     twoSegments    node 0 has segments at 0 to 99 and at 150 to 159 only, here in two clusters
 --     examples       P10, P11, P12 and P13 on that store, P14 on one that is empty
 -- Assumes nothing.
@@ -28,7 +29,8 @@ holding i p = withPlace (started (replicate passwordSize 0) (replicate passwordS
 
 unfoldable pub twoSegments : Store
 twoSegments =
-    putRecord (putRecord startingStore (recordOf 0 2) (holding 5 (Present 0 100))) (recordOf 0 7) (holding 0 (Present 150 10))
+    putRecord (putRecord startingStore (recordOf 0 2) (holding 5 (Present 0 100)))
+    (recordOf 0 7) (holding 0 (Present 150 10))
 
 unfoldable pub examples : List Example
 examples =

@@ -8,6 +8,8 @@
 --     endsInside      base plus length at most 4,096
 --     inside          both of these
 --     apart           two places share no byte: one ends where the other begins, or before it
+--     isAbsent        the place is that of an absent segment
+--     zeroBytes       every byte of the password is zero
 --     idle            zero passwords and only absent segments
 -- Assumes nothing.
 use Prim.Native.Nat.{ℕ, _+_}
@@ -22,7 +24,7 @@ use Rattle.store.specs.declared.Segment.{Segment}
 use Rattle.store.specs.declared.Cluster.{Cluster}
 use Rattle.store.specs.declared.Store.{Store}
 use Rattle.store.specs.Records.{nodes, clusters, segments, records, nodeMemory, memory, passwordSize}
-use Rattle.store.specs.Records.{Tables, tableOf, recordOf, clusterAt, tableAt, segmentOf, placeOf, placeAt, placeOn}
+use Rattle.store.specs.Records.{Tables, tableOf, clusterAt, tableAt, segmentOf, placeOf, placeOn}
 
 unfoldable pub inRanges : Place → Bool
 inRanges Absent = true

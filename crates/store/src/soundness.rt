@@ -19,7 +19,8 @@ use crate::Store;
 
 // Marks every byte of the part and tells whether none was marked. No early exit: a loop without one is quicker here.
 fn mark(part: &mut [u8]) -> bool
-    ensures { λ r. ⌜ (r ≡ passes.zeros (now (part .entry))) × (now (part .exit) ≡ replicate (length (now (part .entry))) 1) ⌝ }
+    ensures { λ r. ⌜ (r ≡ passes.zeros (now (part .entry)))
+        × (now (part .exit) ≡ replicate (length (now (part .entry))) 1) ⌝ }
 {
     let mut fresh = true;
     let mut i: usize = 0;
