@@ -55,9 +55,6 @@ unfolding every
 every-in zero p h = refl
 every-in (suc n) p h = and-both (p n) (every n p) (h n (omega arith)) (every-in n p (λ k b. h k (omega arith)))
 
-pub every-off : (n k : ℕ) (p : ℕ → Bool) → k < n → p k ≡ false → every n p ≡ false
-every-off n k p h e = test-off (every n p) (λ q. false≢true (sym e ∙ every-at n p q k h))
-
 pub every-same : (n : ℕ) (p q : ℕ → Bool) → ((k : ℕ) → k < n → p k ≡ q k) → every n p ≡ every n q
 every-same n p q h =
     tests-equal (every n p) (every n q)

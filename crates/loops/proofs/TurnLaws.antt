@@ -1,8 +1,8 @@
 -- Laws of the loop that carries one value: before turn i it is what i turns make of the value at the start.
--- What holds at the start and is kept by each turn holds at the end.
+-- One turn applies f i; after n turns the value is `turns n f a`.
 -- Assumes nothing.
 use mathlib.Core.Path.{_≡_, refl, sym, ap, _∙_}
-use Prim.Native.Nat.{ℕ, zero, suc, _+_, _≤_, _<_}
+use Prim.Native.Nat.{ℕ, _+_, _≤_, _<_}
 use native.Mathlib.Numerals.{add-one}
 use native.Mathlib.Omega.{arith}
 use Rattle.loops.specs.Turns.{turns}
@@ -15,12 +15,6 @@ module _ {A : Type 0} where
   pub turns-more : (n : ℕ) (f : ℕ → A → A) (a : A) → turns (n + 1) f a ≡ f n (turns n f a)
   unfolding turns
   turns-more n f a = rw (add-one, turns)
-
-  pub turns-keep : (P : A → Type 0) (n : ℕ) (f : ℕ → A → A) (a : A) → P a → ((i : ℕ) (x : A) → P x → P (f i x))
-      → P (turns n f a)
-  unfolding turns
-  turns-keep P zero f a p h = p
-  turns-keep P (suc n) f a p h = h n (turns n f a) (turns-keep P n f a p h)
 
   -- x is what i turns, out of n, make of a
   pub record Turning (n : ℕ) (f : ℕ → A → A) (a : A) (i : ℕ) (x : A) : Type 0 where

@@ -10,7 +10,8 @@ use Rattle.store.proofs.placement.past_node.Statement.{statement}
 use Rattle.store.proofs.placement.past_node.Tie as tie
 
 abbrev Inv-loop : tie.InvT-loop
-Inv-loop node base size store next₀ local₀ next local = Turning clusters (λ l. climb segments (placeOn (tableAt store) node l) size) base local next
+Inv-loop node base size store next₀ local₀ next local =
+    Turning clusters (λ l. climb segments (placeOn (tableAt store) node l) size) base local next
 
 abbrev μ-loop : tie.MeasureT-loop
 μ-loop node base size store next₀ local₀ next local = clusters - local
