@@ -8,6 +8,8 @@ mod soundness; // soundness.rt: the test of the records and of the slice's lengt
 pub use placement::new_base;
 pub use soundness::sound;
 
+// Nodes of the store, clusters of a node, segments of a cluster; the records are the clusters of all nodes, node 0
+// first: local number l of node v is record v * CLUSTERS + l.
 pub const NODES: usize = 4;
 
 pub const CLUSTERS: usize = 8;
@@ -16,12 +18,14 @@ pub const SEGMENTS: usize = 8;
 
 pub const RECORDS: usize = 32;
 
+// Bytes of one node's memory, of the slice that holds the four, and of a password.
 pub const NODE_MEMORY: usize = 4096;
 
 pub const MEMORY: usize = 16384;
 
 pub const PASSWORD_SIZE: usize = 16;
 
+// A segment is absent, or present with a base within its node's memory and a length.
 pub enum Place {
     Absent,
     Present { base: u16, length: u16 },
@@ -31,6 +35,7 @@ pub struct Segment {
     pub place: Place,
 }
 
+// A cluster's record: whether it is active, its two primary passwords, its segments.
 pub struct Cluster {
     pub active: bool,
     pub read: [u8; PASSWORD_SIZE],
@@ -63,6 +68,7 @@ pub fn inactive_cluster() -> Cluster
     }
 }
 
+// The starting store: all clusters inactive.
 pub fn starting() -> Store
     ensures { λ r. ⌜ r ≡ startingStore ⌝ }
 {

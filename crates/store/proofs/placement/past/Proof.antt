@@ -1,6 +1,7 @@
 -- Each way through a present place is one law; an absent one leaves the base as it is.
 -- Assumes nothing.
 use Rattle.store.proofs.JumpLaws.{past-before, past-within, past-clear, past-over, past-absent}
+use native.Mathlib.Omega.{arith}
 use borrow.Author.Needs.{needs}
 use Rattle.store.proofs.placement.past.Statement.{statement}
 use Rattle.store.proofs.placement.past.Tie as tie
@@ -12,7 +13,8 @@ returns-2 : tie.Need-returns-2
 returns-2 c = search (needs, past-within)
 
 returns-3 : tie.Need-returns-3
-returns-3 c = search (needs, past-clear)
+returns-3 c =
+    past-clear _ _ _ _ _ (c .before .before .before .before .place .given .1) (omega arith) (omega arith)
 
 returns-4 : tie.Need-returns-4
 returns-4 c = search (needs, past-absent)
