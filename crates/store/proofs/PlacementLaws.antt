@@ -19,7 +19,7 @@ use Rattle.store.proofs.PlaceLaws.{Inside, inside-out, inside-in}
 use Rattle.store.proofs.JumpLaws.{jumps-node}
 
 module _ (ts : Tables) (node size : ℕ) where
-  -- what fits says: one law out, one in
+  -- what `fits` says, as facts
   pub record Fits (base : ℕ) : Type 0 where
     pub known : node < nodes
     pub within : inside (Present base size) ≡ true
