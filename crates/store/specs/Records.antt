@@ -1,4 +1,4 @@
--- Document 01, "The store": the nodes, the clusters' records and how a reader finds a segment in them.
+-- Document 01, "The store": the nodes, the clusters' records and how a segment is found in them.
 --     nodes, clusters, segments    nodes of the store, clusters of a node, segments of a cluster
 --     records                      the clusters of all nodes
 --     nodeMemory, memory           bytes of one node's shared memory, bytes of the lent slice
@@ -6,14 +6,14 @@
 --     absentSegment, inactive      an absent segment, and a cluster's record as in the starting store
 --     startingStore                all clusters inactive
 --     started                      the record of a new cluster with these passwords
---     Table, Tables                all of a cluster's record but its passwords; the tables of all records
+--     Table, tableOf, Tables       all of a cluster's record but its passwords; the tables of all records
 --     recordOf                     the number of the record of a node's cluster
+--     noCluster                    what the code's reads give past the last record: an inactive cluster
 --     clusterAt, tableAt           record n of the store, and its table
---     segmentOf, placeOf, placeAt  segment i of a table, its place, and the place in table n
---     placeOn                      the place of segment i of a node's cluster
+--     segmentOf, placeOf           segment i of a table, and its place
+--     placeAt, placeOn             the place of segment i of record n, and of a node's cluster
 --     putRecord                    the store with record n replaced
 --     withSegment, withPlace       the record with segment i, or its place, replaced
--- Past an array's end lies what the code's own reads give there: an inactive cluster, an absent segment.
 -- Assumes nothing.
 use Prim.Native.Nat.{ℕ, _+_, _*_}
 use mathlib.Core.Bool.{Bool, true, false}
