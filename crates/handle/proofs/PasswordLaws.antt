@@ -14,7 +14,7 @@ use lib.Seq.{ext-getD}
 use borrow.Author.Tests.{eq-eqb}
 use Rattle.bits.proofs.OperationLaws.{or-none, xor-none}
 use Rattle.loops.specs.Below.{every}
-use Rattle.loops.proofs.BelowLaws.{every-all, every-equal}
+use Rattle.loops.proofs.BelowLaws.{every-in, every-equal}
 use Rattle.aes.proofs.CipherLaws.{length-cipher}
 use Rattle.handle.specs.declared.Handle.{Handle}
 use Rattle.handle.specs.Sizes.{segments, passwordBytes}
@@ -64,7 +64,7 @@ same-equal a b la lb e =
 pub equal-same : (a b : List ℕ) → a ≡ b → samePassword a b ≡ true
 unfolding samePassword
 equal-same a b e =
-    every-all passwordBytes (agree a b) (λ k h. eq-eqb (getD a k 0) (getD b k 0) (ap (λ (l : List ℕ). getD l k 0) e))
+    every-in passwordBytes (agree a b) (λ k h. eq-eqb (getD a k 0) (getD b k 0) (ap (λ (l : List ℕ). getD l k 0) e))
 
 -- the password that a conversion gives has sixteen bytes
 pub length-conversion : (p : List ℕ) (c : ℕ) → length (conversion p c) ≡ passwordBytes

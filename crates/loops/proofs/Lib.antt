@@ -1,2 +1,5 @@
 pub mod BelowLaws
+pub mod RunningLaws
+pub mod SearchLaws
 pub mod TabulateLaws
+pub mod TurnLaws

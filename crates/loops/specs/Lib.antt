@@ -1,2 +1,4 @@
 pub mod Below
+pub mod Search
 pub mod Tabulate
+pub mod Turns

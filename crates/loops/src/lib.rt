@@ -1,1 +1,1 @@
-// Laws alone: tests at every number below a bound, and arrays filled from the front.
+// Laws alone: tests and searches over the numbers below a bound, and the loops that make them or fill an array.

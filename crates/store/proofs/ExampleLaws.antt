@@ -1,0 +1,13 @@
+-- P10 to P14 hold of the definition of placement: each is computed from it.
+-- Assumes nothing.
+use mathlib.Core.Path.{_≡_, refl}
+use mathlib.Core.List.{map}
+use Rattle.loops.specs.Below.{every}
+use Rattle.loops.specs.Search.{leastFrom, least}
+use Rattle.store.specs.Sound.{inRanges, endsInside, inside, apart}
+use Rattle.store.specs.Placement.{clear, fits, newBase}
+use Rattle.store.specs.Examples.{Example, told, twoSegments, examples}
+
+pub examples-hold : map told examples ≡ map (λ (e : Example). e .base) examples
+unfolding examples twoSegments newBase least leastFrom fits clear every apart inside inRanges endsInside
+examples-hold = refl

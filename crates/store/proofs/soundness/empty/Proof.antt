@@ -1,0 +1,39 @@
+-- The loop tells whether the segments so far are absent.
+-- Assumes nothing.
+use borrow.Author.Needs.{needs}
+use Prim.Native.Nat.{_-_}
+use Rattle.loops.proofs.RunningLaws.{Running, running-none, running-more, running-all}
+use Rattle.store.specs.Records.{segments, tableOf, placeOf}
+use Rattle.store.specs.Sound.{isAbsent}
+use Rattle.store.proofs.soundness.empty.Statement.{statement}
+use Rattle.store.proofs.soundness.empty.Tie as tie
+
+abbrev Inv-loop : tie.InvT-loop
+Inv-loop cluster ok₀ i₀ ok i = Running segments (λ k. isAbsent (placeOf (tableOf cluster) k)) i ok
+
+abbrev μ-loop : tie.MeasureT-loop
+μ-loop cluster ok₀ i₀ ok i = segments - i
+
+loop-holds : tie.Need-loop-holds Inv-loop μ-loop
+loop-holds c = running-none _ _
+
+loop-again : tie.Need-loop-again Inv-loop μ-loop
+loop-again c = search (needs, running-more)
+
+returns : tie.Need-returns Inv-loop μ-loop
+returns c = search (needs, running-all)
+
+pub empty-spec : {M : Type 1} → statement M
+empty-spec =
+    tie.close
+    (tie.spec
+    Inv-loop
+    μ-loop
+    loop-holds
+    (λ c. search needs)
+    (λ c. search needs)
+    (λ c κs. search needs)
+    (λ c. search needs)
+    (λ c. search needs)
+    loop-again
+    returns)

@@ -1,0 +1,42 @@
+-- Document 01, "Selector and placement examples": the five of placement, P10 to P14.
+--     Example        a store, the size asked for on node 0, and the base told; none is number 16
+--     told           what placement tells
+--     holding        a cluster with one segment
+--     twoSegments    node 0 has segments at 0 to 99 and at 150 to 159 only, here in two clusters
+--     examples       P10, P11, P12 and P13 on that store, P14 on one that is empty
+-- Assumes nothing.
+use Prim.Native.Nat.{ℕ}
+use mathlib.Core.List.{List, [], _∷_}
+use mathlib.Core.Option.{Option, none, some}
+use lib.ListN.{replicate}
+use Rattle.store.specs.declared.Place.{Place}
+use Rattle.store.specs.declared.Place.the-variants.{Present}
+use Rattle.store.specs.declared.Cluster.{Cluster}
+use Rattle.store.specs.declared.Store.{Store}
+use Rattle.store.specs.Records.{passwordSize, startingStore, started, recordOf, tableAt, putRecord, withPlace}
+use Rattle.store.specs.Placement.{newBase}
+
+pub record Example : Type 0 where
+  pub store : Store
+  pub size : ℕ
+  pub base : Option ℕ
+
+abbrev pub told : Example → Option ℕ
+told e = newBase (tableAt (e .store)) 0 (e .size)
+
+abbrev holding : ℕ → Place → Cluster
+holding i p = withPlace (started (replicate passwordSize 0) (replicate passwordSize 0)) i p
+
+unfoldable pub twoSegments : Store
+twoSegments =
+    putRecord (putRecord startingStore (recordOf 0 2) (holding 5 (Present 0 100)))
+    (recordOf 0 7) (holding 0 (Present 150 10))
+
+unfoldable pub examples : List Example
+examples =
+    record { store = twoSegments; size = 50; base = some 100 }
+    ∷ record { store = twoSegments; size = 51; base = some 160 }
+    ∷ record { store = twoSegments; size = 3936; base = some 160 }
+    ∷ record { store = twoSegments; size = 3937; base = none }
+    ∷ record { store = startingStore; size = 4096; base = some 0 }
+    ∷ []

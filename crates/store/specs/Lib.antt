@@ -1,0 +1,5 @@
+pub mod Records
+pub mod Sound
+pub mod Placement
+pub mod Passes
+pub mod Examples

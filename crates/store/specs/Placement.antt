@@ -1,0 +1,32 @@
+-- Document 01, "The calls": the base of a new segment is the smallest at which it fits.
+--     clear ts node p           a place shares no byte with a present segment of the node, in whichever cluster
+--     fits ts node size base    that many bytes from base on lie inside the node's memory, and are clear; a node
+--                               above 3 has no memory
+--     newBase ts node size      the smallest base at which that many bytes fit, or none
+--     found                     what the code's answer says: the base, or that no base exists (16)
+-- Assumes nothing.
+use Prim.Native.Nat.{ℕ}
+use mathlib.Core.Bool.{Bool, _&&_}
+use mathlib.Core.Option.{Option, none, some}
+use lib.Dec.{ltb}
+use Rattle.loops.specs.Below.{every}
+use Rattle.loops.specs.Search.{least}
+use Rattle.store.specs.declared.Place.{Place}
+use Rattle.store.specs.declared.Place.the-variants.{Present}
+use Rattle.store.specs.declared.Found.{Found}
+use Rattle.store.specs.declared.Found.the-variants.{At, Nowhere}
+use Rattle.store.specs.Records.{nodes, clusters, segments, nodeMemory, Tables, placeOn}
+use Rattle.store.specs.Sound.{inside, apart}
+
+unfoldable pub clear : Tables → ℕ → Place → Bool
+clear ts node p = every clusters (λ l. every segments (λ i. apart p (placeOn ts node l i)))
+
+unfoldable pub fits : Tables → ℕ → ℕ → ℕ → Bool
+fits ts node size base = ltb node nodes && inside (Present base size) && clear ts node (Present base size)
+
+unfoldable pub newBase : Tables → ℕ → ℕ → Option ℕ
+newBase ts node size = least nodeMemory (fits ts node size)
+
+abbrev pub found : Found → Option ℕ
+found (At base) = some base
+found Nowhere = none

@@ -1,0 +1,115 @@
+-- Document 01, "The store": the nodes, the clusters' records and how a segment is found in them.
+--     nodes, clusters, segments    nodes of the store, clusters of a node, segments of a cluster
+--     records                      the clusters of all nodes
+--     nodeMemory, memory           bytes of one node's shared memory, bytes of the lent slice
+--     passwordSize                 bytes of a password
+--     absentSegment, inactive      an absent segment, and a cluster's record as in the starting store
+--     startingStore                all clusters inactive
+--     started                      the record of a new cluster with these passwords
+--     Table, tableOf, Tables       all of a cluster's record but its passwords; the tables of all records
+--     recordOf                     the number of the record of a node's cluster
+--     noCluster                    what the code's reads give past the last record: an inactive cluster
+--     clusterAt, tableAt           record n of the store, and its table
+--     segmentOf, placeOf           segment i of a table, and its place
+--     placeAt, placeOn             the place of segment i of record n, and of a node's cluster
+--     putRecord                    the store with record n replaced
+--     withSegment, withPlace       the record with segment i, or its place, replaced
+-- Assumes nothing.
+use Prim.Native.Nat.{ℕ, _+_, _*_}
+use mathlib.Core.Bool.{Bool, true, false}
+use mathlib.Core.List.{List, []}
+use lib.ListN.{getD, set, replicate}
+use Rattle.store.specs.declared.Place.{Place}
+use Rattle.store.specs.declared.Place.the-variants.{Absent}
+use Rattle.store.specs.declared.Segment.{Segment}
+use Rattle.store.specs.declared.Cluster.{Cluster}
+use Rattle.store.specs.declared.Store.{Store}
+
+abbrev pub nodes : ℕ
+nodes = 4
+
+abbrev pub clusters : ℕ
+clusters = 8
+
+abbrev pub segments : ℕ
+segments = 8
+
+abbrev pub records : ℕ
+records = 32
+
+abbrev pub nodeMemory : ℕ
+nodeMemory = 4096
+
+abbrev pub memory : ℕ
+memory = 16384
+
+abbrev pub passwordSize : ℕ
+passwordSize = 16
+
+-- ---- the starting store
+
+abbrev pub absentSegment : Segment
+absentSegment = record { place = Absent }
+
+abbrev pub inactive : Cluster
+inactive =
+    record {
+      active = false;
+      read = replicate passwordSize 0;
+      write = replicate passwordSize 0;
+      segments = replicate segments absentSegment;
+    }
+
+abbrev pub startingStore : Store
+startingStore = record { clusters = replicate records inactive }
+
+abbrev pub started : List ℕ → List ℕ → Cluster
+started read write =
+    record { active = true; read = read; write = write; segments = replicate segments absentSegment }
+
+-- ---- reading the records
+
+pub record Table : Type 0 where
+  pub active : Bool
+  pub segments : List Segment
+
+abbrev pub tableOf : Cluster → Table
+tableOf c = record { active = c .active; segments = c .segments }
+
+abbrev pub Tables : Type 0
+Tables = ℕ → Table
+
+abbrev pub recordOf : ℕ → ℕ → ℕ
+recordOf node local = node * clusters + local
+
+abbrev pub noCluster : Cluster
+noCluster = record { active = false; read = []; write = []; segments = [] }
+
+abbrev pub clusterAt : Store → ℕ → Cluster
+clusterAt s n = getD (s .clusters) n noCluster
+
+abbrev pub tableAt : Store → Tables
+tableAt s n = tableOf (clusterAt s n)
+
+abbrev pub segmentOf : Table → ℕ → Segment
+segmentOf t i = getD (t .segments) i absentSegment
+
+abbrev pub placeOf : Table → ℕ → Place
+placeOf t i = segmentOf t i .place
+
+abbrev pub placeAt : Tables → ℕ → ℕ → Place
+placeAt ts n i = placeOf (ts n) i
+
+abbrev pub placeOn : Tables → ℕ → ℕ → ℕ → Place
+placeOn ts node local i = placeAt ts (recordOf node local) i
+
+-- ---- changing them
+
+abbrev pub putRecord : Store → ℕ → Cluster → Store
+putRecord s n c = record { clusters = set (s .clusters) n c }
+
+abbrev pub withSegment : Cluster → ℕ → Segment → Cluster
+withSegment c i g = record { active = c .active; read = c .read; write = c .write; segments = set (c .segments) i g }
+
+abbrev pub withPlace : Cluster → ℕ → Place → Cluster
+withPlace c i p = withSegment c i (record { place = p })

@@ -1,0 +1,97 @@
+// Placement by jumps: a base that a segment is in the way of gives way to that segment's end.
+ghost use mathlib.Core.Path.{_≡_};
+ghost use Prim.Native.Nat.{_<_};
+ghost use Rattle.store.specs.Records.{nodes, segments, tableOf, tableAt, placeOf};
+ghost use Rattle.store.specs.Placement.{found, newBase};
+ghost use Rattle.store.specs.Passes as passes;
+use crate::CLUSTERS;
+use crate::Cluster;
+use crate::Found;
+use crate::NODE_MEMORY;
+use crate::NODES;
+use crate::Place;
+use crate::SEGMENTS;
+use crate::Store;
+
+// The base to try after a place: the same if `size` bytes from it share none with the place, else the place's end.
+// No sum is formed with base or size, so none can wrap.
+fn past(place: Place, base: usize, size: usize) -> usize
+    ensures { λ r. ⌜ r ≡ passes.past size place base ⌝ }
+{
+    match place {
+        Place::Absent => base,
+        Place::Present {
+            base: start,
+            length,
+        } => {
+            let from = start as usize;
+            let to = from + length as usize;
+            if to <= base {
+                return base;
+            }
+            if from < base {
+                return to;
+            }
+            if size <= from - base {
+                return base;
+            }
+            to
+        }
+    }
+}
+
+// The base to try after the eight segments of a cluster.
+fn past_cluster(cluster: Cluster, base: usize, size: usize) -> usize
+    ensures { λ r. ⌜ r ≡ passes.climb segments (placeOf (tableOf cluster)) size base ⌝ }
+{
+    let mut next = base;
+    let mut i: usize = 0;
+    while i < SEGMENTS {
+        let segment = cluster.segments[i];
+        let place = segment.place;
+        next = past(place, next, size);
+        i += 1;
+    }
+    next
+}
+
+// The base to try after the 64 segments of a node.
+fn past_node(store: Store, node: usize, base: usize, size: usize) -> usize
+    requires { ⌜ node < nodes ⌝ }
+    ensures { λ r. ⌜ r ≡ passes.nodeClimb (tableAt store) node size base ⌝ }
+{
+    let mut next = base;
+    let mut local: usize = 0;
+    while local < CLUSTERS {
+        let cluster = store.clusters[node * CLUSTERS + local];
+        next = past_cluster(cluster, next, size);
+        local += 1;
+    }
+    next
+}
+
+// The smallest base at which `size` bytes fit on the node. A base that a pass leaves as it is fits; any other pass
+// ends at a segment's end, and nothing fits between.
+pub fn new_base(store: Store, node: usize, size: usize) -> Found
+    ensures { λ r. ⌜ found r ≡ newBase (tableAt store) node size ⌝ }
+{
+    if NODES <= node {
+        return Found::Nowhere;
+    }
+    if size < 1 {
+        return Found::Nowhere;
+    }
+    if NODE_MEMORY < size {
+        return Found::Nowhere;
+    }
+    let last = NODE_MEMORY - size;
+    let mut base: usize = 0;
+    while base <= last {
+        let next = past_node(store, node, base, size);
+        if next == base {
+            return Found::At(base);
+        }
+        base = next;
+    }
+    Found::Nowhere
+}

@@ -1,0 +1,145 @@
+// Soundness by a map of a node's bytes: each segment marks its own, and meets none that is marked. One pass over the
+// segments does what the definition's pairs would take some ten times as long for.
+ghost use mathlib.Core.Path.{_≡_};
+ghost use Prim.Native.Nat.{_<_};
+ghost use lib.ListN.{length, replicate};
+ghost use Rattle.loops.specs.Below.{every};
+ghost use Rattle.store.specs.Records.{nodes, clusters, segments, nodeMemory, tableOf, placeOf};
+ghost use Rattle.store.specs.Sound as sound-spec;
+ghost use Rattle.store.specs.Passes as passes;
+use crate::CLUSTERS;
+use crate::Cluster;
+use crate::MEMORY;
+use crate::NODE_MEMORY;
+use crate::NODES;
+use crate::PASSWORD_SIZE;
+use crate::Place;
+use crate::SEGMENTS;
+use crate::Store;
+
+// Marks every byte of the part and tells whether none was marked. No early exit: a loop without one is quicker here.
+fn mark(part: &mut [u8]) -> bool
+    ensures { λ r. ⌜ (r ≡ passes.zeros (now (part .entry)))
+        × (now (part .exit) ≡ replicate (length (now (part .entry))) 1) ⌝ }
+{
+    let mut fresh = true;
+    let mut i: usize = 0;
+    while i < part.len() {
+        fresh = (part[i] == 0) & fresh;
+        part[i] = 1;
+        i += 1;
+    }
+    fresh
+}
+
+// Marks the bytes of a place in its node's map: false if it is out of range or shares a byte with one marked before.
+// The end is worked out in usize, where the sum of two u16 does not wrap.
+fn claim(place: Place, map: &mut [u8]) -> bool
+    requires { ⌜ length (now map) ≡ nodeMemory ⌝ }
+    ensures { λ r. ⌜ passes.Claimed place (now (map .entry)) r (now (map .exit)) ⌝ }
+{
+    match place {
+        Place::Absent => true,
+        Place::Present { base, length } => {
+            let from = base as usize;
+            let size = length as usize;
+            if size < 1 {
+                return false;
+            }
+            let to = from + size;
+            if NODE_MEMORY < to {
+                return false;
+            }
+            mark(&mut map[from..to])
+        }
+    }
+}
+
+// Claims each segment of a cluster in turn.
+fn claim_all(cluster: Cluster, map: &mut [u8]) -> bool
+    requires { ⌜ length (now map) ≡ nodeMemory ⌝ }
+    ensures { λ r. ⌜ passes.ClaimedAll cluster (now (map .entry)) r (now (map .exit)) ⌝ }
+{
+    let mut ok = true;
+    let mut i: usize = 0;
+    while i < SEGMENTS {
+        let segment = cluster.segments[i];
+        let place = segment.place;
+        ok = claim(place, map) & ok;
+        i += 1;
+    }
+    ok
+}
+
+fn zero(password: [u8; PASSWORD_SIZE]) -> bool
+    ensures { λ r. ⌜ r ≡ sound-spec.zeroBytes password ⌝ }
+{
+    let mut ok = true;
+    let mut i: usize = 0;
+    while i < PASSWORD_SIZE {
+        ok = (password[i] == 0) & ok;
+        i += 1;
+    }
+    ok
+}
+
+fn absent(place: Place) -> bool
+    ensures { λ r. ⌜ r ≡ sound-spec.isAbsent place ⌝ }
+{
+    match place {
+        Place::Absent => true,
+        Place::Present { base: _, length: _ } => false,
+    }
+}
+
+fn empty(cluster: Cluster) -> bool
+    ensures { λ r. ⌜ r ≡ every segments (λ i. sound-spec.isAbsent (placeOf (tableOf cluster) i)) ⌝ }
+{
+    let mut ok = true;
+    let mut i: usize = 0;
+    while i < SEGMENTS {
+        let segment = cluster.segments[i];
+        let place = segment.place;
+        ok = absent(place) & ok;
+        i += 1;
+    }
+    ok
+}
+
+// An inactive cluster has zero passwords and only absent segments.
+fn settled(cluster: Cluster) -> bool
+    ensures { λ r. ⌜ r ≡ sound-spec.settled cluster ⌝ }
+{
+    let read = cluster.read;
+    let write = cluster.write;
+    cluster.active | ((zero(read) & zero(write)) & empty(cluster))
+}
+
+// The clusters of a node are settled, and the map takes all their segments.
+fn node_sound(store: Store, node: usize) -> bool
+    requires { ⌜ node < nodes ⌝ }
+    ensures { λ r. ⌜ r ≡ every clusters (passes.clusterSound store node) ⌝ }
+{
+    let mut map = [0u8; NODE_MEMORY];
+    let mut ok = true;
+    let mut local: usize = 0;
+    while local < CLUSTERS {
+        let cluster = store.clusters[node * CLUSTERS + local];
+        ok = (settled(cluster) & claim_all(cluster, &mut map)) & ok;
+        local += 1;
+    }
+    ok
+}
+
+// Whether the records are sound with a slice of `size` bytes.
+pub fn sound(store: Store, size: usize) -> bool
+    ensures { λ r. ⌜ r ≡ sound-spec.sound store size ⌝ }
+{
+    let mut ok = true;
+    let mut node: usize = 0;
+    while node < NODES {
+        ok = node_sound(store, node) & ok;
+        node += 1;
+    }
+    (size == MEMORY) & ok
+}
