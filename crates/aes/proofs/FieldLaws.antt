@@ -1,5 +1,5 @@
--- Doubling modulo 2 ^ w + p, for every width w: b shifted has degree below w + 1, so that of the long division only the
--- last step may act; it takes the modulus away where the highest bit of b is set, and what is left is the shift modulo
+-- Doubling modulo 2 ^ w + p, for every width w: b shifted has degree at most w, so that of the division only the last
+-- step may act; it takes the modulus away where the highest bit of b is set, and what is left is the shift modulo
 -- 2 ^ w with p added. The field's other facts are computed tests: 01 leaves a byte as it is, 03 is 02 and 01 together,
 -- and the inverse is one.
 -- Assumes nothing.
@@ -17,43 +17,47 @@ use lib.Pow.{pow-pos, pow-mono, mod-pow-add}
 use Rattle.bits.proofs.OperationLaws.{shl-top, shl-split}
 use Rattle.loops.specs.Below.{every}
 use Rattle.loops.proofs.BelowLaws.{every-equal}
-use Rattle.aes.specs.Field.{coefficient, product, remainder, times, dot, squares, inverse}
+use Rattle.aes.specs.Field.{product, reduced, remainder, times, dot, squares, inverse}
 
 -- the product with x is the shift
 product-two : (n b : ℕ) → product n 2 b ≡ b % 2 ^ n * 2
 unfolding product
 product-two zero b = omega arith
 product-two (suc n) b =
-    ap₂ bitXor (two (coefficient n b)) (product-two n b)
-    ∙ xor-shifted (coefficient n b) (suc n) (b % 2 ^ n * 2)
-    (subst (λ (x : ℕ). b % 2 ^ n * 2 < x) (sym (pow-suc 2 n)) (double-lt (mod-lt b (pow-pos n))))
-    ∙ ap (λ (x : ℕ). coefficient n b * x + b % 2 ^ n * 2) (pow-suc 2 n)
-    ∙ ap (λ (x : ℕ). x + b % 2 ^ n * 2) (sym (mul-assoc (coefficient n b) (2 ^ n) 2))
-    ∙ sym (add-mul (coefficient n b * 2 ^ n) (b % 2 ^ n) 2)
-    ∙ ap (λ (x : ℕ). x * 2) (sym (mod-pow-add b 1 n) ∙ ap (λ (x : ℕ). b % 2 ^ x) (add-comm 1 n ∙ add-one n))
+    ap (λ (x : ℕ). bitXor (2 * (b % 2)) (x * 2)) (product-two n (b / 2))
+    ∙ xor-comm (2 * (b % 2)) (b / 2 % 2 ^ n * 2 * 2)
+    ∙ ap (λ (x : ℕ). bitXor x (2 * (b % 2))) four
+    ∙ xor-shifted (b / 2 % 2 ^ n) 2 (2 * (b % 2)) (omega arith)
+    ∙ twice
+    ∙ ap (λ (x : ℕ). x * 2) (sym (mod-pow-add b n 1) ∙ ap (λ (x : ℕ). b % 2 ^ x) (add-one n))
   where
-    double-lt : {x m : ℕ} → x < m → x * 2 < m * 2
-    double-lt h = omega arith
+    four : b / 2 % 2 ^ n * 2 * 2 ≡ b / 2 % 2 ^ n * 4
+    four = omega arith
 
-    two : (q : ℕ) → 2 * (q * 2 ^ n) ≡ q * 2 ^ suc n
-    two q = mul-comm 2 (q * 2 ^ n) ∙ mul-assoc q (2 ^ n) 2 ∙ ap (λ (x : ℕ). q * x) (sym (pow-suc 2 n))
+    twice : b / 2 % 2 ^ n * 4 + 2 * (b % 2) ≡ (b / 2 % 2 ^ n * 2 + b % 2) * 2
+    twice = omega arith
 
--- one step of the division: the modulus, shifted, is taken away if the coefficient q is 1
-abbrev reduced : ℕ → ℕ → ℕ → ℕ → ℕ
-reduced m n q p = bitXor (m * (q * 2 ^ n)) p
+-- nothing to take away from a polynomial of degree below w
+reduced-none : (w m p : ℕ) → p < 2 ^ w → reduced w m p ≡ p
+reduced-none w m p h =
+    ap (λ (x : ℕ). bitXor x p) (ap (λ (x : ℕ). m * (x % 2)) (div-eq-of-lt h) ∙ mul-zero m)
 
-reduced-not : (m n p : ℕ) → reduced m n 0 p ≡ p
-reduced-not m n p = ap (λ (x : ℕ). bitXor x p) (ap (λ (x : ℕ). m * x) (zero-mul (2 ^ n)) ∙ mul-zero m)
+rest : (p : ℕ) → p / 2 * 2 + p % 2 ≡ p
+rest p = omega arith
 
--- of a polynomial of degree below w + 1 only the last step may take something away
-remainder-last : (w m n p : ℕ) → p < 2 ^ suc w → remainder w m (suc n) p ≡ reduced m 0 (coefficient w p) p
+remainder-none : (w m n p : ℕ) → p < 2 ^ w → remainder w m n p ≡ p
 unfolding remainder
-remainder-last w m zero p h = ap (λ (k : ℕ). reduced m 0 (coefficient k p) p) (add-zero w)
-remainder-last w m (suc n) p h =
-    ap (λ (q : ℕ). remainder w m (suc n) (reduced m (suc n) (q % 2) p))
-    (div-eq-of-lt (lt-of-lt-of-le h (pow-mono (omega arith))))
-    ∙ ap (remainder w m (suc n)) (reduced-not m (suc n) p)
-    ∙ remainder-last w m n p h
+remainder-none w m zero p h = refl
+remainder-none w m (suc n) p h =
+    ap (λ (x : ℕ). reduced w m (x * 2 + p % 2)) (remainder-none w m n (p / 2) (omega arith))
+    ∙ ap (reduced w m) (rest p) ∙ reduced-none w m p h
+
+-- of a polynomial of degree at most w only the last step may take something away
+remainder-last : (w m n p : ℕ) → p < 2 ^ suc w → remainder w m (suc n) p ≡ reduced w m p
+unfolding remainder
+remainder-last w m n p h =
+    ap (λ (x : ℕ). reduced w m (x * 2 + p % 2)) (remainder-none w m n (p / 2) (omega (arith, pow-suc 2 w)))
+    ∙ ap (reduced w m) (rest p)
 
 small : (q p k : ℕ) → q < 2 → p < k → q * p < k
 small zero p k l h = subst (λ (x : ℕ). x < k) (sym (zero-mul p)) (omega arith)
@@ -65,9 +69,8 @@ pub times-two : (w p b : ℕ) → p < 2 ^ suc w → b < 2 ^ suc w
 unfolding times
 times-two w p b hp hb =
     ap (remainder (suc w) m (suc w)) (product-two (suc w) b ∙ ap (λ (x : ℕ). x * 2) (mod-eq-of-lt hb))
-    ∙ remainder-last (suc w) m w (b * 2) (subst (λ (x : ℕ). b * 2 < x) (sym (pow-suc 2 (suc w))) (omega arith))
-    ∙ ap (λ (x : ℕ). reduced m 0 x (b * 2)) top
-    ∙ ap₂ bitXor (ap (λ (x : ℕ). m * x) (mul-one q) ∙ mul-comm m q ∙ mul-add q (2 ^ suc w) p) (shl-split w b)
+    ∙ remainder-last (suc w) m w (b * 2) (omega (arith, pow-suc 2 (suc w)))
+    ∙ ap₂ bitXor (ap (λ (x : ℕ). m * x) top ∙ mul-comm m q ∙ mul-add q (2 ^ suc w) p) (shl-split w b)
     ∙ xor-block (suc w) q q (q * p) r (small q p (2 ^ suc w) low hp) (mod-lt (b * 2) (pow-pos (suc w)))
     ∙ ap (λ (x : ℕ). x * 2 ^ suc w + bitXor (q * p) r) (xor-self q)
     ∙ ap (λ (x : ℕ). x + bitXor (q * p) r) (zero-mul (2 ^ suc w))
@@ -86,7 +89,7 @@ times-two w p b hp hb =
     low : q < 2
     low = div-lt-iff-lt-mul (pow-pos w) .1 (subst (λ (x : ℕ). b < x) (pow-suc 2 w ∙ mul-comm (2 ^ w) 2) hb)
 
-    top : coefficient (suc w) (b * 2) ≡ q
+    top : b * 2 / 2 ^ suc w % 2 ≡ q
     top = ap (λ (x : ℕ). x % 2) (shl-top w b) ∙ mod-eq-of-lt low
 
 -- doubling of a byte, as the code writes it

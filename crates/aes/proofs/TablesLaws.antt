@@ -1,12 +1,24 @@
--- The rule at each entry of the table that is lent.
+-- The rule of the substitution table: one test over all 256 entries makes a list the table, and the table has the rule
+-- at each entry.
 -- Assumes nothing.
 use mathlib.Core.Path.{_≡_, ap, _∙_}
+use mathlib.Core.Bool.{Bool, true}
 use mathlib.Core.List.{List}
 use Prim.Native.Nat.{ℕ, _<_}
-use lib.ListN.{getD}
-use Rattle.loops.proofs.TabulateLaws.{getD-tabulate}
+use lib.Dec.{eqb}
+use lib.ListN.{length, getD}
+use Rattle.loops.specs.Below.{every}
+use Rattle.loops.proofs.BelowLaws.{every-equal}
+use Rattle.loops.proofs.TabulateLaws.{getD-tabulate, tabulate-is}
 use Rattle.aes.specs.Transformations.{sbox}
 use Rattle.aes.specs.Tables.{substitution, IsTables}
+
+unfoldable pub obeys : List ℕ → Bool
+obeys t = every 256 (λ x. eqb (getD t x 0) (sbox x))
+
+pub tables-tested : (t : List ℕ) → length t ≡ 256 → obeys t ≡ true → IsTables t
+unfolding obeys substitution
+tables-tested t e test = tabulate-is 256 sbox 0 t e (every-equal 256 (λ x. getD t x 0) sbox test)
 
 pub tables-at : (t : List ℕ) → IsTables t → (x : ℕ) → x < 256 → getD t x 0 ≡ sbox x
 unfolding substitution

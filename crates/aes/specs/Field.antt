@@ -1,9 +1,11 @@
 -- FIPS 197, section 4: a byte is a polynomial over the field of two elements, bit i the coefficient of x^i.
 -- Polynomials are added by `bitXor` (4.1). The width w and the modulus m, a polynomial of degree w, are left open where
 -- they can be; AES has 8 and 11b.
---     coefficient i b      the coefficient of x^i
---     product n a b        a times b, a polynomial of degree below n: the sum of a x^i over the powers x^i of b
---     remainder w m n p    p, of degree below w + n, modulo m: the multiple of m with p's highest term is taken away
+--     product n a b        a times b, a polynomial of degree below n: a times its constant term, and x times a times
+--                          the rest
+--     reduced w m p        m taken away from a polynomial of degree at most w, where it has the term x^w
+--     remainder w m n p    p, of degree below w + n, modulo m: x times the remainder of what stands above the constant
+--                          term, and that term, reduced
 --     times w m a b        4.2: the product modulo m
 --     dot a b              4.2: multiplication of bytes, modulo x^8 + x^4 + x^3 + x + 1
 --     squares n b          the product of b, b^2, b^4, b^8 .., with n factors after the first
@@ -12,16 +14,16 @@
 use Prim.Native.Nat.{ℕ, zero, suc, _+_, _*_, _/_, _%_, _^_}
 use lib.Bits.{bitXor}
 
-abbrev pub coefficient : ℕ → ℕ → ℕ
-coefficient i b = b / 2 ^ i % 2
-
 unfoldable pub product : ℕ → ℕ → ℕ → ℕ
 product zero a b = 0
-product (suc n) a b = bitXor (a * (coefficient n b * 2 ^ n)) (product n a b)
+product (suc n) a b = bitXor (a * (b % 2)) (product n a (b / 2) * 2)
+
+abbrev pub reduced : ℕ → ℕ → ℕ → ℕ
+reduced w m p = bitXor (m * (p / 2 ^ w % 2)) p
 
 unfoldable pub remainder : ℕ → ℕ → ℕ → ℕ → ℕ
 remainder w m zero p = p
-remainder w m (suc n) p = remainder w m n (bitXor (m * (coefficient (w + n) p * 2 ^ n)) p)
+remainder w m (suc n) p = reduced w m (remainder w m n (p / 2) * 2 + p % 2)
 
 unfoldable pub times : ℕ → ℕ → ℕ → ℕ → ℕ
 times w m a b = remainder w m w (product w a b)
