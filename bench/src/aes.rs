@@ -1,9 +1,9 @@
-//! The text of crates/aes in Rust, function by function: what the measurements compare with. The substitution table is
+//! The text of crates/field and crates/aes in Rust, function by function: what the measurements compare with. The substitution table is
 //! read from the proved source, so that its numbers stand once in the repository.
 
 pub type Tables = [u8; 256];
 
-const SBOX: Tables = read_table(include_bytes!("../../crates/aes/src/table.rt"));
+const SBOX: Tables = read_table(include_bytes!("../../crates/field/src/table.rt"));
 
 /// The numbers that stand as `0x..` in the text.
 const fn read_table(text: &[u8]) -> Tables {

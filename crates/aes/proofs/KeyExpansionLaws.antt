@@ -15,7 +15,8 @@ use lib.Dec.{eqb}
 use lib.ListN.{length, getD, take, drop, replicate}
 use Rattle.loops.specs.Tabulate.{tabulate}
 use Rattle.loops.proofs.TabulateLaws.{tabulate-is, Filled}
-use Rattle.aes.specs.Transformations.{cell, state, sbox}
+use Rattle.aes.specs.Transformations.{cell, state}
+use Rattle.field.specs.Substitution.{sbox}
 use Rattle.aes.specs.KeyExpansion.{roundConstant, rcon, rotWord, subWord, addWords, pick, newWord}
 use Rattle.aes.specs.KeyExpansion.{slide, expand, roundKey}
 use Rattle.aes.proofs.StateLaws.{cells}

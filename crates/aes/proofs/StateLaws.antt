@@ -8,9 +8,9 @@ use native.Mathlib.Omega.{arith}
 use lib.Bits.{bitXor, xor-comm}
 use lib.ListN.{getD}
 use Rattle.bits.proofs.OperationLaws.{xor-assoc}
-use Rattle.aes.specs.Field.{dot}
+use Rattle.field.specs.Field.{dot}
 use Rattle.aes.specs.Transformations.{cell, mixed}
-use Rattle.aes.proofs.FieldLaws.{dot-one}
+use Rattle.field.proofs.FieldLaws.{dot-one}
 
 -- what a rule for rows and columns is at i
 abbrev pub cells : (ℕ → ℕ → ℕ) → ℕ → ℕ

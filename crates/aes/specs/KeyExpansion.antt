@@ -15,8 +15,8 @@ use lib.Bits.{bitXor}
 use lib.Dec.{eqb}
 use lib.ListN.{getD, take, drop}
 use Rattle.loops.specs.Tabulate.{tabulate}
-use Rattle.aes.specs.Field.{dot}
-use Rattle.aes.specs.Transformations.{sbox}
+use Rattle.field.specs.Field.{dot}
+use Rattle.field.specs.Substitution.{sbox}
 
 unfoldable pub doublings : ℕ → ℕ
 doublings zero = 0x01

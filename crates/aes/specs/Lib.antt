@@ -1,4 +1,3 @@
-pub mod Field
 pub mod Transformations
 pub mod KeyExpansion
 pub mod Cipher

@@ -1,8 +1,6 @@
 -- FIPS 197, section 5.1: the state and its four transformations.
 --     cell s r c       3.4: the byte in row r and column c of the state s, which stands at r + 4 c of the block
 --     state f          the state whose byte in row r and column c is f r c
---     affine b         5.1.1: bit i of the result is the sum of bits i, i + 4 .. i + 7, modulo 8, of b and bit i of 63
---     sbox b           5.1.1: the inverse in the field, then the affine step
 --     subBytes s       5.1.1: every byte goes through the substitution
 --     shiftRows s      5.1.2: row r is turned left by r bytes
 --     matrix r k       5.1.3: the fixed matrix
@@ -10,30 +8,19 @@
 --     mixColumns s     5.1.3: every column is multiplied by the matrix
 --     addRoundKey s k  5.1.4: the round key k is added to the state, byte by byte
 -- Assumes nothing.
-use Prim.Native.Nat.{ℕ, zero, suc, _+_, _*_, _/_, _%_}
-use mathlib.Core.Bool.{Bool, xor}
+use Prim.Native.Nat.{ℕ, _+_, _*_, _/_, _%_}
 use mathlib.Core.List.{List, [], _∷_}
 use lib.Bits.{bitXor}
 use lib.ListN.{getD}
-use Rattle.bits.specs.Sets.{has, setOf}
 use Rattle.loops.specs.Tabulate.{tabulate}
-use Rattle.aes.specs.Field.{dot, inverse}
+use Rattle.field.specs.Field.{dot}
+use Rattle.field.specs.Substitution.{sbox}
 
 abbrev pub cell : List ℕ → ℕ → ℕ → ℕ
 cell s r c = getD s (r + 4 * c) 0
 
 abbrev pub state : (ℕ → ℕ → ℕ) → List ℕ
 state f = tabulate 16 (λ i. f (i % 4) (i / 4))
-
-unfoldable pub affine : ℕ → ℕ
-affine b =
-    setOf 8 (λ i.
-    xor (has i b)
-    (xor (has ((i + 4) % 8) b)
-    (xor (has ((i + 5) % 8) b) (xor (has ((i + 6) % 8) b) (xor (has ((i + 7) % 8) b) (has i 0x63))))))
-
-unfoldable pub sbox : ℕ → ℕ
-sbox b = let v = inverse b in affine v
 
 unfoldable pub subBytes : List ℕ → List ℕ
 subBytes s = state (λ r c. sbox (cell s r c))

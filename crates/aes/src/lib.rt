@@ -4,22 +4,20 @@ ghost use mathlib.Core.Path.{_≡_};
 ghost use mathlib.Core.List.{[], _∷_};
 ghost use Prim.Native.Nat.{_*_, _≤_, min};
 ghost use lib.Bits.{bitXor};
-ghost use Rattle.aes.specs.Field.{dot};
-ghost use Rattle.aes.specs.Transformations.{sbox, subBytes, shiftRows, mixed, mixColumns, addRoundKey};
+ghost use Rattle.field.specs.Field.{dot};
+ghost use Rattle.field.specs.Substitution.{sbox, substitution};
+ghost use Rattle.aes.specs.Transformations.{subBytes, shiftRows, mixed, mixColumns, addRoundKey};
 ghost use Rattle.aes.specs.KeyExpansion.{roundConstant, expand, roundKey};
 ghost use Rattle.aes.specs.Cipher.{cipher};
 ghost use Rattle.aes.specs.Tables.{IsTables};
 
-mod table;
+// What the rounds are lent.
+pub type Tables = [u8; 256];
 
-pub use table::Tables;
-pub use table::tables;
-
-// A byte doubled in the field: a shift, and where a bit falls out, the rest of the modulus added.
-fn doubled(b: u8) -> u8
-    ensures { λ r. ⌜ r ≡ dot 2 b ⌝ }
+pub fn tables() -> Tables
+    ensures { λ r. ⌜ r ≡ substitution ⌝ }
 {
-    (b << 1) ^ ((b >> 7) * 0x1b)
+    field::substitution_table()
 }
 
 // The round constant of a round, 1 to 10: 01 doubled once for each round before it.
@@ -30,7 +28,7 @@ fn round_constant(round: usize) -> u8
     let mut c: u8 = 0x01;
     let mut i: usize = 1;
     while i < round {
-        c = doubled(c);
+        c = field::doubled(c);
         i += 1;
     }
     c
@@ -83,7 +81,7 @@ fn shift_rows(s: [u8; 16]) -> [u8; 16]
 fn mix(a: u8, b: u8, c: u8, d: u8) -> u8
     ensures { λ r. ⌜ r ≡ bitXor (bitXor (dot 2 a) (dot 3 b)) (bitXor c d) ⌝ }
 {
-    (doubled(a) ^ (doubled(b) ^ b)) ^ (c ^ d)
+    (field::doubled(a) ^ (field::doubled(b) ^ b)) ^ (c ^ d)
 }
 
 // A column mixed: each byte from its own row down.

@@ -1,7 +1,7 @@
 -- 03 times a byte is its double and itself.
 -- Assumes nothing.
 use borrow.Author.Needs.{needs}
-use Rattle.aes.proofs.FieldLaws.{dot-three}
+use Rattle.field.proofs.FieldLaws.{dot-three}
 use Rattle.aes.proofs.mix.Statement.{statement}
 use Rattle.aes.proofs.mix.Tie as tie
 

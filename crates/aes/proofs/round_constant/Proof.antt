@@ -4,7 +4,7 @@ use mathlib.Core.Path.{_≡_, ap, _∙_}
 use Prim.Native.Nat.{ℕ, suc, _+_, _-_, _≤_}
 use native.Mathlib.Omega.{arith}
 use borrow.Author.Needs.{needs}
-use Rattle.aes.specs.Field.{dot}
+use Rattle.field.specs.Field.{dot}
 use Rattle.aes.specs.KeyExpansion.{doublings, roundConstant}
 use Rattle.aes.proofs.round_constant.Statement.{statement}
 use Rattle.aes.proofs.round_constant.Tie as tie

@@ -5,7 +5,8 @@ use mathlib.Core.List.{List}
 use Prim.Native.Nat.{ℕ, _-_}
 use borrow.Author.Needs.{needs}
 use Rattle.loops.proofs.TabulateLaws.{Filled, filled-none, filled-more, filled-all}
-use Rattle.aes.specs.Transformations.{cell, sbox, subBytes}
+use Rattle.aes.specs.Transformations.{cell, subBytes}
+use Rattle.field.specs.Substitution.{sbox}
 use Rattle.aes.proofs.StateLaws.{cells, cell-at}
 use Rattle.aes.proofs.sub_bytes.Statement.{statement}
 use Rattle.aes.proofs.sub_bytes.Tie as tie

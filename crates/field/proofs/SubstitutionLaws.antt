@@ -10,16 +10,15 @@ use lib.ListN.{length, getD}
 use Rattle.loops.specs.Below.{every}
 use Rattle.loops.proofs.BelowLaws.{every-equal}
 use Rattle.loops.proofs.TabulateLaws.{getD-tabulate, tabulate-is}
-use Rattle.aes.specs.Transformations.{sbox}
-use Rattle.aes.specs.Tables.{substitution, IsTables}
+use Rattle.field.specs.Substitution.{sbox, substitution}
 
 unfoldable pub obeys : List ℕ → Bool
 obeys t = every 256 (λ x. eqb (getD t x 0) (sbox x))
 
-pub tables-tested : (t : List ℕ) → length t ≡ 256 → obeys t ≡ true → IsTables t
+pub substitution-tested : (t : List ℕ) → length t ≡ 256 → obeys t ≡ true → t ≡ substitution
 unfolding obeys substitution
-tables-tested t e test = tabulate-is 256 sbox 0 t e (every-equal 256 (λ x. getD t x 0) sbox test)
+substitution-tested t e test = tabulate-is 256 sbox 0 t e (every-equal 256 (λ x. getD t x 0) sbox test)
 
-pub tables-at : (t : List ℕ) → IsTables t → (x : ℕ) → x < 256 → getD t x 0 ≡ sbox x
+pub substitution-at : (t : List ℕ) → t ≡ substitution → (x : ℕ) → x < 256 → getD t x 0 ≡ sbox x
 unfolding substitution
-tables-at t e x h = ap (λ (l : List ℕ). getD l x 0) e ∙ getD-tabulate 256 sbox 0 x h
+substitution-at t e x h = ap (λ (l : List ℕ). getD l x 0) e ∙ getD-tabulate 256 sbox 0 x h

@@ -17,7 +17,7 @@ use lib.Pow.{pow-pos, pow-mono, mod-pow-add}
 use Rattle.bits.proofs.OperationLaws.{shl-top, shl-split}
 use Rattle.loops.specs.Below.{every}
 use Rattle.loops.proofs.BelowLaws.{every-equal}
-use Rattle.aes.specs.Field.{product, reduced, remainder, times, dot, squares, inverse}
+use Rattle.field.specs.Field.{product, reduced, remainder, times, dot, squares, inverse}
 
 -- the product with x is the shift
 product-two : (n b : ℕ) → product n 2 b ≡ b % 2 ^ n * 2

@@ -1,9 +1,6 @@
 // The substitution table of FIPS 197, section 5.1.1.
 ghost use mathlib.Core.Path.{_≡_};
-ghost use Rattle.aes.specs.Tables.{substitution};
-
-// What the rounds are lent.
-pub type Tables = [u8; 256];
+ghost use Rattle.field.specs.Substitution.{substitution};
 
 const SBOX: [u8; 256] = [
     0x63,
@@ -265,7 +262,7 @@ const SBOX: [u8; 256] = [
 ];
 
 // The substitution of each byte, as the standard prints it.
-pub fn tables() -> Tables
+pub fn substitution_table() -> [u8; 256]
     ensures { λ r. ⌜ r ≡ substitution ⌝ }
 {
     SBOX

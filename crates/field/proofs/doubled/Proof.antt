@@ -2,9 +2,9 @@
 -- Assumes nothing.
 use mathlib.Core.Path.{sym}
 use borrow.Author.Needs.{needs}
-use Rattle.aes.proofs.FieldLaws.{dot-two}
-use Rattle.aes.proofs.doubled.Statement.{statement}
-use Rattle.aes.proofs.doubled.Tie as tie
+use Rattle.field.proofs.FieldLaws.{dot-two}
+use Rattle.field.proofs.doubled.Statement.{statement}
+use Rattle.field.proofs.doubled.Tie as tie
 
 returns : tie.Need-returns
 returns c = sym (dot-two (c .args .b) (search needs))
