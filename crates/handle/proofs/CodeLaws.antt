@@ -22,7 +22,8 @@ use Rattle.bits.proofs.SetLaws.{setOf-lt, has-setOf, same-bits, ones-setOf, has
 use Rattle.bits.proofs.OperationLaws.{has-and, mask-test}
 use Rattle.loops.specs.Tabulate.{tabulate}
 use Rattle.handle.specs.declared.Handle.{Handle}
-use Rattle.handle.specs.Sizes.{segments, subselectors}
+use Rattle.sizes.specs.Sizes.{segments}
+use Rattle.handle.specs.Sizes.{subselectors}
 use Rattle.handle.specs.Selectors.{references, allFlat, gapped, firstFlat, common, referenced, inFirst}
 use Rattle.handle.specs.Handles.{renewed, samePassword, converted, through, validates, reduced}
 use Rattle.handle.proofs.SelectorLaws.{first-here, first-past}

@@ -14,7 +14,8 @@ use Rattle.bits.proofs.ByteLaws.{word-bytes, bytes-word}
 use Rattle.loops.specs.Tabulate.{tabulate}
 use Rattle.loops.proofs.TabulateLaws.{tabulate-is}
 use Rattle.handle.specs.declared.Handle.{Handle}
-use Rattle.handle.specs.Sizes.{segments, subselectors, passwordBytes}
+use Rattle.sizes.specs.Sizes.{segments, passwordBytes}
+use Rattle.handle.specs.Sizes.{subselectors}
 use Rattle.handle.specs.Sizes.{nodeBytes, localAt, passwordAt, selectorAt, handleBytes}
 use Rattle.handle.specs.Selectors.{firstFlat, common, parameter}
 use Rattle.handle.specs.Handles.{encoded, decoded, noHandle, Holdable, Bytes, weakened, reduced}

@@ -17,7 +17,7 @@ use Rattle.loops.specs.Below.{every}
 use Rattle.loops.proofs.BelowLaws.{every-in, every-equal}
 use Rattle.aes.proofs.CipherLaws.{length-cipher}
 use Rattle.handle.specs.declared.Handle.{Handle}
-use Rattle.handle.specs.Sizes.{segments, passwordBytes}
+use Rattle.sizes.specs.Sizes.{segments, passwordBytes}
 use Rattle.handle.specs.Selectors.{flat}
 use Rattle.handle.specs.Handles.{samePassword, converted, through, validates}
 use Rattle.handle.specs.Conversion.{conversion}

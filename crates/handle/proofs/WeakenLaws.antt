@@ -14,7 +14,8 @@ use Rattle.bits.proofs.SetLaws.{count-none}
 use Rattle.bits.proofs.OperationLaws.{and-not}
 use Rattle.handle.specs.declared.Handle.{Handle}
 use Rattle.handle.specs.declared.Weakened.{Weakened}
-use Rattle.handle.specs.Sizes.{nodes, clusters, subselectors}
+use Rattle.sizes.specs.Sizes.{nodes, clusters}
+use Rattle.handle.specs.Sizes.{subselectors}
 use Rattle.handle.specs.Selectors.{references, excludes, anyFlat, gapped, firstFlat, common, referenced}
 use Rattle.handle.specs.Selectors.{keepsAll, parameter, spent}
 use Rattle.handle.specs.Handles.{renewed, weakened, weakening}

@@ -11,7 +11,7 @@ use Prim.Native.Nat.{ℕ}
 use mathlib.Core.List.{List, [], _∷_, _++_}
 use Rattle.handle.specs.declared.Handle.{Handle}
 use Rattle.handle.specs.declared.Weakened.{Weakened}
-use Rattle.handle.specs.Sizes.{segments}
+use Rattle.sizes.specs.Sizes.{segments}
 use Rattle.handle.specs.Selectors.{common, referenced}
 use Rattle.handle.specs.Handles.{weakening, reduced}
 

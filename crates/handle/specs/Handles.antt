@@ -37,7 +37,8 @@ use Rattle.bits.specs.Bytes.{bytes, word}
 use Rattle.loops.specs.Below.{every}
 use Rattle.handle.specs.declared.Handle.{Handle}
 use Rattle.handle.specs.declared.Weakened.{Weakened}
-use Rattle.handle.specs.Sizes.{nodes, clusters, segments, subselectors, passwordBytes}
+use Rattle.sizes.specs.Sizes.{nodes, clusters, segments, passwordBytes}
+use Rattle.handle.specs.Sizes.{subselectors}
 use Rattle.handle.specs.Sizes.{nodeBytes, localAt, passwordAt, selectorAt}
 use Rattle.handle.specs.Selectors.{flat, allFlat, gapped, common, referenced}
 use Rattle.handle.specs.Selectors.{keepsAll, parameter, replaced, spent, inFirst}

@@ -1,29 +1,14 @@
--- The sizes that document 01 gives in "The store" and "The handle".
---     nodes            how many nodes there are, numbered from 0
---     clusters         how many clusters a node has, their local numbers from 0
---     segments         how many segments a cluster has, numbered from 0
---     subselectors     how many subselectors a selector has, each one byte of a handle
---     passwordBytes    how many bytes a password has
---     nodeBytes        how many bytes of a handle are its node
---     localAt, passwordAt, selectorAt    the places in a handle at which these begin
---     handleBytes      how many bytes a handle has
+-- Document 01, "The handle": the bytes of a handle.
+--     nodeBytes        the bytes of its node, which come first
+--     localAt, passwordAt, selectorAt    where the local number, the password and the selector begin
+--     subselectors     the subselectors of a selector, a byte each
+--     handleBytes      the bytes of a handle
 -- Assumes nothing.
 use Prim.Native.Nat.{ℕ, _+_}
-
-abbrev pub nodes : ℕ
-nodes = 4
-
-abbrev pub clusters : ℕ
-clusters = 8
-
-abbrev pub segments : ℕ
-segments = 8
+use Rattle.sizes.specs.Sizes.{passwordBytes}
 
 abbrev pub subselectors : ℕ
 subselectors = 4
-
-abbrev pub passwordBytes : ℕ
-passwordBytes = 16
 
 abbrev pub nodeBytes : ℕ
 nodeBytes = 2

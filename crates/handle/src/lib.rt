@@ -5,7 +5,7 @@ mod codec;
 use aes::Tables;
 ghost use mathlib.Core.Path.{_≡_};
 ghost use Rattle.aes.specs.Tables.{IsTables};
-ghost use Rattle.handle.specs.Sizes.{segments};
+ghost use Rattle.sizes.specs.Sizes.{segments};
 ghost use Rattle.handle.specs.Selectors as sel;
 ghost use Rattle.handle.specs.Handles as spec;
 ghost use Rattle.handle.specs.Conversion.{conversion};

@@ -15,7 +15,8 @@ use Rattle.loops.proofs.BelowLaws.{every-in, every-at, every-pair-in, every-pai
 use Rattle.loops.proofs.RunningLaws.{Running, running-all}
 use Rattle.store.specs.declared.Place.{Place}
 use Rattle.store.specs.declared.Store.{Store}
-use Rattle.store.specs.Records.{nodes, clusters, segments, memory, recordOf, clusterAt, tableAt, placeAt, placeOn}
+use Rattle.sizes.specs.Sizes.{nodes, clusters, segments, memory}
+use Rattle.store.specs.Records.{recordOf, clusterAt, tableAt, placeAt, placeOn}
 use Rattle.store.specs.Sound.{inside, soundSegment, apart, settled, sound}
 use Rattle.store.specs.Passes.{free, claimable, claims, nodeMap, clusterSound}
 use Rattle.store.proofs.PlaceLaws.{apart-sym}

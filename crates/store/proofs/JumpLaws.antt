@@ -13,7 +13,8 @@ use Rattle.loops.specs.Turns.{turns}
 use Rattle.loops.proofs.BelowLaws.{and-both, and-off}
 use Rattle.store.specs.declared.Place.{Place}
 use Rattle.store.specs.declared.Place.the-variants.{Absent, Present}
-use Rattle.store.specs.Records.{clusters, segments, Tables, placeOn}
+use Rattle.sizes.specs.Sizes.{clusters, segments}
+use Rattle.store.specs.Records.{Tables, placeOn}
 use Rattle.store.specs.Sound.{apart}
 use Rattle.store.specs.Placement.{clear}
 use Rattle.store.specs.Passes.{endOf, past, climb, nodeClimb}

@@ -18,7 +18,8 @@ use Rattle.loops.proofs.BelowLaws.{and-left, and-right, and-both, and-off, test
 use Rattle.loops.proofs.BelowLaws.{every-in, every-at, every-pair-in, every-pair-at}
 use Rattle.store.specs.declared.Place.{Place}
 use Rattle.store.specs.declared.Place.the-variants.{Absent, Present}
-use Rattle.store.specs.Records.{segments, nodeMemory, Tables, placeOn}
+use Rattle.sizes.specs.Sizes.{segments, nodeMemory}
+use Rattle.store.specs.Records.{Tables, placeOn}
 use Rattle.store.specs.Sound.{inside, apart}
 use Rattle.store.specs.Passes.{free, marked, stamped, stampedBy, blank, nodeMap}
 use Rattle.store.proofs.PlaceLaws.{inside-out, holds, holds-in, holds-out, Shared, apart-shares-none, not-apart-shares}

@@ -19,7 +19,8 @@ use Rattle.store.specs.declared.Place.{Place}
 use Rattle.store.specs.declared.Place.the-variants.{Absent, Present}
 use Rattle.store.specs.declared.Cluster.{Cluster}
 use Rattle.store.specs.declared.Store.{Store}
-use Rattle.store.specs.Records.{clusters, segments, nodeMemory, tableOf, recordOf, clusterAt, tableAt, placeOf, placeOn}
+use Rattle.sizes.specs.Sizes.{clusters, segments, nodeMemory}
+use Rattle.store.specs.Records.{tableOf, recordOf, clusterAt, tableAt, placeOf, placeOn}
 use Rattle.store.specs.Sound.{inside, inRanges, endsInside, settled}
 use Rattle.store.specs.Passes.{zeros, free, marked, stamped, claimable, stampedBy, claims}
 use Rattle.store.specs.Passes.{Claimed, ClaimedAll, blank, nodeMap, clusterSound}

@@ -10,7 +10,7 @@ use borrow.Author.Tests.{leb-true, leb-false, ltb-true, le-leb, lt-leb, lt-ltb}
 use Rattle.loops.proofs.BelowLaws.{and-left, and-right, and-both, test-off}
 use Rattle.store.specs.declared.Place.{Place}
 use Rattle.store.specs.declared.Place.the-variants.{Absent, Present}
-use Rattle.store.specs.Records.{nodeMemory}
+use Rattle.sizes.specs.Sizes.{nodeMemory}
 use Rattle.store.specs.Sound.{inRanges, endsInside, inside, apart}
 
 -- a present place lies inside its node's memory

@@ -11,7 +11,8 @@ use borrow.Author.Tests.{ltb-true, ltb-false, lt-ltb}
 use Rattle.loops.proofs.BelowLaws.{and-left, and-right, and-both, and-off, test-off, every-pair-at}
 use Rattle.loops.proofs.SearchLaws.{least-none, least-is, least-holds}
 use Rattle.store.specs.declared.Place.the-variants.{Present}
-use Rattle.store.specs.Records.{nodes, clusters, segments, nodeMemory, Tables, placeOn}
+use Rattle.sizes.specs.Sizes.{nodes, clusters, segments, nodeMemory}
+use Rattle.store.specs.Records.{Tables, placeOn}
 use Rattle.store.specs.Sound.{inside, apart}
 use Rattle.store.specs.Placement.{clear, fits, newBase}
 use Rattle.store.specs.Passes.{nodeClimb}

@@ -15,7 +15,7 @@ use Rattle.loops.proofs.BelowLaws.{and-left, and-right, and-both, every-in, eve
 use Rattle.store.specs.declared.Segment.{Segment}
 use Rattle.store.specs.declared.Cluster.{Cluster}
 use Rattle.store.specs.declared.Store.{Store}
-use Rattle.store.specs.Records.{nodes, clusters, segments, records, memory}
+use Rattle.sizes.specs.Sizes.{nodes, clusters, segments, records, memory}
 use Rattle.store.specs.Records.{absentSegment, inactive, startingStore}
 use Rattle.store.specs.Records.{tableOf, recordOf, noCluster, clusterAt, tableAt, segmentOf, placeOn}
 use Rattle.store.specs.Sound.{inRanges, endsInside, inside, soundSegment, apart, nodeApart}

@@ -13,7 +13,8 @@ use Rattle.store.specs.declared.Place.{Place}
 use Rattle.store.specs.declared.Place.the-variants.{Present}
 use Rattle.store.specs.declared.Cluster.{Cluster}
 use Rattle.store.specs.declared.Store.{Store}
-use Rattle.store.specs.Records.{passwordSize, startingStore, started, recordOf, tableAt, putRecord, withPlace}
+use Rattle.sizes.specs.Sizes.{passwordBytes}
+use Rattle.store.specs.Records.{startingStore, started, recordOf, tableAt, putRecord, withPlace}
 use Rattle.store.specs.Placement.{newBase}
 
 pub record Example : Type 0 where
@@ -25,7 +26,7 @@ abbrev pub told : Example → Option ℕ
 told e = newBase (tableAt (e .store)) 0 (e .size)
 
 abbrev holding : ℕ → Place → Cluster
-holding i p = withPlace (started (replicate passwordSize 0) (replicate passwordSize 0)) i p
+holding i p = withPlace (started (replicate passwordBytes 0) (replicate passwordBytes 0)) i p
 
 unfoldable pub twoSegments : Store
 twoSegments =

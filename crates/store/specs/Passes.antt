@@ -26,7 +26,8 @@ use Rattle.store.specs.declared.Place.{Place}
 use Rattle.store.specs.declared.Place.the-variants.{Absent, Present}
 use Rattle.store.specs.declared.Cluster.{Cluster}
 use Rattle.store.specs.declared.Store.{Store}
-use Rattle.store.specs.Records.{clusters, segments, nodeMemory, Tables, tableOf, recordOf, clusterAt, tableAt}
+use Rattle.sizes.specs.Sizes.{clusters, segments, nodeMemory}
+use Rattle.store.specs.Records.{Tables, tableOf, recordOf, clusterAt, tableAt}
 use Rattle.store.specs.Records.{placeOf, placeOn}
 use Rattle.store.specs.Sound.{inside, apart, settled}
 

@@ -15,7 +15,8 @@ use Rattle.store.specs.declared.Place.{Place}
 use Rattle.store.specs.declared.Place.the-variants.{Present}
 use Rattle.store.specs.declared.Found.{Found}
 use Rattle.store.specs.declared.Found.the-variants.{At, Nowhere}
-use Rattle.store.specs.Records.{nodes, clusters, segments, nodeMemory, Tables, placeOn}
+use Rattle.sizes.specs.Sizes.{nodes, clusters, segments, nodeMemory}
+use Rattle.store.specs.Records.{Tables, placeOn}
 use Rattle.store.specs.Sound.{inside, apart}
 
 unfoldable pub clear : Tables → ℕ → Place → Bool

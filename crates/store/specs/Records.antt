@@ -1,8 +1,4 @@
 -- Document 01, "The store": the nodes, the clusters' records and how a segment is found in them.
---     nodes, clusters, segments    nodes of the store, clusters of a node, segments of a cluster
---     records                      the clusters of all nodes
---     nodeMemory, memory           bytes of one node's shared memory, bytes of the lent slice
---     passwordSize                 bytes of a password
 --     absentSegment, inactive      an absent segment, and a cluster's record as in the starting store
 --     startingStore                all clusters inactive
 --     started                      the record of a new cluster with these passwords
@@ -19,32 +15,12 @@ use Prim.Native.Nat.{ℕ, _+_, _*_}
 use mathlib.Core.Bool.{Bool, true, false}
 use mathlib.Core.List.{List, []}
 use lib.ListN.{getD, set, replicate}
+use Rattle.sizes.specs.Sizes.{clusters, records, segments, passwordBytes}
 use Rattle.store.specs.declared.Place.{Place}
 use Rattle.store.specs.declared.Place.the-variants.{Absent}
 use Rattle.store.specs.declared.Segment.{Segment}
 use Rattle.store.specs.declared.Cluster.{Cluster}
 use Rattle.store.specs.declared.Store.{Store}
-
-abbrev pub nodes : ℕ
-nodes = 4
-
-abbrev pub clusters : ℕ
-clusters = 8
-
-abbrev pub segments : ℕ
-segments = 8
-
-abbrev pub records : ℕ
-records = 32
-
-abbrev pub nodeMemory : ℕ
-nodeMemory = 4096
-
-abbrev pub memory : ℕ
-memory = 16384
-
-abbrev pub passwordSize : ℕ
-passwordSize = 16
 
 -- ---- the starting store
 
@@ -55,8 +31,8 @@ abbrev pub inactive : Cluster
 inactive =
     record {
       active = false;
-      read = replicate passwordSize 0;
-      write = replicate passwordSize 0;
+      read = replicate passwordBytes 0;
+      write = replicate passwordBytes 0;
       segments = replicate segments absentSegment;
     }
 

@@ -23,7 +23,7 @@ use Rattle.store.specs.declared.Place.the-variants.{Absent, Present}
 use Rattle.store.specs.declared.Segment.{Segment}
 use Rattle.store.specs.declared.Cluster.{Cluster}
 use Rattle.store.specs.declared.Store.{Store}
-use Rattle.store.specs.Records.{nodes, clusters, segments, records, nodeMemory, memory, passwordSize}
+use Rattle.sizes.specs.Sizes.{nodes, clusters, segments, records, nodeMemory, memory, passwordBytes}
 use Rattle.store.specs.Records.{Tables, tableOf, clusterAt, tableAt, segmentOf, placeOf, placeOn}
 
 unfoldable pub inRanges : Place → Bool
@@ -59,7 +59,7 @@ isAbsent Absent = true
 isAbsent (Present base length) = false
 
 unfoldable pub zeroBytes : List ℕ → Bool
-zeroBytes password = every passwordSize (λ i. eqb (getD password i 0) 0)
+zeroBytes password = every passwordBytes (λ i. eqb (getD password i 0) 0)
 
 unfoldable pub idle : Cluster → Bool
 idle c = zeroBytes (c .read) && zeroBytes (c .write) && every segments (λ i. isAbsent (placeOf (tableOf c) i))

@@ -23,7 +23,7 @@ pub const NODE_MEMORY: usize = 4096;
 
 pub const MEMORY: usize = 16384;
 
-pub const PASSWORD_SIZE: usize = 16;
+pub const PASSWORD_BYTES: usize = 16;
 
 // A segment is absent, or present with a base within its node's memory and a length.
 pub enum Place {
@@ -38,8 +38,8 @@ pub struct Segment {
 // A cluster's record: whether it is active, its two primary passwords, its segments.
 pub struct Cluster {
     pub active: bool,
-    pub read: [u8; PASSWORD_SIZE],
-    pub write: [u8; PASSWORD_SIZE],
+    pub read: [u8; PASSWORD_BYTES],
+    pub write: [u8; PASSWORD_BYTES],
     pub segments: [Segment; SEGMENTS],
 }
 
@@ -62,8 +62,8 @@ pub fn inactive_cluster() -> Cluster
     };
     Cluster {
         active: false,
-        read: [0; PASSWORD_SIZE],
-        write: [0; PASSWORD_SIZE],
+        read: [0; PASSWORD_BYTES],
+        write: [0; PASSWORD_BYTES],
         segments: [segment; SEGMENTS],
     }
 }

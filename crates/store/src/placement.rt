@@ -1,7 +1,8 @@
 // Placement by jumps: a base that a segment is in the way of gives way to that segment's end.
 ghost use mathlib.Core.Path.{_≡_};
 ghost use Prim.Native.Nat.{_<_};
-ghost use Rattle.store.specs.Records.{nodes, segments, tableOf, tableAt, placeOf};
+ghost use Rattle.sizes.specs.Sizes.{nodes, segments};
+ghost use Rattle.store.specs.Records.{tableOf, tableAt, placeOf};
 ghost use Rattle.store.specs.Placement.{found, newBase};
 ghost use Rattle.store.specs.Passes as passes;
 use crate::CLUSTERS;

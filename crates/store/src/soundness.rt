@@ -4,7 +4,8 @@ ghost use mathlib.Core.Path.{_≡_};
 ghost use Prim.Native.Nat.{_<_};
 ghost use lib.ListN.{length, replicate};
 ghost use Rattle.loops.specs.Below.{every};
-ghost use Rattle.store.specs.Records.{nodes, clusters, segments, nodeMemory, tableOf, placeOf};
+ghost use Rattle.sizes.specs.Sizes.{nodes, clusters, segments, nodeMemory};
+ghost use Rattle.store.specs.Records.{tableOf, placeOf};
 ghost use Rattle.store.specs.Sound as sound-spec;
 ghost use Rattle.store.specs.Passes as passes;
 use crate::CLUSTERS;
@@ -12,7 +13,7 @@ use crate::Cluster;
 use crate::MEMORY;
 use crate::NODE_MEMORY;
 use crate::NODES;
-use crate::PASSWORD_SIZE;
+use crate::PASSWORD_BYTES;
 use crate::Place;
 use crate::SEGMENTS;
 use crate::Store;
@@ -71,12 +72,12 @@ fn claim_all(cluster: Cluster, map: &mut [u8]) -> bool
     ok
 }
 
-fn zero(password: [u8; PASSWORD_SIZE]) -> bool
+fn zero(password: [u8; PASSWORD_BYTES]) -> bool
     ensures { λ r. ⌜ r ≡ sound-spec.zeroBytes password ⌝ }
 {
     let mut ok = true;
     let mut i: usize = 0;
-    while i < PASSWORD_SIZE {
+    while i < PASSWORD_BYTES {
         ok = (password[i] == 0) & ok;
         i += 1;
     }

@@ -1,6 +1,6 @@
 -- Flat: the password unchanged. Not flat: what `convert_with` gives.
 -- Assumes nothing.
-use Rattle.handle.specs.Sizes.{segments}
+use Rattle.sizes.specs.Sizes.{segments}
 use Rattle.handle.proofs.CodeLaws.{converted-flat, converted-other}
 use borrow.Author.Needs.{needs}
 use Rattle.handle.proofs.converted_with.Statement.{statement}

@@ -1,7 +1,7 @@
 -- Before turn i the differences of the first i bytes are or-ed together; the sum is zero just where they agree.
 -- Assumes nothing.
 use Prim.Native.Nat.{_-_}
-use Rattle.handle.specs.Sizes.{passwordBytes}
+use Rattle.sizes.specs.Sizes.{passwordBytes}
 use Rattle.handle.proofs.PasswordLaws.{Compared, compared-none, compared-more, compared-all}
 use borrow.Author.Needs.{needs}
 use Rattle.handle.proofs.same.Statement.{statement}

@@ -3,7 +3,7 @@
 use mathlib.Core.Path.{ap}
 use lib.ListN.{replicate}
 use Rattle.store.specs.declared.Cluster.{Cluster}
-use Rattle.store.specs.Records.{records}
+use Rattle.sizes.specs.Sizes.{records}
 use borrow.Author.Needs.{needs}
 use Rattle.store.proofs.starting.Statement.{statement}
 use Rattle.store.proofs.starting.Tie as tie

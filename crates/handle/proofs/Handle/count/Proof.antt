@@ -2,7 +2,7 @@
 -- Assumes nothing.
 use lib.Count.{ones-le}
 use native.Mathlib.Omega.{arith}
-use Rattle.handle.specs.Sizes.{segments}
+use Rattle.sizes.specs.Sizes.{segments}
 use Rattle.handle.proofs.CodeLaws.{code-count}
 use borrow.Author.Needs.{needs}
 use Rattle.handle.proofs.Handle.count.Statement.{statement}

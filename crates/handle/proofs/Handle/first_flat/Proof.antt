@@ -1,7 +1,8 @@
 -- Before turn k the first flat subselector is k further than the first one from place k on.
 -- Assumes nothing.
 use Prim.Native.Nat.{_-_}
-use Rattle.handle.specs.Sizes.{segments, subselectors}
+use Rattle.sizes.specs.Sizes.{segments}
+use Rattle.handle.specs.Sizes.{subselectors}
 use Rattle.handle.proofs.CodeLaws.{Searched, searched-none, searched-more, searched-here, searched-all}
 use borrow.Author.Needs.{needs}
 use Rattle.handle.proofs.Handle.first_flat.Statement.{statement}

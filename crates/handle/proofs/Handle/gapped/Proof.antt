@@ -1,6 +1,6 @@
 -- The three tests are those of the definition at the four places; the last place has none after it.
 -- Assumes nothing.
-use Rattle.handle.specs.Sizes.{segments}
+use Rattle.sizes.specs.Sizes.{segments}
 use Rattle.handle.proofs.CodeLaws.{code-gapped}
 use borrow.Author.Needs.{needs}
 use Rattle.handle.proofs.Handle.gapped.Statement.{statement}

@@ -1,6 +1,6 @@
 -- The four steps, one after the other, are the chain along the row of subselectors.
 -- Assumes nothing.
-use Rattle.handle.specs.Sizes.{segments}
+use Rattle.sizes.specs.Sizes.{segments}
 use Rattle.handle.proofs.CodeLaws.{code-opened}
 use borrow.Author.Needs.{needs}
 use Rattle.handle.proofs.Handle.opened_with.Statement.{statement}

@@ -1,6 +1,6 @@
 -- The four tests are those of the definition.
 -- Assumes nothing.
-use Rattle.handle.specs.Sizes.{segments}
+use Rattle.sizes.specs.Sizes.{segments}
 use Rattle.handle.proofs.CodeLaws.{code-primary}
 use borrow.Author.Needs.{needs}
 use Rattle.handle.proofs.Handle.primary.Statement.{statement}

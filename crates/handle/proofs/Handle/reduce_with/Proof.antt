@@ -1,6 +1,6 @@
 -- A primary handle as it is; any other by the common bits and the conversion of the primary password.
 -- Assumes nothing.
-use Rattle.handle.specs.Sizes.{segments}
+use Rattle.sizes.specs.Sizes.{segments}
 use Rattle.handle.proofs.CodeLaws.{reduce-unchanged, reduce-changed}
 use borrow.Author.Needs.{needs}
 use Rattle.handle.proofs.Handle.reduce_with.Statement.{statement}

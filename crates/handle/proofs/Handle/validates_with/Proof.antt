@@ -1,6 +1,6 @@
 -- The password that the chain ends with is compared with the handle's.
 -- Assumes nothing.
-use Rattle.handle.specs.Sizes.{segments}
+use Rattle.sizes.specs.Sizes.{segments}
 use Rattle.handle.proofs.CodeLaws.{code-validates}
 use borrow.Author.Needs.{needs}
 use Rattle.handle.proofs.Handle.validates_with.Statement.{statement}

@@ -1,6 +1,6 @@
 -- Each return is the reply of the first row that applies, or of the handle unchanged or changed where none does.
 -- Assumes nothing.
-use Rattle.handle.specs.Sizes.{segments}
+use Rattle.sizes.specs.Sizes.{segments}
 use Rattle.handle.proofs.WeakenLaws.{refused-node, refused-local, refused-gapped, refused-spent}
 use Rattle.handle.proofs.WeakenLaws.{weaken-unchanged, weaken-changed}
 use borrow.Author.Needs.{needs}

@@ -2,7 +2,8 @@
 -- Assumes nothing.
 use borrow.Author.Needs.{needs}
 use Prim.Native.Nat.{_-_}
-use Rattle.store.specs.Records.{nodeMemory, tableAt}
+use Rattle.sizes.specs.Sizes.{nodeMemory}
+use Rattle.store.specs.Records.{tableAt}
 use Rattle.store.proofs.PlacementLaws.{Tried, tried-none, tried-more, tried-all}
 use Rattle.store.proofs.PlacementLaws.{base-no-node, base-no-size, base-too-long, base-found, base-rises}
 use Rattle.store.proofs.placement.new_base.Statement.{statement}

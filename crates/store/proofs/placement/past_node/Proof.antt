@@ -4,7 +4,8 @@ use native.Mathlib.Omega.{arith}
 use borrow.Author.Needs.{needs}
 use Prim.Native.Nat.{_-_}
 use Rattle.loops.proofs.TurnLaws.{Turning, turning-none, turning-more, turning-all}
-use Rattle.store.specs.Records.{clusters, segments, tableAt, placeOn}
+use Rattle.sizes.specs.Sizes.{clusters, segments}
+use Rattle.store.specs.Records.{tableAt, placeOn}
 use Rattle.store.specs.Passes.{climb, nodeClimb}
 use Rattle.store.proofs.placement.past_node.Statement.{statement}
 use Rattle.store.proofs.placement.past_node.Tie as tie

@@ -4,7 +4,7 @@ use borrow.Author.Needs.{needs}
 use Prim.Native.Nat.{_-_}
 use mathlib.Core.Path.{_≡_}
 use lib.ListN.{length}
-use Rattle.store.specs.Records.{segments, nodeMemory}
+use Rattle.sizes.specs.Sizes.{segments, nodeMemory}
 use Rattle.store.proofs.MarkLaws.{Claiming, claiming-none, claiming-more, claiming-all}
 use Rattle.store.proofs.soundness.claim_all.Statement.{statement}
 use Rattle.store.proofs.soundness.claim_all.Tie as tie

@@ -3,7 +3,8 @@
 use borrow.Author.Needs.{needs}
 use Prim.Native.Nat.{_-_}
 use Rattle.loops.proofs.RunningLaws.{Running, running-none, running-more, running-all}
-use Rattle.store.specs.Records.{segments, tableOf, placeOf}
+use Rattle.sizes.specs.Sizes.{segments}
+use Rattle.store.specs.Records.{tableOf, placeOf}
 use Rattle.store.specs.Sound.{isAbsent}
 use Rattle.store.proofs.soundness.empty.Statement.{statement}
 use Rattle.store.proofs.soundness.empty.Tie as tie

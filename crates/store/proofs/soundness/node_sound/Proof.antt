@@ -5,7 +5,7 @@ use borrow.Author.Needs.{needs}
 use Prim.Native.Nat.{_-_}
 use mathlib.Core.Path.{_≡_}
 use lib.ListN.{length}
-use Rattle.store.specs.Records.{clusters, nodeMemory}
+use Rattle.sizes.specs.Sizes.{clusters, nodeMemory}
 use Rattle.store.proofs.MarkLaws.{Passing, passing-none, passing-more, passing-all}
 use Rattle.store.proofs.soundness.node_sound.Statement.{statement}
 use Rattle.store.proofs.soundness.node_sound.Tie as tie

@@ -4,7 +4,7 @@ use borrow.Author.Needs.{needs}
 use Prim.Native.Nat.{_-_}
 use Rattle.loops.specs.Below.{every}
 use Rattle.loops.proofs.RunningLaws.{Running, running-none, running-more}
-use Rattle.store.specs.Records.{nodes, clusters}
+use Rattle.sizes.specs.Sizes.{nodes, clusters}
 use Rattle.store.specs.Passes.{clusterSound}
 use Rattle.store.proofs.ClaimLaws.{tested-told}
 use Rattle.store.proofs.soundness.sound.Statement.{statement}

@@ -5,16 +5,16 @@ use Prim.Native.Nat.{_-_}
 use lib.Dec.{eqb}
 use lib.ListN.{getD}
 use Rattle.loops.proofs.RunningLaws.{Running, running-none, running-more, running-all}
-use Rattle.store.specs.Records.{passwordSize}
+use Rattle.sizes.specs.Sizes.{passwordBytes}
 use Rattle.store.specs.Sound.{zeroBytes}
 use Rattle.store.proofs.soundness.zero.Statement.{statement}
 use Rattle.store.proofs.soundness.zero.Tie as tie
 
 abbrev Inv-loop : tie.InvT-loop
-Inv-loop password ok₀ i₀ ok i = Running passwordSize (λ k. eqb (getD password k 0) 0) i ok
+Inv-loop password ok₀ i₀ ok i = Running passwordBytes (λ k. eqb (getD password k 0) 0) i ok
 
 abbrev μ-loop : tie.MeasureT-loop
-μ-loop password ok₀ i₀ ok i = passwordSize - i
+μ-loop password ok₀ i₀ ok i = passwordBytes - i
 
 loop-holds : tie.Need-loop-holds Inv-loop μ-loop
 loop-holds c = running-none _ _

@@ -1,0 +1,1 @@
+// Definitions alone: the sizes that document 01 gives.
