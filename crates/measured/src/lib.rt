@@ -1,8 +1,16 @@
-// What the measurements under bench/ call, over bytes alone. It is linked into them and nowhere else.
+// What the measurements under bench/ call, over bytes and numbers alone. It is linked into them and nowhere else.
 use handle::Handle;
+use store::Cluster;
+use store::Place;
+use store::Segment;
+use store::Store;
 ghost use mathlib.Core.Path.{_≡_};
 ghost use Rattle.aes.specs.Cipher.{cipher};
-ghost use Rattle.handle.specs.Sizes.{segments};
+ghost use Prim.Native.Nat.{_<_};
+ghost use Rattle.loops.specs.Tabulate.{tabulate};
+ghost use Rattle.sizes.specs.Sizes.{records, segments};
+ghost use Rattle.store.specs.Sound as sound-spec;
+ghost use Rattle.measured.specs.Stores.{placeFrom, segmentFrom, clusterFrom, storeFrom};
 ghost use Rattle.handle.specs.Handles.{decoded, encoded, validates, weakening};
 ghost use Rattle.handle.specs.Conversion.{conversion};
 
@@ -40,4 +48,55 @@ pub extern "C" fn measured_weaken(bytes: &[u8; 23], mask: u8, out: &mut [u8; 23]
     let w = weaker.encode();
     *out = w;
     reply.number
+}
+
+fn place_from(base: u16, length: u16) -> Place
+    ensures { λ r. ⌜ r ≡ placeFrom base length ⌝ }
+{
+    if length == 0 {
+        return Place::Absent;
+    }
+    Place::Present { base, length }
+}
+
+// The segments of record n.
+fn segments_from(bases: &[u16; 256], lengths: &[u16; 256], n: usize) -> [Segment; 8]
+    requires { ⌜ n < records ⌝ }
+    ensures { λ r. ⌜ r ≡ tabulate segments (segmentFrom (now (bases .entry)) (now (lengths .entry)) n) ⌝ }
+{
+    let absent = Segment {
+        place: Place::Absent,
+    };
+    let mut r = [absent; 8];
+    for i in 0..8usize {
+        let at = n * 8 + i;
+        r[i] = Segment {
+            place: place_from(bases[at], lengths[at]),
+        };
+    }
+    r
+}
+
+fn store_from(bases: &[u16; 256], lengths: &[u16; 256]) -> Store
+    ensures { λ r. ⌜ r ≡ storeFrom (now (bases .entry)) (now (lengths .entry)) ⌝ }
+{
+    let mut clusters = [store::inactive_cluster(); 32];
+    for n in 0..32usize {
+        let segments = segments_from(bases, lengths, n);
+        clusters[n] = Cluster {
+            active: true,
+            read: [0; 16],
+            write: [0; 16],
+            segments,
+        };
+    }
+    Store { clusters }
+}
+
+// Whether a store made of two tables is sound with a slice of `size` bytes.
+#[no_mangle]
+pub extern "C" fn measured_sound(bases: &[u16; 256], lengths: &[u16; 256], size: usize) -> bool
+    ensures { λ r. ⌜ r ≡ sound-spec.sound (storeFrom (now (bases .entry)) (now (lengths .entry))) size ⌝ }
+{
+    store::sound(store_from(bases, lengths), size)
 }
