@@ -3,7 +3,7 @@
 -- sides compute to the same list.
 -- Assumes nothing.
 use mathlib.Core.Path.{_≡_, refl, sym, ap, ap₂, _∙_}
-use mathlib.Core.Bool.{Bool}
+use mathlib.Core.Bool.{Bool, cond}
 use mathlib.Core.List.{List, [], _∷_, _++_}
 use Prim.Native.Nat.{ℕ, zero, suc, _+_, _-_, _*_, _/_, _%_, _≤_, _<_, min}
 use native.Mathlib.Nat.{zero-add, suc-add}
@@ -17,7 +17,7 @@ use Rattle.loops.specs.Tabulate.{tabulate}
 use Rattle.loops.proofs.TabulateLaws.{tabulate-is, Filled}
 use Rattle.aes.specs.Transformations.{cell, state}
 use Rattle.field.specs.Substitution.{sbox}
-use Rattle.aes.specs.KeyExpansion.{roundConstant, rcon, rotWord, subWord, addWords, pick, newWord}
+use Rattle.aes.specs.KeyExpansion.{roundConstant, rcon, rotWord, subWord, addWords, newWord}
 use Rattle.aes.specs.KeyExpansion.{slide, expand, roundKey}
 use Rattle.aes.proofs.StateLaws.{cells}
 
@@ -44,11 +44,11 @@ with k t = drop 4 k ++ addWords (take 4 k) t
 slide-first : (i r : ℕ) (k : List ℕ) → i ≡ 4 * r → slide i k ≡ with k (turned r k)
 unfolding slide newWord
 slide-first i r k e =
-    ap₂ (λ (b : Bool) (j : ℕ). with k (pick b (turned j k) (drop 12 k))) (eq-eqb (i % 4) 0 (omega arith)) (omega arith)
+    ap₂ (λ (b : Bool) (j : ℕ). with k (cond b (turned j k) (drop 12 k))) (eq-eqb (i % 4) 0 (omega arith)) (omega arith)
 
 slide-other : (i : ℕ) (k : List ℕ) → (i % 4 ≡ 0 → ⊥) → slide i k ≡ with k (drop 12 k)
 unfolding slide newWord
-slide-other i k h = ap (λ (b : Bool). with k (pick b (turned (i / 4) k) (drop 12 k))) (ne-eqb (i % 4) 0 h)
+slide-other i k h = ap (λ (b : Bool). with k (cond b (turned (i / 4) k) (drop 12 k))) (ne-eqb (i % 4) 0 h)
 
 -- the last three words
 abbrev rest : List ℕ → List ℕ

@@ -9,7 +9,7 @@
 --     roundKey key r     the round key of round r: w[4 r] to w[4 r + 3]
 -- Assumes nothing.
 use Prim.Native.Nat.{ℕ, zero, suc, _+_, _-_, _*_, _/_, _%_}
-use mathlib.Core.Bool.{Bool, true, false}
+use mathlib.Core.Bool.{cond}
 use mathlib.Core.List.{List, [], _∷_, _++_, map}
 use lib.Bits.{bitXor}
 use lib.Dec.{eqb}
@@ -37,12 +37,8 @@ subWord w = map sbox w
 abbrev pub addWords : List ℕ → List ℕ → List ℕ
 addWords v w = tabulate 4 (λ r. bitXor (getD v r 0) (getD w r 0))
 
-abbrev pub pick : Bool → List ℕ → List ℕ → List ℕ
-pick true v w = v
-pick false v w = w
-
 abbrev pub temp : ℕ → List ℕ → List ℕ
-temp i w = pick (eqb (i % 4) 0) (addWords (subWord (rotWord w)) (rcon (i / 4))) w
+temp i w = cond (eqb (i % 4) 0) (addWords (subWord (rotWord w)) (rcon (i / 4))) w
 
 unfoldable pub newWord : ℕ → List ℕ → List ℕ
 newWord i k = addWords (take 4 k) (temp i (drop 12 k))

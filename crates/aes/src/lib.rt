@@ -5,7 +5,7 @@ ghost use mathlib.Core.List.{[], _∷_};
 ghost use Prim.Native.Nat.{_*_, _≤_, min};
 ghost use lib.Bits.{bitXor};
 ghost use Rattle.field.specs.Field.{dot};
-ghost use Rattle.field.specs.Substitution.{sbox, substitution};
+ghost use Rattle.field.specs.Substitution.{sbox};
 ghost use Rattle.aes.specs.Transformations.{subBytes, shiftRows, mixed, mixColumns, addRoundKey};
 ghost use Rattle.aes.specs.KeyExpansion.{roundConstant, expand, roundKey};
 ghost use Rattle.aes.specs.Cipher.{cipher};
@@ -15,7 +15,7 @@ ghost use Rattle.aes.specs.Tables.{IsTables};
 pub type Tables = [u8; 256];
 
 pub fn tables() -> Tables
-    ensures { λ r. ⌜ r ≡ substitution ⌝ }
+    ensures { λ r. ⌜ IsTables r ⌝ }
 {
     field::substitution_table()
 }

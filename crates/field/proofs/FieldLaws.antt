@@ -17,7 +17,7 @@ use lib.Pow.{pow-pos, pow-mono, mod-pow-add}
 use Rattle.bits.proofs.OperationLaws.{shl-top, shl-split}
 use Rattle.loops.specs.Below.{every}
 use Rattle.loops.proofs.BelowLaws.{every-equal}
-use Rattle.field.specs.Field.{product, reduced, remainder, times, dot, squares, inverse}
+use Rattle.field.specs.Field.{product, divisionStep, remainder, times, dot, squares, inverse}
 
 -- the product with x is the shift
 product-two : (n b : ℕ) → product n 2 b ≡ b % 2 ^ n * 2
@@ -38,8 +38,8 @@ product-two (suc n) b =
     twice = omega arith
 
 -- nothing to take away from a polynomial of degree below w
-reduced-none : (w m p : ℕ) → p < 2 ^ w → reduced w m p ≡ p
-reduced-none w m p h =
+step-none : (w m p : ℕ) → p < 2 ^ w → divisionStep w m p ≡ p
+step-none w m p h =
     ap (λ (x : ℕ). bitXor x p) (ap (λ (x : ℕ). m * (x % 2)) (div-eq-of-lt h) ∙ mul-zero m)
 
 rest : (p : ℕ) → p / 2 * 2 + p % 2 ≡ p
@@ -49,15 +49,15 @@ remainder-none : (w m n p : ℕ) → p < 2 ^ w → remainder w m n p ≡ p
 unfolding remainder
 remainder-none w m zero p h = refl
 remainder-none w m (suc n) p h =
-    ap (λ (x : ℕ). reduced w m (x * 2 + p % 2)) (remainder-none w m n (p / 2) (omega arith))
-    ∙ ap (reduced w m) (rest p) ∙ reduced-none w m p h
+    ap (λ (x : ℕ). divisionStep w m (x * 2 + p % 2)) (remainder-none w m n (p / 2) (omega arith))
+    ∙ ap (divisionStep w m) (rest p) ∙ step-none w m p h
 
 -- of a polynomial of degree at most w only the last step may take something away
-remainder-last : (w m n p : ℕ) → p < 2 ^ suc w → remainder w m (suc n) p ≡ reduced w m p
+remainder-last : (w m n p : ℕ) → p < 2 ^ suc w → remainder w m (suc n) p ≡ divisionStep w m p
 unfolding remainder
 remainder-last w m n p h =
-    ap (λ (x : ℕ). reduced w m (x * 2 + p % 2)) (remainder-none w m n (p / 2) (omega (arith, pow-suc 2 w)))
-    ∙ ap (reduced w m) (rest p)
+    ap (λ (x : ℕ). divisionStep w m (x * 2 + p % 2)) (remainder-none w m n (p / 2) (omega (arith, pow-suc 2 w)))
+    ∙ ap (divisionStep w m) (rest p)
 
 small : (q p k : ℕ) → q < 2 → p < k → q * p < k
 small zero p k l h = subst (λ (x : ℕ). x < k) (sym (zero-mul p)) (omega arith)

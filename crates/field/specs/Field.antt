@@ -3,9 +3,9 @@
 -- they can be; AES has 8 and 11b.
 --     product n a b        a times b, a polynomial of degree below n: a times its constant term, and x times a times
 --                          the rest
---     reduced w m p        m taken away from a polynomial of degree at most w, where it has the term x^w
+--     divisionStep w m p   m taken away from a polynomial of degree at most w, where it has the term x^w
 --     remainder w m n p    p, of degree below w + n, modulo m: x times the remainder of what stands above the constant
---                          term, and that term, reduced
+--                          term, and that term, through one more step
 --     times w m a b        4.2: the product modulo m
 --     dot a b              4.2: multiplication of bytes, modulo x^8 + x^4 + x^3 + x + 1
 --     squares n b          the product of b, b^2, b^4, b^8 .., with n factors after the first
@@ -18,12 +18,12 @@ unfoldable pub product : ℕ → ℕ → ℕ → ℕ
 product zero a b = 0
 product (suc n) a b = bitXor (a * (b % 2)) (product n a (b / 2) * 2)
 
-abbrev pub reduced : ℕ → ℕ → ℕ → ℕ
-reduced w m p = bitXor (m * (p / 2 ^ w % 2)) p
+abbrev pub divisionStep : ℕ → ℕ → ℕ → ℕ
+divisionStep w m p = bitXor (m * (p / 2 ^ w % 2)) p
 
 unfoldable pub remainder : ℕ → ℕ → ℕ → ℕ → ℕ
 remainder w m zero p = p
-remainder w m (suc n) p = reduced w m (remainder w m n (p / 2) * 2 + p % 2)
+remainder w m (suc n) p = divisionStep w m (remainder w m n (p / 2) * 2 + p % 2)
 
 unfoldable pub times : ℕ → ℕ → ℕ → ℕ → ℕ
 times w m a b = remainder w m w (product w a b)

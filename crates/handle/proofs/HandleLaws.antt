@@ -5,7 +5,7 @@
 use Prim.Native.Nat.{ℕ, _-_, _<_}
 use native.Mathlib.Omega.{arith}
 use mathlib.Core.Path.{_≡_, refl, sym, ap, _∙_}
-use mathlib.Core.Bool.{Bool, true, false, not, _&&_, _||_, false≢true}
+use mathlib.Core.Bool.{Bool, true, false, not, _&&_, _||_, false≢true, cond}
 use mathlib.Core.List.{List, [], _∷_}
 use lib.ListN.{length-set, replicate}
 use Rattle.bits.specs.Sets.{has, full}
@@ -17,7 +17,7 @@ use Rattle.handle.specs.Sizes.{subselectors}
 use Rattle.handle.specs.Selectors.{references, flat, allFlat, anyFlat, gapped, firstFlat, common}
 use Rattle.handle.specs.Selectors.{keepsAll, parameter, replaced, spent, inFirst}
 use Rattle.handle.specs.Handles.{nameOf, renewed, through, weakened, made, reduced}
-use Rattle.handle.specs.Handles.{pick, placeNumber, gappedNumber, spentNumber, noSuchPlace, weakenNumber}
+use Rattle.handle.specs.Handles.{placeNumber, gappedNumber, spentNumber, noSuchPlace, weakenNumber}
 use Rattle.handle.specs.Opens.{Whole}
 use Rattle.handle.proofs.SelectorLaws.{replaced-here, replaced-past}
 use Rattle.handle.proofs.SelectorLaws.{references-replaced, gapped-replaced, within-replaced}
@@ -30,7 +30,7 @@ pub unspent : (w : ℕ) (h : Handle) (mask : ℕ) → weakenNumber w h mask ≡ 
 unfolding weakenNumber
 unspent w h mask e = go (noSuchPlace h) (gapped w (h .selector)) (spent w mask (h .selector)) e
   where
-    go : (a b c : Bool) → pick a placeNumber (pick b gappedNumber (pick c spentNumber 0)) ≡ 0 → c ≡ false
+    go : (a b c : Bool) → cond a placeNumber (cond b gappedNumber (cond c spentNumber 0)) ≡ 0 → c ≡ false
     go true b c e = absurd (omega arith)
     go false true c e = absurd (omega arith)
     go false false true e = absurd (omega arith)

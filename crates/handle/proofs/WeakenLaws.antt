@@ -4,7 +4,7 @@
 use Prim.Native.Nat.{ℕ, zero, suc, _-_, _^_, _≤_, _<_}
 use native.Mathlib.Omega.{arith}
 use mathlib.Core.Path.{_≡_, refl, sym, ap, ap₂, _∙_}
-use mathlib.Core.Bool.{Bool, true, false, not, _&&_, false≢true}
+use mathlib.Core.Bool.{Bool, true, false, not, _&&_, false≢true, cond}
 use mathlib.Core.List.{List}
 use lib.Bits.{bitAnd}
 use lib.ListN.{length, set}
@@ -19,7 +19,7 @@ use Rattle.handle.specs.Sizes.{subselectors}
 use Rattle.handle.specs.Selectors.{references, excludes, anyFlat, gapped, firstFlat, common, referenced}
 use Rattle.handle.specs.Selectors.{keepsAll, parameter, spent}
 use Rattle.handle.specs.Handles.{renewed, weakened, weakening}
-use Rattle.handle.specs.Handles.{pick, placeNumber, gappedNumber, spentNumber, refusal, reply, weakenNumber}
+use Rattle.handle.specs.Handles.{placeNumber, gappedNumber, spentNumber, refusal, reply, weakenNumber}
 use Rattle.handle.proofs.SelectorLaws.{any-flat, none-flat}
 use Rattle.handle.proofs.HandleLaws.{weakened-cases}
 
@@ -58,7 +58,7 @@ module _ (w : ℕ) (f : List ℕ → ℕ → List ℕ) (h : Handle) (mask : ℕ)
 
       module _ (u : g ≡ false) where
         -- only the last row is left
-        last-row : (b : Bool) → spent w mask (h .selector) ≡ b → weakenNumber w h mask ≡ pick b spentNumber 0
+        last-row : (b : Bool) → spent w mask (h .selector) ≡ b → weakenNumber w h mask ≡ cond b spentNumber 0
         unfolding weakenNumber
         last-row b e = simp (lt-leb nodes (h .node) n, lt-leb clusters (h .local) l, sym eg ∙ u, e)
 
@@ -86,7 +86,7 @@ module _ (w : ℕ) (f : List ℕ → ℕ → List ℕ) (h : Handle) (mask : ℕ)
 
           module _ (t : bitAnd x (full w - mask) ≡ 0 → ⊥) (four : length (h .selector) ≡ subselectors)
               (k : ℕ) (ek : k ≡ firstFlat w (h .selector)) where
-            row-spent : (b : Bool) → anyFlat w (h .selector) ≡ b → weakenNumber w h mask ≡ pick (not b) spentNumber 0
+            row-spent : (b : Bool) → anyFlat w (h .selector) ≡ b → weakenNumber w h mask ≡ cond (not b) spentNumber 0
             row-spent b e = last-row (not b) (ap₂ (λ (x y : Bool). not x && not y) (takes t) e)
 
             pub refused-spent : subselectors ≤ k → (r : Weakened) → r ≡ refusal spentNumber → r ≡ weakening w f h mask

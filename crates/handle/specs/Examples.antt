@@ -1,31 +1,41 @@
--- Document 01, "Selector and placement examples": P1 to P9, as one list of questions and what is told.
+-- Document 01, "Selector and placement examples": P1 to P9, as one list of questions and whole answers, for any
+-- conversion f, any password of the handle and primary password, and any mask where document 01 names none.
 --     Question           what is asked of a selector: which segments it references and how many; what weakening by a
 --                        mask gives; what it is reduced to
+--     Answer             a set of segments and a count; the whole reply of a weakening; a whole handle
 --     Example            a question and its answer
---     examples           the list
---     answer q           what the definitions answer, with any conversion and any passwords
--- A weakening is answered by the number, the selector and the count, a refused one by zeros after the number. P6 and
--- P8 give numbers alone; the mask of P6 is free.
+--     presented ss p     the handle that is asked about, with the selector ss and the password p
+--     examples           the list; two rows more say that a primary handle is its own reduction and that a gap higher
+--                        up is one too
+--     answer q           what the definitions answer
 -- Assumes nothing.
 use Prim.Native.Nat.{ℕ}
-use mathlib.Core.List.{List, [], _∷_, _++_}
+use mathlib.Core.List.{List, [], _∷_}
+use Rattle.sizes.specs.Sizes.{segments}
 use Rattle.handle.specs.declared.Handle.{Handle}
 use Rattle.handle.specs.declared.Weakened.{Weakened}
-use Rattle.sizes.specs.Sizes.{segments}
 use Rattle.handle.specs.Selectors.{common, referenced}
-use Rattle.handle.specs.Handles.{weakening, reduced}
+use Rattle.handle.specs.Handles.{gappedNumber, spentNumber, refusal, reply, weakening, reduced}
 
 pub data Question : Type 0 where
   referencing : List ℕ → Question
   weakeningBy : ℕ → List ℕ → Question
   reducing : List ℕ → Question
 
+pub data Answer : Type 0 where
+  segmentSet : ℕ → ℕ → Answer
+  weaker : Weakened → Answer
+  handle : Handle → Answer
+
 pub record Example : Type 0 where
   pub asked : Question
-  pub told : List ℕ
+  pub told : Answer
 
-abbrev row : Question → List ℕ → Example
-row q l = record { asked = q; told = l }
+abbrev row : Question → Answer → Example
+row q a = record { asked = q; told = a }
+
+abbrev primary : List ℕ
+primary = 0xff ∷ 0xff ∷ 0xff ∷ 0xff ∷ []
 
 abbrev twoCut : List ℕ
 twoCut = 0xfe ∷ 0x7d ∷ 0xff ∷ 0xff ∷ []
@@ -33,33 +43,36 @@ twoCut = 0xfe ∷ 0x7d ∷ 0xff ∷ 0xff ∷ []
 abbrev fourCut : List ℕ
 fourCut = 0xfe ∷ 0xfd ∷ 0xfb ∷ 0xf7 ∷ []
 
-unfoldable pub examples : List Example
-examples =
-    -- P1
-    row (referencing (0xff ∷ 0xff ∷ 0xff ∷ 0xff ∷ [])) (255 ∷ 8 ∷ [])
-    -- P2, P3
-    ∷ row (referencing twoCut) (124 ∷ 5 ∷ [])
-    ∷ row (weakeningBy 112 twoCut) (0 ∷ 0xfe ∷ 0x7d ∷ 0xf3 ∷ 0xff ∷ 3 ∷ [])
-    ∷ row (weakeningBy 243 twoCut) (0 ∷ 0xfe ∷ 0x7d ∷ 0xf3 ∷ 0xff ∷ 3 ∷ [])
-    -- P4, P5
-    ∷ row (weakeningBy 124 twoCut) (0 ∷ 0xfe ∷ 0x7d ∷ 0xff ∷ 0xff ∷ 5 ∷ [])
-    ∷ row (weakeningBy 0 twoCut) (0 ∷ 0xfe ∷ 0x7d ∷ 0x83 ∷ 0xff ∷ 0 ∷ [])
-    -- P6
-    ∷ row (weakeningBy 0 (0xff ∷ 0xfe ∷ 0xff ∷ 0xff ∷ [])) (4 ∷ 0 ∷ 0 ∷ 0 ∷ 0 ∷ 0 ∷ [])
-    -- P7, P8, P9
-    ∷ row (weakeningBy 240 fourCut) (0 ∷ 0xfe ∷ 0xfd ∷ 0xfb ∷ 0xf7 ∷ 4 ∷ [])
-    ∷ row (weakeningBy 239 fourCut) (17 ∷ 0 ∷ 0 ∷ 0 ∷ 0 ∷ 0 ∷ [])
-    ∷ row (reducing fourCut) (0xf0 ∷ 0xff ∷ 0xff ∷ 0xff ∷ [])
-    ∷ []
+abbrev presented : List ℕ → List ℕ → Handle
+presented ss p = record { node = 0; local = 2; password = p; selector = ss }
 
-module _ (f : List ℕ → ℕ → List ℕ) (password primary : List ℕ) where
-  abbrev presented : List ℕ → Handle
-  presented ss = record { node = 0; local = 2; password = password; selector = ss }
+module _ (f : List ℕ → ℕ → List ℕ) (password first : List ℕ) (mask : ℕ) where
+  unfoldable pub examples : List Example
+  examples =
+      -- P1
+      row (referencing primary) (segmentSet 255 8)
+      -- P2, P3: the parameter is 243 for either mask
+      ∷ row (referencing twoCut) (segmentSet 124 5)
+      ∷ row (weakeningBy 112 twoCut)
+      (weaker (reply 0 (presented (0xfe ∷ 0x7d ∷ 0xf3 ∷ 0xff ∷ []) (f password 243)) 3))
+      ∷ row (weakeningBy 243 twoCut)
+      (weaker (reply 0 (presented (0xfe ∷ 0x7d ∷ 0xf3 ∷ 0xff ∷ []) (f password 243)) 3))
+      -- P4, P5
+      ∷ row (weakeningBy 124 twoCut) (weaker (reply 0 (presented twoCut password) 5))
+      ∷ row (weakeningBy 0 twoCut)
+      (weaker (reply 0 (presented (0xfe ∷ 0x7d ∷ 0x83 ∷ 0xff ∷ []) (f password 0x83)) 0))
+      -- P6, and a gap higher up
+      ∷ row (weakeningBy mask (0xff ∷ 0xfe ∷ 0xff ∷ 0xff ∷ [])) (weaker (refusal gappedNumber))
+      ∷ row (weakeningBy mask (0xfe ∷ 0xff ∷ 0x7d ∷ 0xff ∷ [])) (weaker (refusal gappedNumber))
+      -- P7, P8, P9
+      ∷ row (weakeningBy 240 fourCut) (weaker (reply 0 (presented fourCut password) 4))
+      ∷ row (weakeningBy 239 fourCut) (weaker (refusal spentNumber))
+      ∷ row (reducing fourCut) (handle (presented (0xf0 ∷ 0xff ∷ 0xff ∷ 0xff ∷ []) (f first 0xf0)))
+      -- a primary handle
+      ∷ row (reducing primary) (handle (presented primary password))
+      ∷ []
 
-  abbrev replyOf : Weakened → List ℕ
-  replyOf r = r .number ∷ r .handle .selector ++ (r .count ∷ [])
-
-  unfoldable pub answer : Question → List ℕ
-  answer (referencing ss) = common segments ss ∷ referenced segments ss ∷ []
-  answer (weakeningBy mask ss) = replyOf (weakening segments f (presented ss) mask)
-  answer (reducing ss) = reduced segments f (presented ss) primary .selector
+  unfoldable pub answer : Question → Answer
+  answer (referencing ss) = segmentSet (common segments ss) (referenced segments ss)
+  answer (weakeningBy m ss) = weaker (weakening segments f (presented ss password) m)
+  answer (reducing ss) = handle (reduced segments f (presented ss password) first)

@@ -5,13 +5,12 @@
 --     encoded h          the 23 bytes of h: node (high byte first), local number, password, selector
 --     decoded b          the handle that the 23 bytes b hold
 --     noHandle           the handle whose bytes are all zero
---     Holdable h         the parts of h fit in 23 bytes
+--     Holdable h         node and local number fit in their bytes; password and selector have as many as theirs
 --     Bytes n b          b has n elements, each below 256
 --     samePassword a b   the sixteen bytes of a are those of b
 --     renewed h p ss     the name of h, with the password p and the selector ss
 -- Weakening's numbers and replies:
 --     Row, firstOf       a number of the table and whether it applies; the first that applies, or 0
---     pick b m n         m where b is true, else n
 --     placeNumber, gappedNumber, spentNumber    the table's numbers for no such place, gapped and spent
 --     noSuchPlace h      node above 3 or local number above 7
 --     refusal n          the reply to a call refused with n: 23 zero bytes and a zero count
@@ -22,14 +21,14 @@
 --     converted p s      p through f with the subselector s; a flat one is skipped
 --     through ss p       p through f with each subselector that is not flat, 0 first
 --     validates p h      the primary password p ends as the password of h
---     weakened h m       what weakening by the mask m makes of h
+--     weakened h m       what weakening by the mask m makes of h, where h is not spent
 --     made h p s         the set s of segments in subselector 0, its password made from the primary password p
 --     reduced h p        what reduction makes of h, from the primary password p of its mode
 --     weakening h m      the reply of call 7
 -- Assumes nothing.
 use Prim.Native.Nat.{ℕ, zero, suc, _^_, _<_}
 use mathlib.Core.Path.{_≡_}
-use mathlib.Core.Bool.{Bool, true, false, _||_}
+use mathlib.Core.Bool.{Bool, true, false, _||_, cond}
 use mathlib.Core.List.{List, [], _∷_, _++_}
 use lib.Dec.{eqb, leb}
 use lib.ListN.{length, getD, take, drop, replicate}
@@ -94,13 +93,9 @@ pub record Row : Type 0 where
   pub number : ℕ
   pub applies : Bool
 
-abbrev pub pick : Bool → ℕ → ℕ → ℕ
-pick true a b = a
-pick false a b = b
-
 abbrev pub firstOf : List Row → ℕ
 firstOf [] = 0
-firstOf (r ∷ rs) = pick (r .applies) (r .number) (firstOf rs)
+firstOf (r ∷ rs) = cond (r .applies) (r .number) (firstOf rs)
 
 abbrev pub placeNumber : ℕ
 placeNumber = 2

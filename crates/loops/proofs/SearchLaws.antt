@@ -1,5 +1,5 @@
--- Laws of the least number below a bound: the search passes whatever the test refuses, stops at the first that it
--- takes, and what it gives is taken.
+-- Laws of the least number below a bound: the search passes whatever the test refuses and stops at the first that it
+-- takes. So what it gives is taken, nothing smaller is, and where it gives none, none is.
 -- Assumes nothing.
 use mathlib.Core.Path.{_≡_, refl, sym, ap, _∙_}
 use mathlib.Core.Bool.{Bool, true, false}
@@ -48,6 +48,31 @@ module _ (p : ℕ → Bool) where
       go true q rest = ap p (Option·some-injective j k (sym e ∙ from-yes n k q)) ∙ q
       go false q rest = rest (sym (from-no n k q) ∙ e)
 
+  from-below : (n k j : ℕ) → leastFrom n k p ≡ some j → (i : ℕ) → k ≤ i → i < j → p i ≡ false
+  unfolding leastFrom
+  from-below zero k j e i a b = absurd (Option·none-ne-some j e)
+  from-below (suc n) k j e i a b = go (p k) refl (eq-or-lt-of-le a) (λ r l. from-below n (suc k) j r i l b)
+    where
+      go : (t : Bool) → p k ≡ t → (k ≡ i) ⊎ (k < i) → (leastFrom n (suc k) p ≡ some j → k < i → p i ≡ false)
+          → p i ≡ false
+      go true q at rest =
+          let same : j ≡ k = Option·some-injective j k (sym e ∙ from-yes n k q) in
+          absurd (omega arith)
+      go false q (inl at) rest = ap p (sym at) ∙ q
+      go false q (inr l) rest = rest (sym (from-no n k q) ∙ e) l
+
+  from-missing : (n k : ℕ) → leastFrom n k p ≡ none → (i : ℕ) → k ≤ i → i < k + n → p i ≡ false
+  unfolding leastFrom
+  from-missing zero k e i a b = absurd (omega arith)
+  from-missing (suc n) k e i a b =
+      go (p k) refl (eq-or-lt-of-le a) (λ r l. from-missing n (suc k) r i l (omega arith))
+    where
+      go : (t : Bool) → p k ≡ t → (k ≡ i) ⊎ (k < i) → (leastFrom n (suc k) p ≡ none → k < i → p i ≡ false)
+          → p i ≡ false
+      go true q at rest = absurd (Option·none-ne-some k (sym e ∙ from-yes n k q))
+      go false q (inl at) rest = ap p (sym at) ∙ q
+      go false q (inr l) rest = rest (sym (from-no n k q) ∙ e) l
+
   pub least-none : (n : ℕ) → ((i : ℕ) → i < n → p i ≡ false) → least n p ≡ none
   unfolding least
   least-none n h = from-none n 0 (λ i a b. h i (omega arith))
@@ -59,3 +84,11 @@ module _ (p : ℕ → Bool) where
   pub least-holds : (n j : ℕ) → least n p ≡ some j → p j ≡ true
   unfolding least
   least-holds n j e = from-holds n 0 j e
+
+  pub least-below : (n j : ℕ) → least n p ≡ some j → (i : ℕ) → i < j → p i ≡ false
+  unfolding least
+  least-below n j e i l = from-below n 0 j e i (omega arith) l
+
+  pub least-missing : (n : ℕ) → least n p ≡ none → (i : ℕ) → i < n → p i ≡ false
+  unfolding least
+  least-missing n e i l = from-missing n 0 e i (omega arith) (omega arith)

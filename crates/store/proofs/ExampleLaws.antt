@@ -5,9 +5,9 @@ use mathlib.Core.List.{map}
 use Rattle.loops.specs.Below.{every}
 use Rattle.loops.specs.Search.{leastFrom, least}
 use Rattle.store.specs.Sound.{inRanges, endsInside, inside, apart}
-use Rattle.store.specs.Placement.{clear, fits, newBase}
+use Rattle.store.specs.Placement.{clear, fits, newBase, placement}
 use Rattle.store.specs.Examples.{Example, told, twoSegments, examples}
 
-pub examples-hold : map told examples ≡ map (λ (e : Example). e .base) examples
-unfolding examples twoSegments newBase least leastFrom fits clear every apart inside inRanges endsInside
+pub examples-hold : map told examples ≡ map (λ (e : Example). e .answer) examples
+unfolding examples twoSegments placement newBase least leastFrom fits clear every apart inside inRanges endsInside
 examples-hold = refl

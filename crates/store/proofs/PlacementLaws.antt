@@ -1,7 +1,7 @@
 -- Laws of the base of a new segment. The code's loop keeps that no base below the one it tries fits; it ends with one
 -- that a pass leaves as it is, which is the least, or past the last base from which the bytes end inside the memory.
 -- Assumes nothing.
-use mathlib.Core.Path.{_≡_, refl, sym, _∙_, subst}
+use mathlib.Core.Path.{_≡_, refl, sym, ap, _∙_, subst}
 use mathlib.Core.Bool.{Bool, true, false, _&&_}
 use mathlib.Core.Option.{none, some}
 use Prim.Native.Nat.{ℕ, _-_, _≤_, _<_}
@@ -9,12 +9,12 @@ use native.Mathlib.Omega.{arith}
 use lib.Dec.{ltb}
 use borrow.Author.Tests.{ltb-true, ltb-false, lt-ltb}
 use Rattle.loops.proofs.BelowLaws.{and-left, and-right, and-both, and-off, test-off, every-pair-at}
-use Rattle.loops.proofs.SearchLaws.{least-none, least-is, least-holds}
+use Rattle.loops.proofs.SearchLaws.{least-none, least-is, least-holds, least-below, least-missing}
 use Rattle.store.specs.declared.Place.the-variants.{Present}
 use Rattle.sizes.specs.Sizes.{nodes, clusters, segments, nodeMemory}
 use Rattle.store.specs.Records.{Tables, placeOn}
 use Rattle.store.specs.Sound.{inside, apart}
-use Rattle.store.specs.Placement.{clear, fits, newBase}
+use Rattle.store.specs.Placement.{clear, fits, newBase, roomAt, noRoom, answered, placement}
 use Rattle.store.specs.Passes.{nodeClimb}
 use Rattle.store.proofs.PlaceLaws.{Inside, inside-out, inside-in}
 use Rattle.store.proofs.JumpLaws.{jumps-node}
@@ -44,35 +44,45 @@ module _ (ts : Tables) (node size : ℕ) where
   unfolding newBase
   newBase-fits base e = fits-out base (least-holds (fits ts node size) nodeMemory base e)
 
+  -- and no smaller base does
+  pub newBase-least : (base : ℕ) → newBase ts node size ≡ some base → (k : ℕ) → k < base → fits ts node size k ≡ false
+  unfolding newBase
+  newBase-least base e = least-below (fits ts node size) nodeMemory base e
+
+  -- where it gives none, none fits
+  pub newBase-none : newBase ts node size ≡ none → (k : ℕ) → k < nodeMemory → fits ts node size k ≡ false
+  unfolding newBase
+  newBase-none e = least-missing (fits ts node size) nodeMemory e
+
   -- bases tried so far: none below this one fits
   pub record Tried (base : ℕ) : Type 0 where
     pub below : (k : ℕ) → k < base → fits ts node size k ≡ false
 
-  nothing : ((k : ℕ) → k < nodeMemory → Fits k → ⊥) → none ≡ newBase ts node size
-  unfolding newBase
-  nothing f =
-      sym
-      (least-none (fits ts node size) nodeMemory (λ k h. test-off (fits ts node size k) (λ e. f k h (fits-out k e))))
+  refused : ((k : ℕ) → k < nodeMemory → fits ts node size k ≡ false) → noRoom ≡ placement ts node size
+  unfolding placement newBase
+  refused f = ap answered (sym (least-none (fits ts node size) nodeMemory f))
 
-  pub base-no-node : nodes ≤ node → none ≡ newBase ts node size
+  nothing : ((k : ℕ) → k < nodeMemory → Fits k → ⊥) → noRoom ≡ placement ts node size
+  nothing f = refused (λ k h. test-off (fits ts node size k) (λ e. f k h (fits-out k e)))
+
+  pub base-no-node : nodes ≤ node → noRoom ≡ placement ts node size
   base-no-node h = nothing (λ k l (r : Fits k). omega arith)
 
   bounds : (k : ℕ) → Fits k → Inside k size
   bounds k r = inside-out k size (r .within)
 
-  pub base-no-size : size < 1 → none ≡ newBase ts node size
+  pub base-no-size : size < 1 → noRoom ≡ placement ts node size
   base-no-size h = nothing (λ k l r. let b = bounds k r in omega arith)
 
-  pub base-too-long : nodeMemory < size → none ≡ newBase ts node size
+  pub base-too-long : nodeMemory < size → noRoom ≡ placement ts node size
   base-too-long h = nothing (λ k l r. let b = bounds k r in omega arith)
 
   pub tried-none : Tried 0
   tried-none = record { below = λ k h. absurd (omega arith) }
 
   module _ (base : ℕ) (w : Tried base) where
-    pub tried-all : nodeMemory - size < base → none ≡ newBase ts node size
-    unfolding newBase
-    tried-all h = sym (least-none (fits ts node size) nodeMemory (λ k l. each k (ltb k base) refl))
+    pub tried-all : nodeMemory - size < base → noRoom ≡ placement ts node size
+    tried-all h = refused (λ k l. each k (ltb k base) refl)
       where
         each : (k : ℕ) (t : Bool) → ltb k base ≡ t → fits ts node size k ≡ false
         each k true t = w .below k (ltb-true k base t)
@@ -95,12 +105,13 @@ module _ (ts : Tables) (node size : ℕ) where
       base-rises a b f = let h = jumps-node ts node size .rises base in omega arith
 
       pub base-found : node < nodes → 1 ≤ size → size ≤ nodeMemory → base ≤ nodeMemory - size → next ≡ base
-          → some base ≡ newBase ts node size
-      unfolding newBase fits
+          → roomAt base ≡ placement ts node size
+      unfolding placement newBase fits
       base-found a b c d q =
-          sym (least-is (fits ts node size) nodeMemory base (omega arith)
+          ap answered
+          (sym (least-is (fits ts node size) nodeMemory base (omega arith)
           (and-both (ltb node nodes && inside (Present base size)) (clear ts node (Present base size))
           (and-both (ltb node nodes) (inside (Present base size)) (lt-ltb node nodes a)
           (inside-in base size (record { some = b; ends = omega arith })))
           (jumps-node ts node size .stays base (sym e ∙ q)))
-          (w .below))
+          (w .below)))

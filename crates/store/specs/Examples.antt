@@ -1,5 +1,5 @@
 -- Document 01, "Selector and placement examples": the five of placement, P10 to P14.
---     Example        a store, the size asked for on node 0, and the base told; none is number 16
+--     Example        a store, the size asked for on node 0, and what is told
 --     told           what placement tells
 --     holding        a cluster with one segment
 --     twoSegments    node 0 has segments at 0 to 99 and at 150 to 159 only, here in two clusters
@@ -7,7 +7,6 @@
 -- Assumes nothing.
 use Prim.Native.Nat.{ℕ}
 use mathlib.Core.List.{List, [], _∷_}
-use mathlib.Core.Option.{Option, none, some}
 use lib.ListN.{replicate}
 use Rattle.store.specs.declared.Place.{Place}
 use Rattle.store.specs.declared.Place.the-variants.{Present}
@@ -15,15 +14,15 @@ use Rattle.store.specs.declared.Cluster.{Cluster}
 use Rattle.store.specs.declared.Store.{Store}
 use Rattle.sizes.specs.Sizes.{passwordBytes}
 use Rattle.store.specs.Records.{startingStore, started, recordOf, tableAt, putRecord, withPlace}
-use Rattle.store.specs.Placement.{newBase}
+use Rattle.store.specs.Placement.{Answer, roomAt, noRoom, placement}
 
 pub record Example : Type 0 where
   pub store : Store
   pub size : ℕ
-  pub base : Option ℕ
+  pub answer : Answer
 
-abbrev pub told : Example → Option ℕ
-told e = newBase (tableAt (e .store)) 0 (e .size)
+abbrev pub told : Example → Answer
+told e = placement (tableAt (e .store)) 0 (e .size)
 
 abbrev holding : ℕ → Place → Cluster
 holding i p = withPlace (started (replicate passwordBytes 0) (replicate passwordBytes 0)) i p
@@ -35,9 +34,9 @@ twoSegments =
 
 unfoldable pub examples : List Example
 examples =
-    record { store = twoSegments; size = 50; base = some 100 }
-    ∷ record { store = twoSegments; size = 51; base = some 160 }
-    ∷ record { store = twoSegments; size = 3936; base = some 160 }
-    ∷ record { store = twoSegments; size = 3937; base = none }
-    ∷ record { store = startingStore; size = 4096; base = some 0 }
+    record { store = twoSegments; size = 50; answer = roomAt 100 }
+    ∷ record { store = twoSegments; size = 51; answer = roomAt 160 }
+    ∷ record { store = twoSegments; size = 3936; answer = roomAt 160 }
+    ∷ record { store = twoSegments; size = 3937; answer = noRoom }
+    ∷ record { store = startingStore; size = 4096; answer = roomAt 0 }
     ∷ []

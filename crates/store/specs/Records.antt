@@ -4,7 +4,7 @@
 --     started                      the record of a new cluster with these passwords
 --     Table, tableOf, Tables       all of a cluster's record but its passwords; the tables of all records
 --     recordOf                     the number of the record of a node's cluster
---     noCluster                    what the code's reads give past the last record: an inactive cluster
+--     noCluster                    what a read past the last record gives: inactive, with no bytes and no segments
 --     clusterAt, tableAt           record n of the store, and its table
 --     segmentOf, placeOf           segment i of a table, and its place
 --     placeAt, placeOn             the place of segment i of record n, and of a node's cluster

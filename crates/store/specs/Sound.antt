@@ -7,7 +7,8 @@
 --     inRanges        base from 0 to 4,095, length from 1 to 4,096
 --     endsInside      base plus length at most 4,096
 --     inside          both of these
---     apart           two places share no byte: one ends where the other begins, or before it
+--     apart           two places, of at least one byte each, share no byte: one ends where the other begins, or
+--                     before it
 --     isAbsent        the place is that of an absent segment
 --     zeroBytes       every byte of the password is zero
 --     idle            zero passwords and only absent segments

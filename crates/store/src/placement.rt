@@ -3,7 +3,7 @@ ghost use mathlib.Core.Path.{_≡_};
 ghost use Prim.Native.Nat.{_<_};
 ghost use Rattle.sizes.specs.Sizes.{nodes, segments};
 ghost use Rattle.store.specs.Records.{tableOf, tableAt, placeOf};
-ghost use Rattle.store.specs.Placement.{found, newBase};
+ghost use Rattle.store.specs.Placement.{answer, placement};
 ghost use Rattle.store.specs.Passes as passes;
 use crate::CLUSTERS;
 use crate::Cluster;
@@ -74,7 +74,7 @@ fn past_node(store: Store, node: usize, base: usize, size: usize) -> usize
 // The smallest base at which `size` bytes fit on the node. A base that a pass leaves as it is fits; any other pass
 // ends at a segment's end, and nothing fits between.
 pub fn new_base(store: Store, node: usize, size: usize) -> Found
-    ensures { λ r. ⌜ found r ≡ newBase (tableAt store) node size ⌝ }
+    ensures { λ r. ⌜ answer r ≡ placement (tableAt store) node size ⌝ }
 {
     if NODES <= node {
         return Found::Nowhere;

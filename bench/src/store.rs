@@ -1,0 +1,174 @@
+//! The text of crates/store in Rust, as far as soundness needs it, and of the stores that are measured.
+
+const NODES: usize = 4;
+const CLUSTERS: usize = 8;
+const SEGMENTS: usize = 8;
+const RECORDS: usize = 32;
+const NODE_MEMORY: usize = 4096;
+pub const MEMORY: usize = 16384;
+const PASSWORD_BYTES: usize = 16;
+
+#[derive(Clone, Copy)]
+pub enum Place {
+    Absent,
+    Present { base: u16, length: u16 },
+}
+
+#[derive(Clone, Copy)]
+pub struct Segment {
+    pub place: Place,
+}
+
+#[derive(Clone, Copy)]
+pub struct Cluster {
+    pub active: bool,
+    pub read: [u8; PASSWORD_BYTES],
+    pub write: [u8; PASSWORD_BYTES],
+    pub segments: [Segment; SEGMENTS],
+}
+
+#[derive(Clone, Copy)]
+pub struct Store {
+    pub clusters: [Cluster; RECORDS],
+}
+
+fn mark(part: &mut [u8]) -> bool {
+    let mut fresh = true;
+    let mut i: usize = 0;
+    while i < part.len() {
+        fresh = (part[i] == 0) & fresh;
+        part[i] = 1;
+        i += 1;
+    }
+    fresh
+}
+
+fn claim(place: Place, map: &mut [u8]) -> bool {
+    match place {
+        Place::Absent => true,
+        Place::Present { base, length } => {
+            let from = base as usize;
+            let size = length as usize;
+            if size < 1 {
+                return false;
+            }
+            let to = from + size;
+            if NODE_MEMORY < to {
+                return false;
+            }
+            mark(&mut map[from..to])
+        }
+    }
+}
+
+fn claim_all(cluster: Cluster, map: &mut [u8]) -> bool {
+    let mut ok = true;
+    let mut i: usize = 0;
+    while i < SEGMENTS {
+        let segment = cluster.segments[i];
+        let place = segment.place;
+        ok = claim(place, map) & ok;
+        i += 1;
+    }
+    ok
+}
+
+fn zero(password: [u8; PASSWORD_BYTES]) -> bool {
+    let mut ok = true;
+    let mut i: usize = 0;
+    while i < PASSWORD_BYTES {
+        ok = (password[i] == 0) & ok;
+        i += 1;
+    }
+    ok
+}
+
+fn absent(place: Place) -> bool {
+    match place {
+        Place::Absent => true,
+        Place::Present { base: _, length: _ } => false,
+    }
+}
+
+fn empty(cluster: Cluster) -> bool {
+    let mut ok = true;
+    let mut i: usize = 0;
+    while i < SEGMENTS {
+        let segment = cluster.segments[i];
+        let place = segment.place;
+        ok = absent(place) & ok;
+        i += 1;
+    }
+    ok
+}
+
+fn settled(cluster: Cluster) -> bool {
+    let read = cluster.read;
+    let write = cluster.write;
+    cluster.active | ((zero(read) & zero(write)) & empty(cluster))
+}
+
+fn node_sound(store: Store, node: usize) -> bool {
+    let mut map = [0u8; NODE_MEMORY];
+    let mut ok = true;
+    let mut local: usize = 0;
+    while local < CLUSTERS {
+        let cluster = store.clusters[node * CLUSTERS + local];
+        ok = (settled(cluster) & claim_all(cluster, &mut map)) & ok;
+        local += 1;
+    }
+    ok
+}
+
+pub fn sound(store: Store, size: usize) -> bool {
+    let mut ok = true;
+    let mut node: usize = 0;
+    while node < NODES {
+        ok = node_sound(store, node) & ok;
+        node += 1;
+    }
+    (size == MEMORY) & ok
+}
+
+fn place_from(base: u16, length: u16) -> Place {
+    if length == 0 {
+        return Place::Absent;
+    }
+    Place::Present { base, length }
+}
+
+fn segments_from(bases: &[u16; 256], lengths: &[u16; 256], n: usize) -> [Segment; 8] {
+    let absent = Segment {
+        place: Place::Absent,
+    };
+    let mut r = [absent; 8];
+    for i in 0..8usize {
+        let at = n * 8 + i;
+        r[i] = Segment {
+            place: place_from(bases[at], lengths[at]),
+        };
+    }
+    r
+}
+
+pub fn store_from(bases: &[u16; 256], lengths: &[u16; 256]) -> Store {
+    let inactive = Cluster {
+        active: false,
+        read: [0; PASSWORD_BYTES],
+        write: [0; PASSWORD_BYTES],
+        segments: [Segment {
+            place: Place::Absent,
+        }; SEGMENTS],
+    };
+    let mut clusters = [inactive; 32];
+    for n in 0..32usize {
+        let segments = segments_from(bases, lengths, n);
+        clusters[n] = Cluster {
+            active: true,
+            read: [0; 16],
+            write: [0; 16],
+            segments,
+        };
+    }
+    Store { clusters }
+}
