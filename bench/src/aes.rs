@@ -1,5 +1,5 @@
-//! The text of crates/field and crates/aes in Rust, function by function: what the measurements compare with. The substitution table is
-//! read from the proved source, so that its numbers stand once in the repository.
+//! The text of crates/field and crates/aes in Rust, function by function: what the measurements compare with.
+//! The substitution table is read from the proved source, so that its numbers stand once in the repository.
 
 pub type Tables = [u8; 256];
 

@@ -1,7 +1,10 @@
 -- FIPS 197, section 5.2, for AES-128: the words w[0], w[1] .. of four bytes each. A word is made of the four words
 -- before it, so these four, sixteen bytes, are what is carried from word to word.
---     roundConstant j    Rcon[j]'s first byte, x^(j - 1): 01 doubled j - 1 times
+--     doublings n        01 doubled n times
+--     roundConstant j    x^(j - 1), the first byte of Rcon[j]
+--     rcon j             Rcon[j]
 --     rotWord, subWord   the word turned left by one byte; every byte of it substituted
+--     addWords           two words added, byte by byte
 --     temp i w           what is added to w[i - 4], where w is w[i - 1]
 --     newWord i k        w[i], of the sixteen bytes k of w[i - 4] to w[i - 1]
 --     slide i k          the sixteen bytes of w[i - 3] to w[i]

@@ -26,7 +26,8 @@ pub place-present : (base length : ℕ) → (length ≡ 0 → ⊥) → Present b
 unfolding placeFrom
 place-present base length h = sym (ap (chosen base length) (ne-eqb length 0 h))
 
-pub cluster-is : (bases lengths : List ℕ) (n : ℕ) (gs : List Segment) → gs ≡ tabulate segments (segmentFrom bases lengths n)
+pub cluster-is : (bases lengths : List ℕ) (n : ℕ) (gs : List Segment)
+    → gs ≡ tabulate segments (segmentFrom bases lengths n)
     → record { active = true; read = replicate passwordBytes 0; write = replicate passwordBytes 0; segments = gs }
     ≡ clusterFrom bases lengths n
 unfolding clusterFrom

@@ -18,7 +18,8 @@ use Rattle.store.specs.declared.Cluster.{Cluster}
 use Rattle.store.specs.declared.Store.{Store}
 use Rattle.sizes.specs.Sizes.{nodes, clusters, segments, records}
 use Rattle.store.specs.Records.{absentSegment, inactive, started}
-use Rattle.store.specs.Records.{Table, Tables, tableOf, recordOf, noCluster, clusterAt, tableAt, segmentOf, placeOf, placeOn}
+use Rattle.store.specs.Records.{Table, Tables, tableOf, recordOf, noCluster, clusterAt, tableAt}
+use Rattle.store.specs.Records.{segmentOf, placeOf, placeOn}
 use Rattle.store.specs.Records.{putRecord, withPlace}
 use Rattle.store.specs.Sound.{inRanges, endsInside, inside, soundSegment, apart, settled, sound}
 use Rattle.store.specs.Placement.{newBase}

@@ -22,7 +22,8 @@ use Rattle.sizes.specs.Sizes.{segments, nodeMemory}
 use Rattle.store.specs.Records.{Tables, placeOn}
 use Rattle.store.specs.Sound.{inside, apart}
 use Rattle.store.specs.Passes.{free, marked, stamped, stampedBy, blank, nodeMap}
-use Rattle.store.proofs.PlaceLaws.{inside-out, holds, holds-in, holds-out, Shared, apart-shares-none, not-apart-shares}
+use Rattle.store.proofs.PlaceLaws.{inside-out, holds, holds-in, holds-out, Shared}
+use Rattle.store.proofs.PlaceLaws.{apart-shares-none, not-apart-shares}
 
 -- byte x of the map is unmarked
 abbrev pub unmarked : ℕ → List ℕ → Bool

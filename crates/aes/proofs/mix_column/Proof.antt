@@ -10,4 +10,5 @@ returns c = search (needs, mix-column-is)
 
 pub mix-column-spec : {M : Type 1} → statement M
 mix-column-spec =
-    tie.close (tie.spec (λ c κs. search needs) (λ c κs. search needs) (λ c κs. search needs) (λ c κs. search needs) returns)
+    tie.close
+    (tie.spec (λ c κs. search needs) (λ c κs. search needs) (λ c κs. search needs) (λ c κs. search needs) returns)
