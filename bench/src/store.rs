@@ -108,23 +108,19 @@ fn settled(cluster: Cluster) -> bool {
     cluster.active | ((zero(read) & zero(write)) & empty(cluster))
 }
 
-fn node_sound(store: Store, node: usize) -> bool {
-    let mut map = [0u8; NODE_MEMORY];
-    let mut ok = true;
-    let mut local: usize = 0;
-    while local < CLUSTERS {
-        let cluster = store.clusters[node * CLUSTERS + local];
-        ok = (settled(cluster) & claim_all(cluster, &mut map)) & ok;
-        local += 1;
-    }
-    ok
-}
-
 pub fn sound(store: Store, size: usize) -> bool {
     let mut ok = true;
     let mut node: usize = 0;
     while node < NODES {
-        ok = node_sound(store, node) & ok;
+        let mut map = [0u8; NODE_MEMORY];
+        let mut taken = true;
+        let mut local: usize = 0;
+        while local < CLUSTERS {
+            let cluster = store.clusters[node * CLUSTERS + local];
+            taken = (settled(cluster) & claim_all(cluster, &mut map)) & taken;
+            local += 1;
+        }
+        ok = taken & ok;
         node += 1;
     }
     (size == MEMORY) & ok

@@ -117,9 +117,6 @@ ones-setOf (suc w) p =
     odd true = omega arith
     odd false = omega arith
 
-pub count-same : (w : ℕ) (p q : ℕ → Bool) → ((i : ℕ) → i < w → p i ≡ q i) → count w p ≡ count w q
-count-same w p q e = sym (ones-setOf w p) ∙ ap ones (setOf-same w p q e) ∙ ones-setOf w q
-
 -- none counted just where none is in the set
 pub count-none : (w : ℕ) (p : ℕ → Bool) → eqb (count w p) 0 ≡ eqb (setOf w p) 0
 unfolding setOf count

@@ -9,13 +9,14 @@ use native.Mathlib.Omega.{arith}
 use lib.Dec.{ltb}
 use borrow.Author.Tests.{ltb-true, ltb-false, lt-ltb}
 use Rattle.loops.proofs.BelowLaws.{and-left, and-right, and-both, and-off, test-off, every-pair-at}
+use Rattle.loops.proofs.TurnLaws.{Turning, turning-all}
 use Rattle.loops.proofs.SearchLaws.{least-none, least-is, least-holds, least-below, least-missing}
 use Rattle.store.specs.declared.Place.the-variants.{Present}
 use Rattle.sizes.specs.Sizes.{nodes, clusters, segments, nodeMemory}
 use Rattle.store.specs.Records.{Tables, placeOn}
 use Rattle.store.specs.Sound.{inside, apart}
 use Rattle.store.specs.Placement.{clear, fits, newBase, roomAt, noRoom, answered, placement}
-use Rattle.store.specs.Passes.{nodeClimb}
+use Rattle.store.specs.Passes.{climb, nodeClimb}
 use Rattle.store.proofs.PlaceLaws.{Inside, inside-out, inside-in}
 use Rattle.store.proofs.JumpLaws.{jumps-node}
 
@@ -53,6 +54,12 @@ module _ (ts : Tables) (node size : ℕ) where
   pub newBase-none : newBase ts node size ≡ none → (k : ℕ) → k < nodeMemory → fits ts node size k ≡ false
   unfolding newBase
   newBase-none e = least-missing (fits ts node size) nodeMemory e
+
+  -- the loop over the clusters of the node, through
+  pub passed-all : (base local next : ℕ) → Turning clusters (λ l. climb segments (placeOn ts node l) size) base local next
+      → clusters ≤ local → next ≡ nodeClimb ts node size base
+  unfolding nodeClimb
+  passed-all base local next w h = turning-all clusters _ base local next w h
 
   -- bases tried so far: none below this one fits
   pub record Tried (base : ℕ) : Type 0 where

@@ -1,7 +1,6 @@
 // Placement by jumps: a base that a segment is in the way of gives way to that segment's end.
 ghost use mathlib.Core.Path.{_≡_};
-ghost use Prim.Native.Nat.{_<_};
-ghost use Rattle.sizes.specs.Sizes.{nodes, segments};
+ghost use Rattle.sizes.specs.Sizes.{segments};
 ghost use Rattle.store.specs.Records.{tableOf, tableAt, placeOf};
 ghost use Rattle.store.specs.Placement.{answer, placement};
 ghost use Rattle.store.specs.Passes as passes;
@@ -56,23 +55,9 @@ fn past_cluster(cluster: Cluster, base: usize, size: usize) -> usize
     next
 }
 
-// The base to try after the 64 segments of a node.
-fn past_node(store: Store, node: usize, base: usize, size: usize) -> usize
-    requires { ⌜ node < nodes ⌝ }
-    ensures { λ r. ⌜ r ≡ passes.nodeClimb (tableAt store) node size base ⌝ }
-{
-    let mut next = base;
-    let mut local: usize = 0;
-    while local < CLUSTERS {
-        let cluster = store.clusters[node * CLUSTERS + local];
-        next = past_cluster(cluster, next, size);
-        local += 1;
-    }
-    next
-}
-
-// The smallest base at which `size` bytes fit on the node. A base that a pass leaves as it is fits; any other pass
-// ends at a segment's end, and nothing fits between.
+// The smallest base at which `size` bytes fit on the node. A base that a pass over the node's clusters leaves as it is
+// fits; any other pass ends at a segment's end, and nothing fits between. The loops are nested here, since a store that
+// is handed on is copied whole.
 pub fn new_base(store: Store, node: usize, size: usize) -> Found
     ensures { λ r. ⌜ answer r ≡ placement (tableAt store) node size ⌝ }
 {
@@ -88,7 +73,13 @@ pub fn new_base(store: Store, node: usize, size: usize) -> Found
     let last = NODE_MEMORY - size;
     let mut base: usize = 0;
     while base <= last {
-        let next = past_node(store, node, base, size);
+        let mut next = base;
+        let mut local: usize = 0;
+        while local < CLUSTERS {
+            let cluster = store.clusters[node * CLUSTERS + local];
+            next = past_cluster(cluster, next, size);
+            local += 1;
+        }
         if next == base {
             return Found::At(base);
         }

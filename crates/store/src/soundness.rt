@@ -116,30 +116,23 @@ fn settled(cluster: Cluster) -> bool
     cluster.active | ((zero(read) & zero(write)) & empty(cluster))
 }
 
-// The clusters of a node are settled, and the map takes all their segments.
-fn node_sound(store: Store, node: usize) -> bool
-    requires { ⌜ node < nodes ⌝ }
-    ensures { λ r. ⌜ r ≡ every clusters (passes.clusterSound store node) ⌝ }
-{
-    let mut map = [0u8; NODE_MEMORY];
-    let mut ok = true;
-    let mut local: usize = 0;
-    while local < CLUSTERS {
-        let cluster = store.clusters[node * CLUSTERS + local];
-        ok = (settled(cluster) & claim_all(cluster, &mut map)) & ok;
-        local += 1;
-    }
-    ok
-}
-
-// Whether the records are sound with a slice of `size` bytes.
+// Whether the records are sound with a slice of `size` bytes: the clusters of each node are settled, and its map takes
+// all their segments. The loops are nested here, since a store that is handed on is copied whole.
 pub fn sound(store: Store, size: usize) -> bool
     ensures { λ r. ⌜ r ≡ sound-spec.sound store size ⌝ }
 {
     let mut ok = true;
     let mut node: usize = 0;
     while node < NODES {
-        ok = node_sound(store, node) & ok;
+        let mut map = [0u8; NODE_MEMORY];
+        let mut taken = true;
+        let mut local: usize = 0;
+        while local < CLUSTERS {
+            let cluster = store.clusters[node * CLUSTERS + local];
+            taken = (settled(cluster) & claim_all(cluster, &mut map)) & taken;
+            local += 1;
+        }
+        ok = taken & ok;
         node += 1;
     }
     (size == MEMORY) & ok
