@@ -1,0 +1,1 @@
+// The nine calls and validation: for now their definitions alone.
