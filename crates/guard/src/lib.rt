@@ -1,1 +1,44 @@
-// The nine calls and validation: for now their definitions alone.
+// The calls of document 01 on a store and the memory that goes with it. Each entry point takes the records by value and
+// the memory lent, and gives what `step` gives: a refused call leaves all as it was.
+use store::Store;
+
+mod front; // front.rt: the refusals that the calls which open a cluster share
+mod open; // open.rt: validation and reduction, which change nothing
+
+pub use open::reduce;
+pub use open::validate;
+
+// The numbers of document 01's table.
+pub const UNSOUND: u8 = 1;
+
+pub const NO_SUCH_PLACE: u8 = 2;
+
+pub const FIELD: u8 = 3;
+
+pub const GAPPED: u8 = 4;
+
+pub const ELSEWHERE: u8 = 5;
+
+pub const INACTIVE: u8 = 8;
+
+pub const VIOLATED: u8 = 9;
+
+// The two modes.
+pub const READ: u8 = 1;
+
+pub const WRITE: u8 = 2;
+
+// What a call answers: its number; the handles, the count and the length that it gives, zero where it gives none.
+pub struct Answer {
+    pub number: u8,
+    pub first: [u8; 23],
+    pub second: [u8; 23],
+    pub count: u8,
+    pub length: usize,
+}
+
+// The records that a call leaves, and its answer.
+pub struct Done {
+    pub store: Store,
+    pub answer: Answer,
+}

@@ -1,0 +1,3 @@
+pub mod FrontLaws
+pub mod NumberLaws
+pub mod OpenLaws

@@ -1,0 +1,68 @@
+-- The number of a call, from the rows that it shares with the others and its own. At a concrete kind the rows that are
+-- not the call's compute away; the record of the cluster may be looked up before its place is judged, since a bad place
+-- is refused by row 2 whatever the record is.
+-- Assumes nothing.
+use mathlib.Core.Path.{_≡_, refl, sym, ap, _∙_}
+use mathlib.Core.Bool.{Bool, true, false, not, _||_, cond, or-false}
+use mathlib.Core.List.{List, [], _∷_}
+use Prim.Native.Nat.{ℕ, zero, suc}
+use lib.Dec.{eqb}
+use lib.ListN.{length}
+use Rattle.handle.specs.declared.Handle.{Handle}
+use Rattle.handle.specs.Handles.{Name, noSuchPlace, firstOf, decoded}
+use Rattle.handle.specs.Conversion.{conversion}
+use Rattle.store.specs.declared.Cluster.{Cluster}
+use Rattle.store.specs.declared.Store.{Store}
+use Rattle.store.specs.Records.{clusterAt}
+use Rattle.store.specs.Sound.{sound}
+use Rattle.guard.specs.Calls.{Copy, Call, Arguments, call, reduce, validate, readMode, writeMode, recordNamed, buffer}
+use Rattle.guard.specs.Numbers.{noPlace, badMode, badSegment, badSize, badField, gappedHandle, elsewhere, twins}
+use Rattle.guard.specs.Numbers.{notPrimary, notReferenced, spentHandle, inUse, inactiveCluster, segmentPresent}
+use Rattle.guard.specs.Numbers.{segmentAbsent, short, fullNode, unsound, oldPassword, valid, violated, number}
+use Rattle.guard.specs.Steps.{Outcome, plain, left, given, outcome, step, aesStep}
+use Rattle.guard.specs.Entries.{asked, recordAt, frontRows}
+
+-- ---- a call refused, and a call done
+
+module _ (x : Call) (c : Copy) where
+  pub step-refused : (n : ℕ) → number (λ m. conversion) x (c .store) (length (c .memory)) ≡ n → (n ≡ 0 → ⊥)
+      → aesStep x c ≡ record { copy = c; reply = plain n (buffer x) }
+  unfolding step
+  step-refused zero e h = absurd (h refl)
+  step-refused (suc n) e h = ap (λ (k : ℕ). outcome (λ m. conversion) k x c) e
+
+  pub step-done : number (λ m. conversion) x (c .store) (length (c .memory)) ≡ 0
+      → aesStep x c ≡ record { copy = left (x .kind) x c; reply = given (λ m. conversion) (x .kind) x c }
+  unfolding step
+  step-done e = ap (λ (k : ℕ). outcome (λ m. conversion) k x c) e
+
+-- ---- the record looked up first
+
+module _ (s : Store) (sd : Bool) (h : Handle) (far field away : Bool) (mode : ℕ) where
+  abbrev firstWith : ℕ → ℕ
+  firstWith n = firstOf (frontRows sd h (clusterAt s n) far field away mode)
+
+  pub front-record : firstWith (recordAt (h .node) (h .local)) ≡ firstWith (recordNamed h)
+  front-record = go (noSuchPlace h) refl
+    where
+      go : (b : Bool) → noSuchPlace h ≡ b → firstWith (recordAt (h .node) (h .local)) ≡ firstWith (recordNamed h)
+      go true e = simp e
+      go false e = ap firstWith (ap (λ (b : Bool). cond b 0 (recordNamed h)) e)
+
+-- ---- the numbers, call by call
+
+-- validation's number is reduction's
+pub number-validate : (f : Name → List ℕ → ℕ → List ℕ) (g : Arguments) (s : Store) (size : ℕ)
+    → number f (call validate g) s size ≡ number f (call reduce g) s size
+unfolding number noPlace badField badMode badSegment badSize gappedHandle elsewhere twins notPrimary notReferenced spentHandle inUse inactiveCluster segmentPresent segmentAbsent short fullNode unsound oldPassword valid violated
+number-validate f g s size = refl
+
+module _ (s : Store) (size : ℕ) (b : List ℕ) where
+  abbrev h : Handle
+  h = decoded b
+
+  pub number-reduce : (mode : ℕ)
+      → number (λ m. conversion) (call reduce (asked 0 0 mode 0 0 0 b [] [] [])) s size
+      ≡ firstOf (frontRows (sound s size) h (clusterAt s (recordNamed h)) false (not (eqb mode readMode || eqb mode writeMode)) false mode)
+  unfolding number noPlace badField badMode badSegment badSize gappedHandle elsewhere twins notPrimary notReferenced spentHandle inUse inactiveCluster segmentPresent segmentAbsent short fullNode unsound oldPassword valid violated
+  number-reduce mode = simp or-false

@@ -1,0 +1,70 @@
+-- Validation and reduction: the shared rows are all that they have, and a call done changes nothing.
+-- Assumes nothing.
+use mathlib.Core.Path.{_≡_, refl, sym, ap, ap₂, _∙_}
+use mathlib.Core.Bool.{Bool, false, not, _||_}
+use mathlib.Core.List.{List, []}
+use Prim.Native.Nat.{ℕ, zero, suc}
+use lib.Dec.{eqb}
+use lib.ListN.{length}
+use Rattle.handle.specs.declared.Handle.{Handle}
+use Rattle.handle.specs.Handles.{nameOf, widthOf, firstOf, decoded, encoded, reduced}
+use Rattle.handle.specs.Conversion.{conversion}
+use Rattle.store.specs.declared.Cluster.{Cluster}
+use Rattle.store.specs.declared.Store.{Store}
+use Rattle.store.specs.Records.{clusterAt}
+use Rattle.store.specs.Sound.{sound}
+use Rattle.guard.specs.declared.Answer.{Answer}
+use Rattle.guard.specs.Calls.{Call, call, reduce, validate, readMode, writeMode, primaryOf, recordNamed}
+use Rattle.guard.specs.Numbers.{number}
+use Rattle.guard.specs.Steps.{Reply, handles, zeroHandle, outcome, step, aesStep, left, given}
+use Rattle.guard.specs.Entries.{copyOf, asked, ended, replied, refusal, recordAt, frontRows}
+use Rattle.guard.proofs.FrontLaws.{at-record, Passed, front-passed}
+use Rattle.guard.proofs.NumberLaws.{step-refused, step-done, front-record, number-validate, number-reduce}
+
+abbrev badModes : ℕ → Bool
+badModes mode = not (eqb mode readMode || eqb mode writeMode)
+
+module _ (s : Store) (m b : List ℕ) (mode : ℕ) (h : Handle) (eh : h ≡ decoded b) (at : ℕ) (ea : at ≡ recordAt (h .node) (h .local))
+    (sd : Bool) (es : sd ≡ sound s (length m)) (n : ℕ)
+    (en : n ≡ firstOf (frontRows sd h (clusterAt s at) false (not (eqb mode readMode || eqb mode writeMode)) false mode)) where
+  told : n ≡ number (λ k. conversion) (call reduce (asked 0 0 mode 0 0 0 b [] [] [])) s (length m)
+  told =
+      en ∙ ap (λ (i : ℕ). firstOf (frontRows sd h (clusterAt s i) false (badModes mode) false mode)) ea
+      ∙ front-record s sd h false (badModes mode) false mode
+      ∙ ap₂ (λ (t : Bool) (g : Handle). firstOf (frontRows t g (clusterAt s (recordNamed g)) false (badModes mode) false mode)) es eh
+      ∙ sym (number-reduce s (length m) b mode)
+
+  pub validate-is : n ≡ aesStep (call validate (asked 0 0 mode 0 0 0 b [] [] [])) (copyOf s m) .reply .number
+  unfolding step given
+  validate-is = go _ (told ∙ sym (number-validate (λ k. conversion) (asked 0 0 mode 0 0 0 b [] [] []) s (length m)))
+    where
+      go : (k : ℕ) → n ≡ k → n ≡ outcome (λ i. conversion) k (call validate (asked 0 0 mode 0 0 0 b [] [] [])) (copyOf s m) .reply .number
+      go zero e = e
+      go (suc k) e = e
+
+  pub reduce-refused : (n ≡ 0 → ⊥) → (a : Answer) → a ≡ refusal n
+      → ended s m a [] ≡ aesStep (call reduce (asked 0 0 mode 0 0 0 b [] [] [])) (copyOf s m)
+  reduce-refused t a e =
+      ap (λ (x : Answer). ended s m x []) e
+      ∙ sym (step-refused (call reduce (asked 0 0 mode 0 0 0 b [] [] [])) (copyOf s m) n (sym told) t)
+
+  pub reduce-done : (n ≡ 0) → (p : List ℕ) → p ≡ primaryOf (clusterAt s at) mode → (r : Handle)
+      → r ≡ reduced (widthOf h) conversion h p → (e : List ℕ) → e ≡ encoded r
+      → ended s m (record { number = 0; first = e; second = zeroHandle; count = 0; length = 0 }) []
+      ≡ aesStep (call reduce (asked 0 0 mode 0 0 0 b [] [] [])) (copyOf s m)
+  unfolding left given
+  reduce-done z p ep r er e ee =
+      ap (λ (x : List ℕ). record { copy = copyOf s m; reply = handles x zeroHandle 0 }) (ee ∙ ap encoded (er ∙ same))
+      ∙ sym (step-done (call reduce (asked 0 0 mode 0 0 0 b [] [] [])) (copyOf s m) (sym told ∙ z))
+    where
+      passed : Passed h false (badModes mode) false
+      passed = front-passed sd h (clusterAt s at) false (badModes mode) false mode (sym en ∙ z)
+
+      there : at ≡ recordNamed h
+      there = ea ∙ sym (at-record (h .node) (h .local) (passed .node) (passed .local))
+
+      same : reduced (widthOf h) conversion h p
+          ≡ reduced (widthOf (decoded b)) conversion (decoded b) (primaryOf (clusterAt s (recordNamed (decoded b))) mode)
+      same =
+          ap (reduced (widthOf h) conversion h) (ep ∙ ap (λ (i : ℕ). primaryOf (clusterAt s i) mode) there)
+          ∙ ap (λ (g : Handle). reduced (widthOf g) conversion g (primaryOf (clusterAt s (recordNamed g)) mode)) eh

@@ -1,0 +1,82 @@
+-- How the code's arguments and answers are those of a call, and the rows that the calls which open a cluster share.
+--     copyOf s m             the copy of these records and this memory
+--     asked ..               the arguments of a call, in the order of the record's fields
+--     replied a b            the reply that the code's answer a and the buffer b make
+--     ended s m a b          what is left and given
+--     refusal n              the code's answer to a call refused with n
+--     recordAt node local    the record of a cluster; the first where there is no such place
+--     frontRows ..           rows 1 to 5, 8 and 9, from their tests: the store is sound; the handle; the record of its
+--                            cluster; whether some other place, some field, the current node is bad; the mode needed
+--     after n m              n, or m where n is 0
+-- Assumes nothing.
+use Prim.Native.Nat.{ℕ, zero, suc}
+use mathlib.Core.Bool.{Bool, true, false, not, _||_, cond}
+use mathlib.Core.List.{List, [], _∷_}
+use lib.Dec.{leb}
+use Rattle.sizes.specs.Sizes.{nodes, clusters}
+use Rattle.handle.specs.declared.Handle.{Handle}
+use Rattle.handle.specs.Selectors.{gapped}
+use Rattle.handle.specs.Handles.{widthOf, noSuchPlace, Row, validates}
+use Rattle.handle.specs.Conversion.{conversion}
+use Rattle.store.specs.declared.Cluster.{Cluster}
+use Rattle.store.specs.declared.Store.{Store}
+use Rattle.store.specs.Records.{recordOf}
+use Rattle.guard.specs.declared.Answer.{Answer}
+use Rattle.guard.specs.Calls.{Copy, Arguments, primaryOf}
+use Rattle.guard.specs.Steps.{Reply, Outcome, zeroHandle}
+
+abbrev pub copyOf : Store → List ℕ → Copy
+copyOf s m = record { store = s; memory = m }
+
+abbrev pub asked : ℕ → ℕ → ℕ → ℕ → ℕ → ℕ → List ℕ → List ℕ → List ℕ → List ℕ → Arguments
+asked current local mode segment size mask handle first second bytes =
+    record {
+      current = current;
+      local = local;
+      mode = mode;
+      segment = segment;
+      size = size;
+      mask = mask;
+      handle = handle;
+      first = first;
+      second = second;
+      bytes = bytes;
+    }
+
+abbrev pub replied : Answer → List ℕ → Reply
+replied a b =
+    record {
+      number = a .number;
+      first = a .first;
+      second = a .second;
+      count = a .count;
+      length = a .length;
+      buffer = b;
+    }
+
+abbrev pub ended : Store → List ℕ → Answer → List ℕ → Outcome
+ended s m a b = record { copy = copyOf s m; reply = replied a b }
+
+abbrev pub refusal : ℕ → Answer
+refusal n = record { number = n; first = zeroHandle; second = zeroHandle; count = 0; length = 0 }
+
+abbrev pub recordAt : ℕ → ℕ → ℕ
+recordAt node local = cond (leb nodes node || leb clusters local) 0 (recordOf node local)
+
+abbrev row : ℕ → Bool → Row
+row n t = record { number = n; applies = t }
+
+abbrev pub frontRows : Bool → Handle → Cluster → Bool → Bool → Bool → ℕ → List Row
+frontRows sound h c far field away mode =
+    row 1 (not sound)
+    ∷ row 2 (noSuchPlace h || far)
+    ∷ row 3 field
+    ∷ row 4 (gapped (widthOf h) (h .selector))
+    ∷ row 5 away
+    ∷ row 8 (not (c .active))
+    ∷ row 9 (not (validates (widthOf h) conversion (primaryOf c mode) h))
+    ∷ []
+
+abbrev pub after : ℕ → ℕ → ℕ
+after zero m = m
+after (suc n) m = suc n

@@ -1,0 +1,110 @@
+// The refusals that the calls which open a cluster share: 1 to 5, 8 and 9.
+use crate::Answer;
+use crate::ELSEWHERE;
+use crate::FIELD;
+use crate::GAPPED;
+use crate::INACTIVE;
+use crate::NO_SUCH_PLACE;
+use crate::READ;
+use crate::UNSOUND;
+use crate::VIOLATED;
+use aes::Tables;
+use handle::Handle;
+use store::CLUSTERS;
+use store::Cluster;
+use store::NODES;
+ghost use mathlib.Core.Path.{_≡_};
+ghost use Prim.Native.Nat.{_<_};
+ghost use Rattle.sizes.specs.Sizes.{records};
+ghost use Rattle.aes.specs.Tables.{IsTables};
+ghost use Rattle.handle.specs.Handles.{firstOf};
+ghost use Rattle.guard.specs.Calls.{primaryOf};
+ghost use Rattle.guard.specs.Entries.{refusal, recordAt, frontRows};
+
+// The answer to a call refused with a number.
+pub fn refused(number: u8) -> Answer
+    ensures { λ r. ⌜ r ≡ refusal number ⌝ }
+{
+    Answer {
+        number,
+        first: [0; 23],
+        second: [0; 23],
+        count: 0,
+        length: 0,
+    }
+}
+
+// The record of a cluster, or record 0 where there is no such place, so that it can be looked up before the place is
+// judged.
+pub fn record_at(node: u16, local: u8) -> usize
+    ensures { λ r. ⌜ (r ≡ recordAt node local) × (r < records) ⌝ }
+{
+    let n = node as usize;
+    let l = local as usize;
+    if NODES <= n {
+        return 0;
+    }
+    if CLUSTERS <= l {
+        return 0;
+    }
+    n * CLUSTERS + l
+}
+
+// The primary password of a cluster for a mode.
+pub fn primary(cluster: Cluster, mode: u8) -> [u8; 16]
+    ensures { λ r. ⌜ r ≡ primaryOf cluster mode ⌝ }
+{
+    if mode == READ {
+        return cluster.read;
+    }
+    cluster.write
+}
+
+// The first of the shared refusals that applies, or 0: of a handle and the record of its cluster, where `far`, `field` and
+// `away` tell whether the call's other places, its fields and its current node are bad.
+pub fn front(
+    tables: &Tables,
+    sound: bool,
+    handle: Handle,
+    cluster: Cluster,
+    far: bool,
+    field: bool,
+    away: bool,
+    mode: u8,
+) -> u8
+    requires { ⌜ IsTables (now tables) ⌝ }
+    ensures { λ r. ⌜ r ≡ firstOf (frontRows sound handle cluster far field away mode) ⌝ }
+{
+    let node = handle.node as usize;
+    let local = handle.local as usize;
+    if !sound {
+        return UNSOUND;
+    }
+    if NODES <= node {
+        return NO_SUCH_PLACE;
+    }
+    if CLUSTERS <= local {
+        return NO_SUCH_PLACE;
+    }
+    if far {
+        return NO_SUCH_PLACE;
+    }
+    if field {
+        return FIELD;
+    }
+    if handle.gapped() {
+        return GAPPED;
+    }
+    if away {
+        return ELSEWHERE;
+    }
+    let active = cluster.active;
+    if !active {
+        return INACTIVE;
+    }
+    let password = primary(cluster, mode);
+    if !handle.validates_with(tables, password) {
+        return VIOLATED;
+    }
+    0
+}

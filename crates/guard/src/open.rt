@@ -1,0 +1,55 @@
+// Validation and reduction: they open a cluster and change nothing.
+use crate::Answer;
+use crate::READ;
+use crate::WRITE;
+use crate::front::front;
+use crate::front::primary;
+use crate::front::record_at;
+use crate::front::refused;
+use handle::Handle;
+use store::CLUSTERS;
+use store::Store;
+ghost use mathlib.Core.Path.{_≡_};
+ghost use mathlib.Core.List.{[]};
+ghost use Rattle.guard.specs.Calls as calls;
+ghost use Rattle.guard.specs.Steps.{aesStep};
+ghost use Rattle.guard.specs.Entries.{copyOf, asked, ended};
+
+// Validation asked for by itself: the number that reduction would give.
+pub fn validate(store: Store, memory: &[u8], mode: u8, bytes: [u8; 23]) -> u8
+    ensures { λ r. ⌜ r ≡ aesStep (calls.call calls.Kind.validate (asked 0 0 mode 0 0 0 bytes [] [] [])) (copyOf store (now (memory .entry))) .reply .number ⌝ }
+{
+    let handle = Handle::decode(bytes);
+    let at = record_at(handle.node, handle.local);
+    let cluster = store.clusters[at];
+    let tables = aes::tables();
+    let sound = store::sound(store, memory.len());
+    let field = !((mode == READ) | (mode == WRITE));
+    front(&tables, sound, handle, cluster, false, field, false, mode)
+}
+
+// Call 8: the handle reduced in the mode named.
+pub fn reduce(store: Store, memory: &[u8], mode: u8, bytes: [u8; 23]) -> Answer
+    ensures { λ r. ⌜ ended store (now (memory .entry)) r []
+        ≡ aesStep (calls.call calls.Kind.reduce (asked 0 0 mode 0 0 0 bytes [] [] [])) (copyOf store (now (memory .entry))) ⌝ }
+{
+    let handle = Handle::decode(bytes);
+    let at = record_at(handle.node, handle.local);
+    let cluster = store.clusters[at];
+    let tables = aes::tables();
+    let sound = store::sound(store, memory.len());
+    let field = !((mode == READ) | (mode == WRITE));
+    let number = front(&tables, sound, handle, cluster, false, field, false, mode);
+    if number != 0 {
+        return refused(number);
+    }
+    let password = primary(cluster, mode);
+    let reduced = handle.reduce_with(&tables, password);
+    Answer {
+        number: 0,
+        first: reduced.encode(),
+        second: [0; 23],
+        count: 0,
+        length: 0,
+    }
+}
