@@ -1,3 +1,4 @@
 pub mod FrontLaws
 pub mod NumberLaws
 pub mod OpenLaws
+pub mod ChangeLaws

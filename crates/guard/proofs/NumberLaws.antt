@@ -6,21 +6,23 @@ use mathlib.Core.Path.{_≡_, refl, sym, ap, _∙_}
 use mathlib.Core.Bool.{Bool, true, false, not, _||_, cond, or-false}
 use mathlib.Core.List.{List, [], _∷_}
 use Prim.Native.Nat.{ℕ, zero, suc}
-use lib.Dec.{eqb}
+use lib.Dec.{eqb, leb}
 use lib.ListN.{length}
 use Rattle.handle.specs.declared.Handle.{Handle}
-use Rattle.handle.specs.Handles.{Name, noSuchPlace, firstOf, decoded}
+use Rattle.handle.specs.Handles.{Name, widthOf, noSuchPlace, firstOf, decoded, validates}
+use Rattle.handle.specs.Selectors.{allFlat, gapped}
+use Rattle.sizes.specs.Sizes.{nodes}
 use Rattle.handle.specs.Conversion.{conversion}
 use Rattle.store.specs.declared.Cluster.{Cluster}
 use Rattle.store.specs.declared.Store.{Store}
 use Rattle.store.specs.Records.{clusterAt}
 use Rattle.store.specs.Sound.{sound}
-use Rattle.guard.specs.Calls.{Copy, Call, Arguments, call, reduce, validate, readMode, writeMode, recordNamed, buffer}
+use Rattle.guard.specs.Calls.{Copy, Call, Arguments, call, deleteCluster, reduce, validate, readMode, writeMode, recordNamed, buffer, primaryOf}
 use Rattle.guard.specs.Numbers.{noPlace, badMode, badSegment, badSize, badField, gappedHandle, elsewhere, twins}
 use Rattle.guard.specs.Numbers.{notPrimary, notReferenced, spentHandle, inUse, inactiveCluster, segmentPresent}
 use Rattle.guard.specs.Numbers.{segmentAbsent, short, fullNode, unsound, oldPassword, valid, violated, number}
 use Rattle.guard.specs.Steps.{Outcome, plain, left, given, outcome, step, aesStep}
-use Rattle.guard.specs.Entries.{asked, recordAt, frontRows}
+use Rattle.guard.specs.Entries.{asked, recordAt, frontRows, after}
 
 -- ---- a call refused, and a call done
 
@@ -49,6 +51,32 @@ module _ (s : Store) (sd : Bool) (h : Handle) (far field away : Bool) (mode : �
       go true e = simp e
       go false e = ap firstWith (ap (λ (b : Bool). cond b 0 (recordNamed h)) e)
 
+-- ---- the shared rows, then the call's own
+
+chain-after : (a b c d e g i : Bool) (rest : ℕ)
+    → cond a 1 (cond b 2 (cond c 3 (cond d 4 (cond e 5 (cond g 8 (cond i 9 rest))))))
+    ≡ after (cond a 1 (cond b 2 (cond c 3 (cond d 4 (cond e 5 (cond g 8 (cond i 9 0))))))) rest
+chain-after true b c d e g i rest = refl
+chain-after false true c d e g i rest = refl
+chain-after false false true d e g i rest = refl
+chain-after false false false true e g i rest = refl
+chain-after false false false false true g i rest = refl
+chain-after false false false false false true i rest = refl
+chain-after false false false false false false true rest = refl
+chain-after false false false false false false false rest = refl
+
+pub front-then : (sd : Bool) (h : Handle) (c : Cluster) (far field away : Bool) (mode rest : ℕ)
+    → cond (not sd) 1
+    (cond (noSuchPlace h || far) 2
+    (cond field 3
+    (cond (gapped (widthOf h) (h .selector)) 4
+    (cond away 5
+    (cond (not (c .active)) 8 (cond (not (validates (widthOf h) conversion (primaryOf c mode) h)) 9 rest))))))
+    ≡ after (firstOf (frontRows sd h c far field away mode)) rest
+front-then sd h c far field away mode rest =
+    chain-after (not sd) (noSuchPlace h || far) field (gapped (widthOf h) (h .selector)) away (not (c .active))
+    (not (validates (widthOf h) conversion (primaryOf c mode) h)) rest
+
 -- ---- the numbers, call by call
 
 -- validation's number is reduction's
@@ -66,3 +94,15 @@ module _ (s : Store) (size : ℕ) (b : List ℕ) where
       ≡ firstOf (frontRows (sound s size) h (clusterAt s (recordNamed h)) false (not (eqb mode readMode || eqb mode writeMode)) false mode)
   unfolding number noPlace badField badMode badSegment badSize gappedHandle elsewhere twins notPrimary notReferenced spentHandle inUse inactiveCluster segmentPresent segmentAbsent short fullNode unsound oldPassword valid violated
   number-reduce mode = simp or-false
+
+  pub number-delete-cluster : (current : ℕ)
+      → number (λ m. conversion) (call deleteCluster (asked current 0 0 0 0 0 b [] [] [])) s size
+      ≡ after
+      (firstOf
+      (frontRows (sound s size) h (clusterAt s (recordNamed h)) (leb nodes current) false (not (eqb current (h .node))) writeMode))
+      (cond (not (allFlat (widthOf h) (h .selector))) 10 0)
+  unfolding number noPlace badField badMode badSegment badSize gappedHandle elsewhere twins notPrimary notReferenced spentHandle inUse inactiveCluster segmentPresent segmentAbsent short fullNode unsound oldPassword valid violated
+  number-delete-cluster current =
+      simp or-false
+      (front-then (sound s size) h (clusterAt s (recordNamed h)) (leb nodes current) false (not (eqb current (h .node))) writeMode
+      (cond (not (allFlat (widthOf h) (h .selector))) 10 0))

@@ -17,7 +17,7 @@ use Rattle.guard.specs.declared.Answer.{Answer}
 use Rattle.guard.specs.Calls.{Call, call, reduce, validate, readMode, writeMode, primaryOf, recordNamed}
 use Rattle.guard.specs.Numbers.{number}
 use Rattle.guard.specs.Steps.{Reply, handles, zeroHandle, outcome, step, aesStep, left, given}
-use Rattle.guard.specs.Entries.{copyOf, asked, ended, replied, refusal, recordAt, frontRows}
+use Rattle.guard.specs.Entries.{copyOf, asked, ended, replied, numberAlone, recordAt, frontRows}
 use Rattle.guard.proofs.FrontLaws.{at-record, Passed, front-passed}
 use Rattle.guard.proofs.NumberLaws.{step-refused, step-done, front-record, number-validate, number-reduce}
 
@@ -42,7 +42,7 @@ module _ (s : Store) (m b : List ℕ) (mode : ℕ) (h : Handle) (eh : h ≡ deco
       go zero e = e
       go (suc k) e = e
 
-  pub reduce-refused : (n ≡ 0 → ⊥) → (a : Answer) → a ≡ refusal n
+  pub reduce-refused : (n ≡ 0 → ⊥) → (a : Answer) → a ≡ numberAlone n
       → ended s m a [] ≡ aesStep (call reduce (asked 0 0 mode 0 0 0 b [] [] [])) (copyOf s m)
   reduce-refused t a e =
       ap (λ (x : Answer). ended s m x []) e

@@ -3,7 +3,8 @@
 --     asked ..               the arguments of a call, in the order of the record's fields
 --     replied a b            the reply that the code's answer a and the buffer b make
 --     ended s m a b          what is left and given
---     refusal n              the code's answer to a call refused with n
+--     numberAlone n          the code's answer that gives the number n and nothing else
+--     leftAlone s n          the records s, and the number n alone
 --     recordAt node local    the record of a cluster; the first where there is no such place
 --     frontRows ..           rows 1 to 5, 8 and 9, from their tests: the store is sound; the handle; the record of its
 --                            cluster; whether some other place, some field, the current node is bad; the mode needed
@@ -22,6 +23,7 @@ use Rattle.store.specs.declared.Cluster.{Cluster}
 use Rattle.store.specs.declared.Store.{Store}
 use Rattle.store.specs.Records.{recordOf}
 use Rattle.guard.specs.declared.Answer.{Answer}
+use Rattle.guard.specs.declared.Done.{Done}
 use Rattle.guard.specs.Calls.{Copy, Arguments, primaryOf}
 use Rattle.guard.specs.Steps.{Reply, Outcome, zeroHandle}
 
@@ -57,8 +59,11 @@ replied a b =
 abbrev pub ended : Store → List ℕ → Answer → List ℕ → Outcome
 ended s m a b = record { copy = copyOf s m; reply = replied a b }
 
-abbrev pub refusal : ℕ → Answer
-refusal n = record { number = n; first = zeroHandle; second = zeroHandle; count = 0; length = 0 }
+abbrev pub numberAlone : ℕ → Answer
+numberAlone n = record { number = n; first = zeroHandle; second = zeroHandle; count = 0; length = 0 }
+
+abbrev pub leftAlone : Store → ℕ → Done
+leftAlone s n = record { store = s; answer = numberAlone n }
 
 abbrev pub recordAt : ℕ → ℕ → ℕ
 recordAt node local = cond (leb nodes node || leb clusters local) 0 (recordOf node local)

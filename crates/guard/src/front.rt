@@ -19,11 +19,11 @@ ghost use Rattle.sizes.specs.Sizes.{records};
 ghost use Rattle.aes.specs.Tables.{IsTables};
 ghost use Rattle.handle.specs.Handles.{firstOf};
 ghost use Rattle.guard.specs.Calls.{primaryOf};
-ghost use Rattle.guard.specs.Entries.{refusal, recordAt, frontRows};
+ghost use Rattle.guard.specs.Entries.{numberAlone, recordAt, frontRows};
 
-// The answer to a call refused with a number.
-pub fn refused(number: u8) -> Answer
-    ensures { λ r. ⌜ r ≡ refusal number ⌝ }
+// The answer that gives a number and nothing else: a refusal, or a call done that gives nothing.
+pub fn number_alone(number: u8) -> Answer
+    ensures { λ r. ⌜ r ≡ numberAlone number ⌝ }
 {
     Answer {
         number,

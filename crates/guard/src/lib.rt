@@ -2,9 +2,11 @@
 // the memory lent, and gives what `step` gives: a refused call leaves all as it was.
 use store::Store;
 
+mod change; // change.rt: the calls that change a record and no byte
 mod front; // front.rt: the refusals that the calls which open a cluster share
 mod open; // open.rt: validation and reduction, which change nothing
 
+pub use change::delete_cluster;
 pub use open::reduce;
 pub use open::validate;
 
@@ -22,6 +24,8 @@ pub const ELSEWHERE: u8 = 5;
 pub const INACTIVE: u8 = 8;
 
 pub const VIOLATED: u8 = 9;
+
+pub const NOT_PRIMARY: u8 = 10;
 
 // The two modes.
 pub const READ: u8 = 1;

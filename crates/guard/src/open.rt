@@ -3,9 +3,9 @@ use crate::Answer;
 use crate::READ;
 use crate::WRITE;
 use crate::front::front;
+use crate::front::number_alone;
 use crate::front::primary;
 use crate::front::record_at;
-use crate::front::refused;
 use handle::Handle;
 use store::CLUSTERS;
 use store::Store;
@@ -41,7 +41,7 @@ pub fn reduce(store: Store, memory: &[u8], mode: u8, bytes: [u8; 23]) -> Answer
     let field = !((mode == READ) | (mode == WRITE));
     let number = front(&tables, sound, handle, cluster, false, field, false, mode);
     if number != 0 {
-        return refused(number);
+        return number_alone(number);
     }
     let password = primary(cluster, mode);
     let reduced = handle.reduce_with(&tables, password);

@@ -1,0 +1,14 @@
+-- The number alone, beside the records.
+-- Assumes nothing.
+use mathlib.Core.Path.{ap}
+use borrow.Author.Needs.{needs}
+use Rattle.guard.specs.declared.Answer.{Answer}
+use Rattle.guard.specs.declared.Done.{Done}
+use Rattle.guard.proofs.change.unchanged.Statement.{statement}
+use Rattle.guard.proofs.change.unchanged.Tie as tie
+
+returns : tie.Need-returns
+returns c = cc
+
+pub unchanged-spec : {M : Type 1} → statement M
+unchanged-spec = tie.close (tie.spec (λ c κs. search needs) returns)
