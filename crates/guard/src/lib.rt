@@ -27,6 +27,10 @@ pub const VIOLATED: u8 = 9;
 
 pub const NOT_PRIMARY: u8 = 10;
 
+pub const OLD_PASSWORD: u8 = 12;
+
+pub const ABSENT: u8 = 14;
+
 // The two modes.
 pub const READ: u8 = 1;
 
