@@ -2,3 +2,4 @@ pub mod FrontLaws
 pub mod NumberLaws
 pub mod OpenLaws
 pub mod ChangeLaws
+pub mod PasswordLaws

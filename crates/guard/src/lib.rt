@@ -7,6 +7,8 @@ mod front; // front.rt: the refusals that the calls which open a cluster share
 mod open; // open.rt: validation and reduction, which change nothing
 
 pub use change::delete_cluster;
+pub use change::delete_segment;
+pub use change::new_password;
 pub use open::reduce;
 pub use open::validate;
 
