@@ -3,3 +3,4 @@ pub mod NumberLaws
 pub mod OpenLaws
 pub mod ChangeLaws
 pub mod PasswordLaws
+pub mod CreateLaws

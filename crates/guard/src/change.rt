@@ -9,10 +9,10 @@ use crate::front::absent;
 use crate::front::bad_mode;
 use crate::front::front;
 use crate::front::handle_alone;
-use crate::front::number_alone;
 use crate::front::place_of;
 use crate::front::primary_handle;
 use crate::front::record_at;
+use crate::front::unchanged;
 use crate::front::with_place;
 use handle::Handle;
 use store::Cluster;
@@ -24,15 +24,7 @@ ghost use mathlib.Core.Path.{_≡_};
 ghost use mathlib.Core.List.{[]};
 ghost use Rattle.guard.specs.Calls as calls;
 ghost use Rattle.guard.specs.Steps.{aesStep, withPassword};
-ghost use Rattle.guard.specs.Entries.{copyOf, asked, ended, leftAlone};
-
-// A call that leaves the store as it was and gives a number alone.
-fn unchanged(store: Store, number: u8) -> Done
-    ensures { λ r. ⌜ r ≡ leftAlone store number ⌝ }
-{
-    let answer = number_alone(number);
-    Done { store, answer }
-}
+ghost use Rattle.guard.specs.Entries.{copyOf, asked, ended};
 
 // The record with the primary password of a mode replaced.
 fn with_password(cluster: Cluster, mode: u8, password: [u8; 16]) -> Cluster

@@ -1,5 +1,6 @@
 // The refusals that the calls which open a cluster share: 1 to 5, 8 and 9.
 use crate::Answer;
+use crate::Done;
 use crate::ELSEWHERE;
 use crate::FIELD;
 use crate::GAPPED;
@@ -17,13 +18,14 @@ use store::NODES;
 use store::Place;
 use store::SEGMENTS;
 use store::Segment;
+use store::Store;
 ghost use mathlib.Core.Path.{_≡_};
 ghost use Prim.Native.Nat.{_<_};
 ghost use Rattle.sizes.specs.Sizes.{records};
 ghost use Rattle.aes.specs.Tables.{IsTables};
 ghost use Rattle.handle.specs.Handles.{firstOf};
 ghost use Rattle.guard.specs.Calls.{primaryOf};
-ghost use Rattle.guard.specs.Entries.{numberAlone, handlesAlone, primaryBytes, badModes, recordAt, frontRows};
+ghost use Rattle.guard.specs.Entries.{numberAlone, leftAlone, handlesAlone, primaryBytes, badModes, recordAt, frontRows};
 ghost use Rattle.guard.specs.Steps.{zeroHandle};
 ghost use Rattle.store.specs.Records.{tableOf, placeOf, withPlace};
 ghost use Rattle.store.specs.Sound.{isAbsent};
@@ -39,6 +41,14 @@ pub fn number_alone(number: u8) -> Answer
         count: 0,
         length: 0,
     }
+}
+
+// Records, and a number alone: what a refusal leaves and gives, and a call done that gives nothing.
+pub fn unchanged(store: Store, number: u8) -> Done
+    ensures { λ r. ⌜ r ≡ leftAlone store number ⌝ }
+{
+    let answer = number_alone(number);
+    Done { store, answer }
 }
 
 // The answer of a call done that gives one handle.

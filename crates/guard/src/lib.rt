@@ -3,12 +3,15 @@
 use store::Store;
 
 mod change; // change.rt: the calls that change a record and no byte
+mod create; // create.rt: calls 1 and 7
 mod front; // front.rt: the refusals that the calls which open a cluster share
 mod open; // open.rt: validation and reduction, which change nothing
 
 pub use change::delete_cluster;
 pub use change::delete_segment;
 pub use change::new_password;
+pub use create::new_cluster;
+pub use create::weaken;
 pub use open::reduce;
 pub use open::validate;
 
@@ -22,6 +25,10 @@ pub const FIELD: u8 = 3;
 pub const GAPPED: u8 = 4;
 
 pub const ELSEWHERE: u8 = 5;
+
+pub const IN_USE: u8 = 6;
+
+pub const TWINS: u8 = 7;
 
 pub const INACTIVE: u8 = 8;
 
