@@ -29,6 +29,7 @@
 -- And as a whole:
 --     outcome f n         what is left and given where the number is n: a refusal leaves the copy and the buffer alone
 --     step f              what a call leaves and gives on a copy
+--     followed r n        the reply r, and then the list's
 --     run f               the replies of a list of calls, and the copy at its end
 --     aesStep             the step by the AES conversion, which takes in no name
 -- Assumes nothing.
@@ -72,6 +73,9 @@ pub record Outcome : Type 0 where
 pub record Ran : Type 0 where
   pub replies : List Reply
   pub copy : Copy
+
+abbrev pub followed : Reply → Ran → Ran
+followed r n = record { replies = r ∷ n .replies; copy = n .copy }
 
 abbrev pub zeroHandle : List ℕ
 zeroHandle = replicate handleBytes 0
@@ -200,11 +204,7 @@ module _ (f : Name → List ℕ → ℕ → List ℕ) where
 
   abbrev pub run : List Call → Copy → Ran
   run [] c = record { replies = []; copy = c }
-  run (x ∷ xs) c =
-      record {
-        replies = step x c .reply ∷ run xs (step x c .copy) .replies;
-        copy = run xs (step x c .copy) .copy;
-      }
+  run (x ∷ xs) c = followed (step x c .reply) (run xs (step x c .copy))
 
 abbrev pub aesStep : Call → Copy → Outcome
 aesStep = step (λ n. conversion)

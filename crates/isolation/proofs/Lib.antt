@@ -1,0 +1,4 @@
+pub mod MemoryLaws
+pub mod FirstLaws
+pub mod CallLaws
+pub mod AddressLaws
