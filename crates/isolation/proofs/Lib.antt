@@ -2,3 +2,5 @@ pub mod MemoryLaws
 pub mod FirstLaws
 pub mod CallLaws
 pub mod AddressLaws
+pub mod DoneLaws
+pub mod KeptLaws
