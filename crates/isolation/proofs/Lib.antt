@@ -4,3 +4,5 @@ pub mod CallLaws
 pub mod AddressLaws
 pub mod DoneLaws
 pub mod KeptLaws
+pub mod NumberLaws
+pub mod AlikeLaws
