@@ -6,3 +6,4 @@ pub mod DoneLaws
 pub mod KeptLaws
 pub mod NumberLaws
 pub mod AlikeLaws
+pub mod TwoCopies
