@@ -7,3 +7,4 @@ pub mod KeptLaws
 pub mod NumberLaws
 pub mod AlikeLaws
 pub mod TwoCopies
+pub mod ReaderLaws
