@@ -24,7 +24,8 @@ use Rattle.guard.specs.Numbers.{inUse, twins, inactiveCluster, valid, violated,
 use Rattle.guard.specs.Numbers.{segmentPresent, segmentAbsent, short, fullNode, spentHandle, rows, number}
 use Rattle.guard.specs.Steps.{newBaseFor}
 use Rattle.isolation.specs.Copies.{setApart, keyed, Shut}
-use Rattle.isolation.proofs.FirstLaws.{at, Clear, first-clear}
+use Rattle.isolation.specs.Checks.{NoRow, DoneIsClear}
+use Rattle.isolation.proofs.FirstLaws.{at, Clear, first-clear, clear-first}
 use Rattle.isolation.proofs.CallLaws.{or-left, or-right, InRange, in-range, handle-range, named, mode-known}
 use Rattle.isolation.proofs.CallLaws.{record-is, ungapped-is, inactive-is, violated-is, not-keyed}
 
@@ -34,28 +35,8 @@ placed none e = absurd (true≢false e)
 placed (some b) e = refl
 
 module _ (f : Name → List ℕ → ℕ → List ℕ) where
-  -- no row applies, row by row
-  pub record NoRow (x : Call) (s : Store) (size : ℕ) : Type 0 where
-    pub unsound : unsound size x s ≡ false
-    pub noPlace : noPlace x ≡ false
-    pub badField : badField x ≡ false
-    pub gappedHandle : gappedHandle x ≡ false
-    pub elsewhere : elsewhere x ≡ false
-    pub inUse : inUse x (tableAt s) ≡ false
-    pub twins : twins x ≡ false
-    pub inactiveCluster : inactiveCluster x (tableAt s) ≡ false
-    pub violated : violated f x s ≡ false
-    pub notPrimary : notPrimary x ≡ false
-    pub notReferenced : notReferenced x ≡ false
-    pub oldPassword : oldPassword x s ≡ false
-    pub segmentPresent : segmentPresent x (tableAt s) ≡ false
-    pub segmentAbsent : segmentAbsent x (tableAt s) ≡ false
-    pub short : short x (tableAt s) ≡ false
-    pub fullNode : fullNode x (tableAt s) ≡ false
-    pub spentHandle : spentHandle x ≡ false
-
   module _ (x : Call) (s : Store) (size : ℕ) where
-    from-clear : Clear (at x s (rows f size)) → NoRow x s size
+    from-clear : Clear (at x s (rows f size)) → NoRow f x s size
     from-clear r =
         record {
           unsound = search;
@@ -77,12 +58,58 @@ module _ (f : Name → List ℕ → ℕ → List ℕ) where
           spentHandle = search;
         }
 
-    pub no-row : number f x s size ≡ 0 → NoRow x s size
+    to-clear : NoRow f x s size → Clear (at x s (rows f size))
+    to-clear r = (
+      r .unsound,
+      (
+        r .noPlace,
+        (
+          r .badField,
+          (
+            r .gappedHandle,
+            (
+              r .elsewhere,
+              (
+                r .inUse,
+                (
+                  r .twins,
+                  (
+                    r .inactiveCluster,
+                    (
+                      r .violated,
+                      (
+                        r .notPrimary,
+                        (
+                          r .notReferenced,
+                          (
+                            r .oldPassword,
+                            (r .segmentPresent, (r .segmentAbsent, (r .short, (r .fullNode, (r .spentHandle, tt))))),
+                          ),
+                        ),
+                      ),
+                    ),
+                  ),
+                ),
+              ),
+            ),
+          ),
+        ),
+      ),
+    )
+
+    pub no-row : number f x s size ≡ 0 → NoRow f x s size
     unfolding number
     no-row e = from-clear (first-clear (at x s (rows f size)) (omega arith) e)
 
+    no-row-done : NoRow f x s size → number f x s size ≡ 0
+    unfolding number
+    no-row-done r = clear-first (at x s (rows f size)) (to-clear r)
+
+    pub done-is-clear : DoneIsClear f x s size
+    done-is-clear = record { clear = no-row; done = no-row-done }
+
   module _ (x : Call) (s : Store) (size : ℕ) (e : number f x s size ≡ 0) where
-    abbrev r : NoRow x s size
+    abbrev r : NoRow f x s size
     r = no-row x s size e
 
     pub done-range : InRange (nodeFor x) (localFor x)

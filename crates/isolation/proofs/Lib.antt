@@ -8,3 +8,5 @@ pub mod NumberLaws
 pub mod AlikeLaws
 pub mod TwoCopies
 pub mod ReaderLaws
+pub mod UnusedLaws
+pub mod CheckLaws
