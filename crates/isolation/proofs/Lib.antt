@@ -10,3 +10,4 @@ pub mod TwoCopies
 pub mod ReaderLaws
 pub mod UnusedLaws
 pub mod CheckLaws
+pub mod CaseLaws

@@ -1,3 +1,4 @@
 pub mod Copies
 pub mod Statements
 pub mod Checks
+pub mod Cases
