@@ -1,5 +1,5 @@
--- The computed lists. The store of the numbers is sound, which is computed once; for a sound store the number is that of
--- the rows below the first, and these are computed for each call.
+-- The computed lists. In a sound store the number is that of the rows below the first, and calls keep soundness: so only
+-- these rows are computed for each call.
 -- Assumes nothing.
 use mathlib.Core.Path.{_≡_, refl, ap, _∙_}
 use Prim.Native.Nat.{ℕ}
@@ -20,45 +20,34 @@ use Rattle.guard.specs.Numbers.{inUse, twins, inactiveCluster, valid, violated,
 use Rattle.guard.specs.Numbers.{segmentPresent, segmentAbsent, short, fullNode, spentHandle, rows, number}
 use Rattle.guard.specs.Steps.{clusterMade, clusterDeleted, segmentMade, segmentDeleted, segmentWritten}
 use Rattle.guard.specs.Steps.{passwordReplaced, left, segmentRead, given, step}
-use Rattle.isolation.specs.Cases.{added, bench, Case, damaged, refusals, orders, NumbersGiven, EachDone}
-use Rattle.isolation.proofs.FirstLaws.{Line, at}
+use Rattle.isolation.specs.Statements.{start}
+use Rattle.isolation.specs.Cases.{added, bench, Case, damaged, refusals, orders, NumbersGiven}
+use Rattle.isolation.specs.Cases.{doneCalls, seen, EachDone}
+use Rattle.isolation.proofs.KeptLaws.{start-sound}
+use Rattle.isolation.proofs.RunLaws.{numberBelow, number-below, run-below}
 
 -- ---- the numbers
-
-abbrev below : List Line → List Line
-below [] = []
-below (l ∷ ls) = ls
-
-abbrev numberBelow : Call → ℕ
-numberBelow x = firstOf (at x bench (below (rows added memory)))
 
 bench-sound : sound bench memory ≡ true
 unfolding sound every soundSegment nodeApart settled idle zeroBytes apart inside inRanges endsInside
 bench-sound = refl
 
-number-below : (x : Call) → number added x bench memory ≡ numberBelow x
-unfolding number unsound
-number-below x =
-    ap (λ (t : Bool). cond (not (among (7 ∷ []) (x .kind)) && not t) 1 (numberBelow x)) bench-sound
-    ∙ ap (λ (t : Bool). cond t 1 (numberBelow x)) (off (not (among (7 ∷ []) (x .kind))))
-  where
-    off : (b : Bool) → (b && false) ≡ false
-    off true = refl
-    off false = refl
+abbrev benchNumber : Call → ℕ
+benchNumber x = numberBelow added x bench memory
 
 numbers-below : (cs : List Case)
-    → map (λ (c : Case). number added (c .call) bench memory) cs ≡ map (λ (c : Case). numberBelow (c .call)) cs
+    → map (λ (c : Case). number added (c .call) bench memory) cs ≡ map (λ (c : Case). benchNumber (c .call)) cs
 numbers-below [] = refl
-numbers-below (c ∷ cs) = λ j. number-below (c .call) j ∷ numbers-below cs j
+numbers-below (c ∷ cs) = λ j. number-below added (c .call) bench memory bench-sound j ∷ numbers-below cs j
 
-refusals-below : map (λ (c : Case). numberBelow (c .call)) refusals ≡ map (λ (c : Case). c .number) refusals
+refusals-below : map (λ (c : Case). benchNumber (c .call)) refusals ≡ map (λ (c : Case). c .number) refusals
 unfolding has setOf count bytes word wordFrom every least leastFrom encoded decoded samePassword validates
     placement newBase fits clear apart inside inRanges endsInside
     noPlace badMode badSegment badSize badField gappedHandle elsewhere inUse twins inactiveCluster
     valid violated notPrimary notReferenced oldPassword segmentPresent segmentAbsent short fullNode spentHandle
 refusals-below = refl
 
-orders-below : map (λ (c : Case). numberBelow (c .call)) orders ≡ map (λ (c : Case). c .number) orders
+orders-below : map (λ (c : Case). benchNumber (c .call)) orders ≡ map (λ (c : Case). c .number) orders
 unfolding has setOf count bytes word wordFrom every least leastFrom encoded decoded samePassword validates
     placement newBase fits clear apart inside inRanges endsInside
     noPlace badMode badSegment badSize badField gappedHandle elsewhere inUse twins inactiveCluster
@@ -78,3 +67,13 @@ numbers-given =
       refusals = numbers-below refusals ∙ refusals-below;
       orders = numbers-below orders ∙ orders-below;
     }
+
+-- ---- every kind done
+
+pub each-done : EachDone
+unfolding left given clusterMade clusterDeleted segmentMade segmentDeleted segmentWritten passwordReplaced segmentRead
+    has setOf count bytes word wordFrom every least leastFrom encoded decoded samePassword validates weakened reduced
+    placement newBase fits clear apart inside inRanges endsInside
+    noPlace badMode badSegment badSize badField gappedHandle elsewhere inUse twins inactiveCluster
+    valid violated notPrimary notReferenced oldPassword segmentPresent segmentAbsent short fullNode spentHandle
+each-done = ap seen (run-below added doneCalls start start-sound) ∙ refl

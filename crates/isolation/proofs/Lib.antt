@@ -10,4 +10,5 @@ pub mod TwoCopies
 pub mod ReaderLaws
 pub mod UnusedLaws
 pub mod CheckLaws
+pub mod RunLaws
 pub mod CaseLaws

@@ -26,7 +26,7 @@ use Rattle.store.specs.Records.{startingStore, started, recordOf, putRecord, wi
 use Rattle.guard.specs.Calls.{Call, call, Arguments, Kind, newCluster, deleteCluster, newSegment, deleteSegment}
 use Rattle.guard.specs.Calls.{read, write, weaken, reduce, newPassword, validate, address}
 use Rattle.guard.specs.Numbers.{number}
-use Rattle.guard.specs.Steps.{Reply, zeroHandle, plain, handles, run}
+use Rattle.guard.specs.Steps.{Reply, Ran, zeroHandle, plain, handles, run}
 use Rattle.isolation.specs.Statements.{start}
 
 abbrev pub added : Name → List ℕ → ℕ → List ℕ
@@ -288,7 +288,16 @@ doneReplies =
     ∷ plain 8 []
     ∷ []
 
-pub record EachDone : Type 0 where
-  pub replies : run added doneCalls start .replies ≡ doneReplies
-  pub store : run added doneCalls start .copy .store ≡ startingStore
-  pub bytes : take 3 (drop (address 1 0) (run added doneCalls start .copy .memory)) ≡ 7 ∷ 8 ∷ 9 ∷ []
+-- what is looked at when the list is done: the replies, the records, three bytes of the memory
+pub record Seen : Type 0 where
+  pub replies : List Reply
+  pub store : Store
+  pub bytes : List ℕ
+
+abbrev pub seen : Ran → Seen
+seen r = record { replies = r .replies; store = r .copy .store; bytes = take 3 (drop (address 1 0) (r .copy .memory)) }
+
+abbrev pub EachDone : Type 0
+EachDone =
+    seen (run added doneCalls start)
+    ≡ record { replies = doneReplies; store = startingStore; bytes = 7 ∷ 8 ∷ 9 ∷ [] }
