@@ -12,3 +12,4 @@ pub mod UnusedLaws
 pub mod CheckLaws
 pub mod RunLaws
 pub mod CaseLaws
+pub mod WitnessLaws

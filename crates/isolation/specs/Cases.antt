@@ -268,7 +268,7 @@ doneCalls =
     ∷ callV 2 (primary 4)
     ∷ []
 
-abbrev readReply : ℕ → List ℕ → Reply
+abbrev pub readReply : ℕ → List ℕ → Reply
 readReply n b = record { number = 0; first = zeroHandle; second = zeroHandle; count = 0; length = n; buffer = b }
 
 abbrev pub doneReplies : List Reply

@@ -2,3 +2,4 @@ pub mod Copies
 pub mod Statements
 pub mod Checks
 pub mod Cases
+pub mod Witness
