@@ -6,6 +6,7 @@
 --     zeroHandle          23 zero bytes
 --     plain n b           the reply with the number n and the buffer b alone
 --     handles a b n       the reply of a call done with the handles a and b and the count n
+--     readReply n b       the reply of a read done: the length n and the buffer b
 --     overwritten m a bs  the bytes m with bs from place a on
 --     putCluster          the copy with one record replaced
 --     putBytes            the copy with some bytes of its memory overwritten
@@ -86,6 +87,9 @@ plain n b = record { number = n; first = zeroHandle; second = zeroHandle; count 
 abbrev pub handles : List ℕ → List ℕ → ℕ → Reply
 handles a b n = record { number = 0; first = a; second = b; count = n; length = 0; buffer = [] }
 
+abbrev pub readReply : ℕ → List ℕ → Reply
+readReply n b = record { number = 0; first = zeroHandle; second = zeroHandle; count = 0; length = n; buffer = b }
+
 -- ---- changes
 
 abbrev pub overwritten : List ℕ → ℕ → List ℕ → List ℕ
@@ -159,14 +163,7 @@ unfoldable pub segmentRead : Call → Copy → Reply
 segmentRead x c =
     let ts = tableAt (c .store) in
     let n = lengthOf (placeFor x ts) in
-    record {
-      number = 0;
-      first = zeroHandle;
-      second = zeroHandle;
-      count = 0;
-      length = n;
-      buffer = take n (drop (startFor x ts) (c .memory)) ++ drop n (buffer x);
-    }
+    readReply n (take n (drop (startFor x ts) (c .memory)) ++ drop n (buffer x))
 
 abbrev pub newPrimary : Call → List ℕ → List ℕ
 newPrimary x p = encoded (primaryHandle segments (record { node = nodeFor x; local = localFor x }) p)

@@ -21,7 +21,7 @@ use Rattle.store.proofs.ChangeLaws.{put-other, put-same, put-out}
 use Rattle.guard.specs.Calls.{Copy, Call, call, Arguments, Kind, newCluster, deleteCluster, newSegment, deleteSegment}
 use Rattle.guard.specs.Calls.{read, write, weaken, reduce, newPassword, validate, opens, handleOf, nodeFor, localFor}
 use Rattle.guard.specs.Calls.{recordFor, placeFor, baseOf, lengthOf, address, startFor, primaryOf}
-use Rattle.guard.specs.Steps.{Reply, zeroHandle, handles, putCluster, putBytes, about, withPassword, newPlace, newStart}
+use Rattle.guard.specs.Steps.{zeroHandle, handles, readReply, putCluster, putBytes, about, withPassword, newPlace, newStart}
 use Rattle.guard.specs.Steps.{clusterMade, clusterDeleted, segmentMade, segmentDeleted, segmentWritten, passwordReplaced}
 use Rattle.guard.specs.Steps.{left, segmentRead, given}
 use Rattle.isolation.specs.Copies.{SoundCopy, InPlace, setApart, Alike, Shut}
@@ -158,8 +158,8 @@ module _ (node local : ℕ) (high : node < nodes) (low : local < clusters) (f : 
       → segmentRead (call read g) a ≡ segmentRead (call read g) b
   unfolding segmentRead
   read-alike e ne =
-      ap (λ (bs : List ℕ). told (tables a) (bs ++ drop (size (tables a)) (g .bytes))) part
-      ∙ ap (λ (ts : Tables). told ts (take (size ts) (drop (startFor x ts) (b .memory)) ++ drop (size ts) (g .bytes)))
+      ap (λ (bs : List ℕ). readReply (size (tables a)) (bs ++ drop (size (tables a)) (g .bytes))) part
+      ∙ ap (λ (ts : Tables). readReply (size ts) (take (size ts) (drop (startFor x ts) (b .memory)) ++ drop (size ts) (g .bytes)))
       same-tables
     where
       x : Call
@@ -167,10 +167,6 @@ module _ (node local : ℕ) (high : node < nodes) (low : local < clusters) (f : 
 
       size : Tables → ℕ
       size ts = lengthOf (placeFor x ts)
-
-      told : Tables → List ℕ → Reply
-      told ts bs =
-          record { number = 0; first = zeroHandle; second = zeroHandle; count = 0; length = size ts; buffer = bs }
 
       v : InRange (nodeFor x) (localFor x)
       v = done-range f x (a .store) (length (a .memory)) e

@@ -22,7 +22,7 @@ use Rattle.guard.specs.Steps.{clusterMade, clusterDeleted, segmentMade, segment
 use Rattle.guard.specs.Steps.{passwordReplaced, left, segmentRead, given, step}
 use Rattle.isolation.specs.Statements.{start}
 use Rattle.isolation.specs.Cases.{added, bench, Case, damaged, refusals, orders, NumbersGiven}
-use Rattle.isolation.specs.Cases.{doneCalls, seen, EachDone}
+use Rattle.isolation.specs.Replies.{doneCalls, seen, EachDone}
 use Rattle.isolation.proofs.KeptLaws.{start-sound}
 use Rattle.isolation.proofs.RunLaws.{numberBelow, number-below, run-below}
 

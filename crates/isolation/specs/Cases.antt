@@ -1,22 +1,24 @@
--- Document 01's table of numbers and column "Done, it gives and leaves", as computed lists. Each call carries 99 in the
--- arguments that it does not use. The conversion adds its parameter to the first byte, and gives sixteen such bytes.
+-- Document 01, "Numbers a call may be turned down with", as computed lists. Each call carries 99 in the arguments that it
+-- does not use. The conversion adds its parameter to the first byte, and gives sixteen such bytes.
 --     added                     that conversion
 --     call1 .. call9, callV     the nine calls and validation, each with what it uses
+--     sixteen b                 sixteen bytes b
 --     shown v l b ss            the bytes of the handle of node v and local number l: sixteen bytes b, the selector ss
 --     primary b, weak b         the primary handle of node 1 and local number 2; one that references segment 5 alone
+--     other b, gap, far, high, idle    handles that reference segment 6 alone, are gapped, of a node above 3, of a local
+--                               number above 7, of an inactive cluster
+--     room, tight               buffers of three bytes and of two
 --     bench                     a store with that cluster: passwords of sixteen 3 and sixteen 4, and three bytes at 0
 --     Case, gives               a number and a call that gets it
 --     damaged                   a call of every kind but weakening, on a slice that lacks a byte
 --     refusals                  for each number from 2 on, a call of each kind that its row names
 --     orders                    calls to which two rows apply, which get the upper one
 --     NumbersGiven              all these numbers are given, on that store
---     doneCalls, doneReplies    every kind done, from the starting store, and the whole replies
---     EachDone                  they are the replies; in the end the records are as at the start, and the bytes written stay
 -- Assumes nothing.
 use mathlib.Core.Path.{_≡_}
 use Prim.Native.Nat.{ℕ, _+_}
 use mathlib.Core.List.{List, [], _∷_, map}
-use lib.ListN.{getD, take, drop, replicate}
+use lib.ListN.{getD, replicate}
 use Rattle.sizes.specs.Sizes.{segments, memory, passwordBytes}
 use Rattle.handle.specs.Selectors.{flats, inFirst}
 use Rattle.handle.specs.Handles.{Name, encoded}
@@ -24,17 +26,15 @@ use Rattle.store.specs.declared.Place.the-variants.{Present}
 use Rattle.store.specs.declared.Store.{Store}
 use Rattle.store.specs.Records.{startingStore, started, recordOf, putRecord, withPlace}
 use Rattle.guard.specs.Calls.{Call, call, Arguments, Kind, newCluster, deleteCluster, newSegment, deleteSegment}
-use Rattle.guard.specs.Calls.{read, write, weaken, reduce, newPassword, validate, address}
+use Rattle.guard.specs.Calls.{read, write, weaken, reduce, newPassword, validate}
 use Rattle.guard.specs.Numbers.{number}
-use Rattle.guard.specs.Steps.{Reply, Ran, zeroHandle, plain, handles, run}
-use Rattle.isolation.specs.Statements.{start}
 
 abbrev pub added : Name → List ℕ → ℕ → List ℕ
 added n p c = replicate passwordBytes (getD p 0 0 + c)
 
 -- ---- the calls
 
-abbrev sixteen : ℕ → List ℕ
+abbrev pub sixteen : ℕ → List ℕ
 sixteen b = replicate passwordBytes b
 
 abbrev pub shown : ℕ → ℕ → ℕ → List ℕ → List ℕ
@@ -248,56 +248,3 @@ pub record NumbersGiven : Type 0 where
   pub damaged : toldOn bench 16383 damaged ≡ named damaged
   pub refusals : toldOn bench memory refusals ≡ named refusals
   pub orders : toldOn bench memory orders ≡ named orders
-
--- ---- every kind done
-
-abbrev pub doneCalls : List Call
-doneCalls =
-    call1 1 2 (sixteen 3) (sixteen 4)
-    ∷ call3 1 (primary 4) 5 3
-    ∷ call5 (primary 3) 5 (1 ∷ 2 ∷ 3 ∷ 4 ∷ [])
-    ∷ call6 (primary 4) 5 (7 ∷ 8 ∷ 9 ∷ 10 ∷ [])
-    ∷ call7 (primary 3) 48
-    ∷ call5 (weak 3) 5 (0 ∷ 0 ∷ 0 ∷ 6 ∷ [])
-    ∷ call8 1 (weak 3)
-    ∷ callV 2 (primary 4)
-    ∷ call9 1 (primary 3) (sixteen 5)
-    ∷ callV 1 (primary 3)
-    ∷ call4 1 (primary 4) 5
-    ∷ call2 1 (primary 4)
-    ∷ callV 2 (primary 4)
-    ∷ []
-
-abbrev pub readReply : ℕ → List ℕ → Reply
-readReply n b = record { number = 0; first = zeroHandle; second = zeroHandle; count = 0; length = n; buffer = b }
-
-abbrev pub doneReplies : List Reply
-doneReplies =
-    handles (primary 3) (primary 4) 0
-    ∷ plain 0 []
-    ∷ readReply 3 (0 ∷ 0 ∷ 0 ∷ 4 ∷ [])
-    ∷ plain 0 (7 ∷ 8 ∷ 9 ∷ 10 ∷ [])
-    ∷ handles (shown 1 2 51 (inFirst segments 48)) zeroHandle 2
-    ∷ readReply 3 (7 ∷ 8 ∷ 9 ∷ 6 ∷ [])
-    ∷ handles (weak 3) zeroHandle 0
-    ∷ plain 0 []
-    ∷ handles (primary 5) zeroHandle 0
-    ∷ plain 9 []
-    ∷ plain 0 []
-    ∷ plain 0 []
-    ∷ plain 8 []
-    ∷ []
-
--- what is looked at when the list is done: the replies, the records, three bytes of the memory
-pub record Seen : Type 0 where
-  pub replies : List Reply
-  pub store : Store
-  pub bytes : List ℕ
-
-abbrev pub seen : Ran → Seen
-seen r = record { replies = r .replies; store = r .copy .store; bytes = take 3 (drop (address 1 0) (r .copy .memory)) }
-
-abbrev pub EachDone : Type 0
-EachDone =
-    seen (run added doneCalls start)
-    ≡ record { replies = doneReplies; store = startingStore; bytes = 7 ∷ 8 ∷ 9 ∷ [] }

@@ -2,4 +2,5 @@ pub mod Copies
 pub mod Statements
 pub mod Checks
 pub mod Cases
+pub mod Replies
 pub mod Witness

@@ -11,25 +11,22 @@
 use mathlib.Core.Path.{_≡_}
 use Prim.Native.Nat.{ℕ}
 use mathlib.Core.Bool.{true}
-use mathlib.Core.List.{List, [], _∷_, _++_}
+use mathlib.Core.List.{List, [], _∷_}
 use lib.ListN.{replicate}
-use Rattle.sizes.specs.Sizes.{segments, memory, passwordBytes}
+use Rattle.sizes.specs.Sizes.{segments, memory}
 use Rattle.handle.specs.Selectors.{flats}
 use Rattle.store.specs.declared.Place.the-variants.{Present}
 use Rattle.store.specs.Records.{startingStore, started, recordOf, tableAt, putRecord, withPlace}
 use Rattle.guard.specs.Calls.{Copy, Call}
 use Rattle.guard.specs.Numbers.{number}
-use Rattle.guard.specs.Steps.{Reply, zeroHandle, plain, handles, run}
+use Rattle.guard.specs.Steps.{Reply, zeroHandle, plain, handles, readReply, run}
 use Rattle.isolation.specs.Copies.{SoundCopy, setApart, Alike, AllShut}
 use Rattle.isolation.specs.Cases as C
-
-abbrev sixteen : ℕ → List ℕ
-sixteen b = replicate passwordBytes b
 
 abbrev holding : ℕ → ℕ → ℕ → Copy
 holding r w b =
     record {
-      store = putRecord startingStore (recordOf 0 2) (withPlace (started (sixteen r) (sixteen w)) 5 (Present 0 4));
+      store = putRecord startingStore (recordOf 0 2) (withPlace (started (C.sixteen r) (C.sixteen w)) 5 (Present 0 4));
       memory = b ∷ b ∷ b ∷ b ∷ replicate 16380 0;
     }
 
@@ -46,9 +43,9 @@ abbrev pub tries : List Call
 tries =
     C.call5 (primary 2 5) 5 (replicate 6 9)
     ∷ C.call2 0 (primary 2 5)
-    ∷ C.call1 0 2 (sixteen 3) (sixteen 4)
+    ∷ C.call1 0 2 (C.sixteen 3) (C.sixteen 4)
     ∷ C.call7 (primary 2 17) 255
-    ∷ C.call1 0 3 (sixteen 3) (sixteen 4)
+    ∷ C.call1 0 3 (C.sixteen 3) (C.sixteen 4)
     ∷ C.call3 0 (primary 3 4) 0 2
     ∷ C.call5 (primary 3 3) 0 (replicate 3 9)
     ∷ C.callV 2 (primary 2 4)
@@ -62,7 +59,7 @@ answers =
     ∷ handles (primary 2 17) zeroHandle 8
     ∷ handles (primary 3 3) (primary 3 4) 0
     ∷ plain 0 []
-    ∷ C.readReply 2 (0 ∷ 0 ∷ 9 ∷ [])
+    ∷ readReply 2 (0 ∷ 0 ∷ 9 ∷ [])
     ∷ plain 9 []
     ∷ []
 
