@@ -24,12 +24,12 @@ use Rattle.guard.specs.Calls.{recordFor, placeFor, baseOf, lengthOf, address, s
 use Rattle.guard.specs.Steps.{zeroHandle, handles, readReply, putCluster, putBytes, about, withPassword, newPlace, newStart}
 use Rattle.guard.specs.Steps.{clusterMade, clusterDeleted, segmentMade, segmentDeleted, segmentWritten, passwordReplaced}
 use Rattle.guard.specs.Steps.{left, segmentRead, given}
-use Rattle.isolation.specs.Copies.{SoundCopy, InPlace, setApart, Alike, Shut}
+use Rattle.isolation.specs.Copies.{SoundCopy, Done, InPlace, setApart, Alike, Shut}
 use Rattle.isolation.proofs.MemoryLaws.{length-overwritten, overwritten-both, part-same}
 use Rattle.isolation.proofs.CallLaws.{InRange}
 use Rattle.isolation.proofs.AddressLaws.{in-place, place-outside}
 use Rattle.isolation.proofs.DoneLaws.{done-range, shut-away, new-away}
-use Rattle.isolation.proofs.KeptLaws.{tables, facts, Done, segment-fits, new-fits, write-fits, read-segment}
+use Rattle.isolation.proofs.KeptLaws.{tables, facts, segment-fits, new-fits, write-fits, read-segment}
 use Rattle.isolation.proofs.NumberLaws.{alike-tables}
 
 module _ (node local : ℕ) where

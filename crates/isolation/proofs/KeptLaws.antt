@@ -26,8 +26,8 @@ use Rattle.guard.specs.Calls.{placeFor, lengthOf, startFor}
 use Rattle.guard.specs.Numbers.{badSegment, number}
 use Rattle.guard.specs.Steps.{putCluster, about, withPassword, newBaseFor, newPlace, newStart}
 use Rattle.guard.specs.Steps.{clusterMade, clusterDeleted, segmentMade, segmentDeleted, segmentWritten, passwordReplaced}
-use Rattle.guard.specs.Steps.{left, outcome, step, run}
-use Rattle.isolation.specs.Copies.{SoundCopy, setApart, Outside, Held}
+use Rattle.guard.specs.Steps.{left, given, outcome, step, run}
+use Rattle.isolation.specs.Copies.{SoundCopy, Done, setApart, Outside, Held}
 use Rattle.isolation.specs.Statements.{start, StartSound, SoundKept, Touched, OnlyItsOwn, OthersAlone, OtherHeld}
 use Rattle.isolation.proofs.MemoryLaws.{length-overwritten, overwritten-out}
 use Rattle.isolation.proofs.CallLaws.{InRange}
@@ -41,9 +41,6 @@ abbrev pub facts : (c : Copy) → SoundCopy c → Sound (c .store) (length (c .m
 facts c k = sound-out (c .store) (length (c .memory)) k
 
 module _ (f : Name → List ℕ → ℕ → List ℕ) where
-  abbrev pub Done : Call → Copy → Type 0
-  Done x c = number f x (c .store) (length (c .memory)) ≡ 0
-
   module _ (g : Arguments) (c : Copy) (k : SoundCopy c) where
     -- ---- bytes are overwritten inside the slice
 
@@ -61,7 +58,7 @@ module _ (f : Name → List ℕ → ℕ → List ℕ) where
     abbrev cleared : List ℕ
     cleared = replicate (g .size) 0
 
-    pub new-fits : Done (call newSegment g) c
+    pub new-fits : Done f (call newSegment g) c
         → newStart (call newSegment g) (tables c) + length cleared ≤ length (c .memory)
     new-fits e =
         let x : Call = call newSegment g in
@@ -69,21 +66,21 @@ module _ (f : Name → List ℕ → ℕ → List ℕ) where
         let i = inside-out (newBaseFor x (tables c)) (g .size) (room .within) in
         rw (length-replicate {A = ℕ} (g .size) 0) (omega (arith, i .ends, room .known, facts c k .whole))
 
-    pub write-segment : Done (call write g) c → g .segment < segments
+    pub write-segment : Done f (call write g) c → g .segment < segments
     unfolding badSegment
     write-segment e = leb-false segments (g .segment) (done-segment f (call write g) (c .store) (length (c .memory)) e)
 
-    pub read-segment : Done (call read g) c → g .segment < segments
+    pub read-segment : Done f (call read g) c → g .segment < segments
     unfolding badSegment
     read-segment e = leb-false segments (g .segment) (done-segment f (call read g) (c .store) (length (c .memory)) e)
 
     abbrev data-written : List ℕ
     data-written = take (lengthOf (placeFor (call write g) (tables c))) (g .bytes)
 
-    length-data : Done (call write g) c → length data-written ≡ lengthOf (placeFor (call write g) (tables c))
+    length-data : Done f (call write g) c → length data-written ≡ lengthOf (placeFor (call write g) (tables c))
     length-data e = length-take-le _ (g .bytes) (write-long f g (c .store) (length (c .memory)) e)
 
-    pub write-fits : Done (call write g) c
+    pub write-fits : Done f (call write g) c
         → startFor (call write g) (tables c) + length data-written ≤ length (c .memory)
     write-fits e =
         rw (length-data e)
@@ -91,7 +88,7 @@ module _ (f : Name → List ℕ → ℕ → List ℕ) where
 
     -- ---- soundness is kept
 
-    left-sound : (kind : Kind) → Done (call kind g) c → SoundCopy (left kind (call kind g) c)
+    left-sound : (kind : Kind) → Done f (call kind g) c → SoundCopy (left kind (call kind g) c)
     unfolding left clusterMade clusterDeleted segmentMade segmentDeleted segmentWritten passwordReplaced
     left-sound newCluster e =
         let v = done-range f (call newCluster g) (c .store) (length (c .memory)) e in
@@ -136,7 +133,7 @@ module _ (f : Name → List ℕ → ℕ → List ℕ) where
     same-own : (x : Call) → OnlyItsOwn x c c
     same-own x = record { records = λ n ne. refl; bytes = λ p u. refl }
 
-    left-own : (kind : Kind) → Done (call kind g) c → OnlyItsOwn (call kind g) c (left kind (call kind g) c)
+    left-own : (kind : Kind) → Done f (call kind g) c → OnlyItsOwn (call kind g) c (left kind (call kind g) c)
     unfolding left clusterMade clusterDeleted segmentMade segmentDeleted segmentWritten passwordReplaced
     left-own newCluster e = put-own (call newCluster g) _
     left-own deleteCluster e = put-own (call deleteCluster g) _
@@ -164,7 +161,7 @@ module _ (f : Name → List ℕ → ℕ → List ℕ) where
     left-own validate e = same-own (call validate g)
 
     module _ (node local : ℕ) (high : node < nodes) (low : local < clusters) where
-      touched-outside : (kind : Kind) → Done (call kind g) c → recordFor (call kind g) ≢ setApart node local → (p : ℕ)
+      touched-outside : (kind : Kind) → Done f (call kind g) c → recordFor (call kind g) ≢ setApart node local → (p : ℕ)
           → Touched kind (call kind g) (tables c) p → Outside node local (tables c) p
       touched-outside newCluster e ne p t = absurd t
       touched-outside deleteCluster e ne p t = absurd t
@@ -182,7 +179,7 @@ module _ (f : Name → List ℕ → ℕ → List ℕ) where
       touched-outside newPassword e ne p t = absurd t
       touched-outside validate e ne p t = absurd t
 
-      pub left-held : (kind : Kind) → Done (call kind g) c → recordFor (call kind g) ≢ setApart node local
+      pub left-held : (kind : Kind) → Done f (call kind g) c → recordFor (call kind g) ≢ setApart node local
           → Held node local c (left kind (call kind g) c)
       left-held kind e ne =
           let own = left-own kind e in
@@ -193,8 +190,13 @@ module _ (f : Name → List ℕ → ℕ → List ℕ) where
 
   -- ---- any call, and any list of calls
 
+  pub step-done : (x : Call) (c : Copy) → Done f x c
+      → step f x c ≡ record { copy = left (x .kind) x c; reply = given f (x .kind) x c }
+  unfolding step
+  step-done x c e = ap (λ (n : ℕ). outcome f n x c) e
+
   -- what holds of a copy and of what a call done leaves of it holds of what any call leaves of it
-  pub by-number : (P : Copy → Type 0) (x : Call) (c : Copy) → P c → (Done x c → P (left (x .kind) x c))
+  pub by-number : (P : Copy → Type 0) (x : Call) (c : Copy) → P c → (Done f x c → P (left (x .kind) x c))
       → P (step f x c .copy)
   unfolding step
   by-number P x c same done = go (number f x (c .store) (length (c .memory))) refl

@@ -13,3 +13,4 @@ pub mod CheckLaws
 pub mod RunLaws
 pub mod CaseLaws
 pub mod WitnessLaws
+pub mod GivenLaws

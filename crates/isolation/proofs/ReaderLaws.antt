@@ -19,10 +19,10 @@ use Rattle.guard.specs.Calls.{Copy, Call, call, Arguments, Kind, newCluster, de
 use Rattle.guard.specs.Calls.{read, write, weaken, reduce, newPassword, validate, opens, readMode, writeMode, needed}
 use Rattle.guard.specs.Calls.{recordFor}
 use Rattle.guard.specs.Steps.{putCluster, about, withPassword, passwordReplaced, left, step, run}
-use Rattle.isolation.specs.Copies.{SoundCopy, InPlace, setApart, Held, Unaltered, keyed, NoWriter}
+use Rattle.isolation.specs.Copies.{SoundCopy, Done, InPlace, setApart, Held, Unaltered, keyed, NoWriter}
 use Rattle.isolation.specs.Statements.{ReadersAlterNothing}
 use Rattle.isolation.proofs.DoneLaws.{done-mode, away, new-away}
-use Rattle.isolation.proofs.KeptLaws.{tables, Done, left-held, by-number, step-sound}
+use Rattle.isolation.proofs.KeptLaws.{tables, left-held, by-number, step-sound}
 
 -- a record put, seen at some record: as it was, or the new one
 put-cases : (s : Store) (n m : ℕ) (d : Cluster)

@@ -17,11 +17,11 @@ use Rattle.guard.specs.Calls.{Copy, Call, call, Arguments, Kind, newCluster, de
 use Rattle.guard.specs.Calls.{read, write, weaken, reduce, newPassword, validate, opens, buffer, recordFor}
 use Rattle.guard.specs.Numbers.{number}
 use Rattle.guard.specs.Steps.{Reply, plain, left, outcome, step, run}
-use Rattle.isolation.specs.Copies.{SoundCopy, InPlace, setApart, Alike, Held, Shut, AllShut}
+use Rattle.isolation.specs.Copies.{SoundCopy, Done, InPlace, setApart, Alike, Held, Shut, AllShut}
 use Rattle.isolation.specs.Statements.{Agreed, TwoCopies}
 use Rattle.isolation.proofs.AddressLaws.{place-outside}
 use Rattle.isolation.proofs.DoneLaws.{shut-away, new-away}
-use Rattle.isolation.proofs.KeptLaws.{tables, facts, Done, left-held, held-same, by-number, step-sound}
+use Rattle.isolation.proofs.KeptLaws.{tables, facts, left-held, held-same, by-number, step-sound}
 use Rattle.isolation.proofs.NumberLaws.{same-number}
 use Rattle.isolation.proofs.AlikeLaws.{left-alike, given-alike}
 

@@ -1,6 +1,7 @@
 -- Document 01, "Two copies": the terms in which the laws speak of copies and of one cluster in them.
 --     SoundCopy c       the records and the slice's length are sound
 --     InPlace v p a     address a of the slice is a byte of the place p in the memory of node v
+--     Done f x c        the call x gets the number 0 on the copy c, by the conversion f
 -- Of the cluster of a node and a local number, the one set apart:
 --     setApart          its record
 --     names h           the handle h names it: node and local number, each compared alone
@@ -33,7 +34,7 @@ use Rattle.store.specs.declared.Store.{Store}
 use Rattle.store.specs.Records.{Tables, recordOf, clusterAt, tableAt, placeAt}
 use Rattle.store.specs.Sound.{sound}
 use Rattle.guard.specs.Calls.{Copy, Call, opens, readMode, writeMode, presented, anyOf, address}
-use Rattle.guard.specs.Numbers.{valid}
+use Rattle.guard.specs.Numbers.{valid, number}
 use Rattle.guard.specs.Steps.{step}
 
 abbrev pub SoundCopy : Copy → Type 0
@@ -42,6 +43,9 @@ SoundCopy c = sound (c .store) (length (c .memory)) ≡ true
 abbrev pub InPlace : ℕ → Place → ℕ → Type 0
 InPlace v Absent a = ⊥
 InPlace v (Present base size) a = (address v base ≤ a) × (a < address v base + size)
+
+abbrev pub Done : (Name → List ℕ → ℕ → List ℕ) → Call → Copy → Type 0
+Done f x c = number f x (c .store) (length (c .memory)) ≡ 0
 
 module _ (node local : ℕ) where
   abbrev pub setApart : ℕ

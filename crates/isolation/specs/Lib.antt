@@ -4,3 +4,4 @@ pub mod Checks
 pub mod Cases
 pub mod Replies
 pub mod Witness
+pub mod Effects
