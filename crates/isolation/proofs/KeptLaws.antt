@@ -77,7 +77,7 @@ module _ (f : Name → List ℕ → ℕ → List ℕ) where
     abbrev data-written : List ℕ
     data-written = take (lengthOf (placeFor (call write g) (tables c))) (g .bytes)
 
-    length-data : Done f (call write g) c → length data-written ≡ lengthOf (placeFor (call write g) (tables c))
+    pub length-data : Done f (call write g) c → length data-written ≡ lengthOf (placeFor (call write g) (tables c))
     length-data e = length-take-le _ (g .bytes) (write-long f g (c .store) (length (c .memory)) e)
 
     pub write-fits : Done f (call write g) c

@@ -14,3 +14,4 @@ pub mod RunLaws
 pub mod CaseLaws
 pub mod WitnessLaws
 pub mod GivenLaws
+pub mod EffectLaws

@@ -7,7 +7,7 @@ use native.Mathlib.Omega.{arith}
 use native.Mathlib.Decide.{decLt}
 use mathlib.Core.List.{List, _++_}
 use lib.ListN.{length, getD, take, drop, length-append, length-drop, List·getD-append}
-use lib.Seq.{length-take-le, getD-take, getD-drop, getD-append-add, ext-getD}
+use lib.Seq.{length-take-le, getD-take, getD-drop, getD-append-add, ext-getD, take-append-seam, drop-append-seam}
 use Rattle.guard.specs.Steps.{overwritten}
 
 module _ (m : List ℕ) (a : ℕ) (bs : List ℕ) (fit : a + length bs ≤ length m) where
@@ -80,3 +80,11 @@ part-same m n a k fit e h =
         ∙ getD-drop a m i 0
         ∙ h (a + i) (omega arith) (omega arith)
         ∙ sym (getD-take k (drop a n) i 0 l ∙ getD-drop a n i 0)
+
+-- the part overwritten is what was put
+pub part-overwritten : (m : List ℕ) (a : ℕ) (bs : List ℕ) → a + length bs ≤ length m
+    → take (length bs) (drop a (overwritten m a bs)) ≡ bs
+part-overwritten m a bs fit =
+    ap (λ (k : ℕ). take (length bs) (drop k (overwritten m a bs))) (sym (length-head m a bs fit))
+    ∙ ap (take (length bs)) (drop-append-seam (take a m) (bs ++ drop (a + length bs) m))
+    ∙ take-append-seam bs (drop (a + length bs) m)
