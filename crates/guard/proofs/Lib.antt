@@ -4,3 +4,4 @@ pub mod OpenLaws
 pub mod ChangeLaws
 pub mod PasswordLaws
 pub mod CreateLaws
+pub mod ExampleLaws
