@@ -5,3 +5,6 @@ pub mod ChangeLaws
 pub mod PasswordLaws
 pub mod CreateLaws
 pub mod ExampleLaws
+pub mod CopyLaws
+pub mod BytesNumbers
+pub mod BytesLaws

@@ -3,3 +3,4 @@ pub mod Numbers
 pub mod Steps
 pub mod Entries
 pub mod Examples
+pub mod Access

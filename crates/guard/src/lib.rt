@@ -2,11 +2,14 @@
 // the memory lent, and gives what `step` gives: a refused call leaves all as it was.
 use store::Store;
 
+mod bytes; // bytes.rt: the calls that move the bytes of a segment
 mod change; // change.rt: the calls that change a record and no byte
 mod create; // create.rt: calls 1 and 7
 mod front; // front.rt: the refusals that the calls which open a cluster share
 mod open; // open.rt: validation and reduction, which change nothing
 
+pub use bytes::read;
+pub use bytes::write;
 pub use change::delete_cluster;
 pub use change::delete_segment;
 pub use change::new_password;
@@ -36,9 +39,13 @@ pub const VIOLATED: u8 = 9;
 
 pub const NOT_PRIMARY: u8 = 10;
 
+pub const NOT_REFERENCED: u8 = 11;
+
 pub const OLD_PASSWORD: u8 = 12;
 
 pub const ABSENT: u8 = 14;
+
+pub const SHORT: u8 = 15;
 
 // The two modes.
 pub const READ: u8 = 1;
