@@ -1,6 +1,7 @@
 -- The hypotheses of condition 3 are met by two differing copies, so the theorem applies to them. All is computed, but for
 -- the memory, whose bytes outside the segment are compared place by place.
 -- Assumes nothing.
+use mathlib.Core.List.{List}
 use mathlib.Core.Path.{_≡_, refl, sym, ap, _∙_}
 use Prim.Native.Nat.{ℕ, zero, suc}
 use native.Mathlib.Omega.{arith}
@@ -10,7 +11,7 @@ use Rattle.bits.specs.Bytes.{bytes, wordFrom, word}
 use Rattle.loops.specs.Below.{every}
 use Rattle.loops.specs.Search.{leastFrom, least}
 use Rattle.sizes.specs.Sizes.{memory}
-use Rattle.handle.specs.Handles.{encoded, decoded, samePassword, validates, weakened}
+use Rattle.handle.specs.Handles.{Name, encoded, decoded, samePassword, validates, weakened}
 use Rattle.store.specs.Records.{startingStore, tableAt}
 use Rattle.store.specs.Sound.{inRanges, endsInside, inside, soundSegment, apart, nodeApart, zeroBytes, idle, settled, sound}
 use Rattle.store.specs.Placement.{clear, fits, newBase, placement}
@@ -22,7 +23,6 @@ use Rattle.guard.specs.Steps.{Ran, clusterMade, clusterDeleted, segmentMade, se
 use Rattle.guard.specs.Steps.{passwordReplaced, left, segmentRead, given, run}
 use Rattle.isolation.specs.Copies.{SoundCopy, Outside, Alike, keyed}
 use Rattle.isolation.specs.Statements.{Agreed}
-use Rattle.isolation.specs.Cases.{added}
 use Rattle.isolation.specs.Witness.{one, two, tries, answers, Witnessed, shown, Bites}
 use Rattle.isolation.proofs.RunLaws.{number-below, run-below, ShutBelow, shut-below}
 use Rattle.isolation.proofs.TwoCopies.{two-copies}
@@ -52,24 +52,23 @@ alike =
     bytes-equal (suc (suc (suc zero))) out = absurd (out 5 (omega arith) (omega arith))
     bytes-equal (suc (suc (suc (suc p)))) out = refl
 
-replies : run added tries one .replies ≡ answers
-unfolding left given clusterMade clusterDeleted segmentMade segmentDeleted segmentWritten passwordReplaced segmentRead
-    has setOf count bytes word wordFrom every least leastFrom encoded decoded samePassword validates weakened
-    placement newBase fits clear apart inside inRanges endsInside
-    noPlace badMode badSegment badSize badField gappedHandle elsewhere inUse twins inactiveCluster
-    valid violated notPrimary notReferenced oldPassword segmentPresent segmentAbsent short fullNode spentHandle
-replies = ap (λ (r : Ran). r .replies) (run-below added tries one sound-one) ∙ refl
+module _ (f : Name → List ℕ → ℕ → List ℕ) where
+  replies : run f tries one .replies ≡ answers
+  unfolding left given clusterMade clusterDeleted segmentMade segmentDeleted segmentWritten passwordReplaced segmentRead
+      has setOf count bytes word wordFrom every least leastFrom encoded decoded samePassword validates weakened
+      placement newBase fits clear apart inside inRanges endsInside
+      noPlace badMode badSegment badSize badField gappedHandle elsewhere inUse twins inactiveCluster
+      valid violated notPrimary notReferenced oldPassword segmentPresent segmentAbsent short fullNode spentHandle
+  replies = ap (λ (r : Ran). r .replies) (run-below f tries one sound-one) ∙ refl
 
--- no call is keyed, on what the rows below the first make of a copy
-below-one : ShutBelow added 0 2 tries one
-unfolding keyed left given clusterMade clusterDeleted segmentMade segmentDeleted segmentWritten passwordReplaced
-    segmentRead has setOf count bytes word wordFrom every least leastFrom encoded decoded samePassword validates weakened
-    placement newBase fits clear apart inside inRanges endsInside
-    noPlace badMode badSegment badSize badField gappedHandle elsewhere inUse twins inactiveCluster
-    valid violated notPrimary notReferenced oldPassword segmentPresent segmentAbsent short fullNode spentHandle
-below-one = (
-  (refl, refl),
-  (
+  -- no call is keyed, on what the rows below the first make of a copy
+  below-one : ShutBelow f 0 2 tries one
+  unfolding keyed left given clusterMade clusterDeleted segmentMade segmentDeleted segmentWritten passwordReplaced
+      segmentRead has setOf count bytes word wordFrom every least leastFrom encoded decoded samePassword validates weakened
+      placement newBase fits clear apart inside inRanges endsInside
+      noPlace badMode badSegment badSize badField gappedHandle elsewhere inUse twins inactiveCluster
+      valid violated notPrimary notReferenced oldPassword segmentPresent segmentAbsent short fullNode spentHandle
+  below-one = (
     (refl, refl),
     (
       (refl, refl),
@@ -81,24 +80,24 @@ below-one = (
             (refl, refl),
             (
               (refl, refl),
-              ((refl, refl), tt),
+              (
+                (refl, refl),
+                ((refl, refl), tt),
+              ),
             ),
           ),
         ),
       ),
     ),
-  ),
-)
+  )
 
-below-two : ShutBelow added 0 2 tries two
-unfolding keyed left given clusterMade clusterDeleted segmentMade segmentDeleted segmentWritten passwordReplaced
-    segmentRead has setOf count bytes word wordFrom every least leastFrom encoded decoded samePassword validates weakened
-    placement newBase fits clear apart inside inRanges endsInside
-    noPlace badMode badSegment badSize badField gappedHandle elsewhere inUse twins inactiveCluster
-    valid violated notPrimary notReferenced oldPassword segmentPresent segmentAbsent short fullNode spentHandle
-below-two = (
-  (refl, refl),
-  (
+  below-two : ShutBelow f 0 2 tries two
+  unfolding keyed left given clusterMade clusterDeleted segmentMade segmentDeleted segmentWritten passwordReplaced
+      segmentRead has setOf count bytes word wordFrom every least leastFrom encoded decoded samePassword validates weakened
+      placement newBase fits clear apart inside inRanges endsInside
+      noPlace badMode badSegment badSize badField gappedHandle elsewhere inUse twins inactiveCluster
+      valid violated notPrimary notReferenced oldPassword segmentPresent segmentAbsent short fullNode spentHandle
+  below-two = (
     (refl, refl),
     (
       (refl, refl),
@@ -110,40 +109,42 @@ below-two = (
             (refl, refl),
             (
               (refl, refl),
-              ((refl, refl), tt),
+              (
+                (refl, refl),
+                ((refl, refl), tt),
+              ),
             ),
           ),
         ),
       ),
     ),
-  ),
-)
+  )
 
-pub witnessed : Witnessed
-witnessed =
-    record {
-      sound-one = sound-one;
-      sound-two = sound-two;
-      active = refl;
-      alike = alike;
-      shut-one = shut-below added 0 2 tries one sound-one below-one;
-      shut-two = shut-below added 0 2 tries two sound-two below-two;
-      replies = replies;
-    }
+  pub witnessed : Witnessed f
+  witnessed =
+      record {
+        sound-one = sound-one;
+        sound-two = sound-two;
+        active = refl;
+        alike = alike;
+        shut-one = shut-below f 0 2 tries one sound-one below-one;
+        shut-two = shut-below f 0 2 tries two sound-two below-two;
+        replies = replies;
+      }
 
--- condition 3 at the two copies
-pub agreed : Agreed 0 2 added tries one two
-agreed =
-    two-copies 0 2 added (omega arith) (omega arith) tries one two sound-one sound-two refl alike
-    (witnessed .shut-one) (witnessed .shut-two)
+  -- condition 3 at the two copies
+  pub agreed : Agreed 0 2 f tries one two
+  agreed =
+      two-copies 0 2 f (omega arith) (omega arith) tries one two sound-one sound-two refl alike
+      (witnessed .shut-one) (witnessed .shut-two)
 
-pub bites : Bites
-unfolding has setOf count bytes word wordFrom every least leastFrom encoded decoded samePassword validates
-    placement newBase fits clear apart inside inRanges endsInside
-    noPlace badMode badSegment badSize badField gappedHandle elsewhere inUse twins inactiveCluster
-    valid violated notPrimary notReferenced oldPassword segmentPresent segmentAbsent short fullNode spentHandle
-bites =
-    record {
-      done = number-below added shown (one .store) memory sound-one ∙ refl;
-      refused = number-below added shown (two .store) memory sound-two ∙ refl;
-    }
+  pub bites : Bites f
+  unfolding has setOf count bytes word wordFrom every least leastFrom encoded decoded samePassword validates
+      placement newBase fits clear apart inside inRanges endsInside
+      noPlace badMode badSegment badSize badField gappedHandle elsewhere inUse twins inactiveCluster
+      valid violated notPrimary notReferenced oldPassword segmentPresent segmentAbsent short fullNode spentHandle
+  bites =
+      record {
+        done = number-below f shown (one .store) memory sound-one ∙ refl;
+        refused = number-below f shown (two .store) memory sound-two ∙ refl;
+      }

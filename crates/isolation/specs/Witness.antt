@@ -1,12 +1,13 @@
 -- Condition 3 is not empty, and it bites. The cluster set apart is local number 2 of node 0, with a segment of four bytes;
--- the conversion and the shorthands for calls are those of the computed lists.
+-- the shorthands for calls are those of the computed lists.
 --     holding r w b       a copy in which its passwords are sixteen r and sixteen w, and its four bytes b
 --     one, two            two such copies that differ in all of these
 --     tries               calls that name the cluster with wrong handles, weaken the right one, and work on another cluster
 --     answers             what both copies answer
---     Witnessed           the copies and the list meet each hypothesis of condition 3, and the answers are computed
 --     shown               a read with the read primary handle of the copy one
---     Bites               it is done on that copy and refused with 9 on the other
+-- For every conversion f, since no handle shown here is converted:
+--     Witnessed           the copies and the list meet each hypothesis of condition 3, and the answers are computed
+--     Bites               that read is done on the copy one and refused with 9 on the other
 -- Assumes nothing.
 use mathlib.Core.Path.{_≡_}
 use Prim.Native.Nat.{ℕ}
@@ -15,6 +16,7 @@ use mathlib.Core.List.{List, [], _∷_}
 use lib.ListN.{replicate}
 use Rattle.sizes.specs.Sizes.{segments, memory}
 use Rattle.handle.specs.Selectors.{flats}
+use Rattle.handle.specs.Handles.{Name}
 use Rattle.store.specs.declared.Place.the-variants.{Present}
 use Rattle.store.specs.Records.{startingStore, started, recordOf, tableAt, putRecord, withPlace}
 use Rattle.guard.specs.Calls.{Copy, Call}
@@ -63,18 +65,19 @@ answers =
     ∷ plain 9 []
     ∷ []
 
-pub record Witnessed : Type 0 where
-  pub sound-one : SoundCopy one
-  pub sound-two : SoundCopy two
-  pub active : tableAt (one .store) (setApart 0 2) .active ≡ true
-  pub alike : Alike 0 2 one two
-  pub shut-one : AllShut 0 2 C.added tries one
-  pub shut-two : AllShut 0 2 C.added tries two
-  pub replies : run C.added tries one .replies ≡ answers
-
 abbrev pub shown : Call
 shown = C.call5 (primary 2 17) 5 (replicate 6 9)
 
-pub record Bites : Type 0 where
-  pub done : number C.added shown (one .store) memory ≡ 0
-  pub refused : number C.added shown (two .store) memory ≡ 9
+module _ (f : Name → List ℕ → ℕ → List ℕ) where
+  pub record Witnessed : Type 0 where
+    pub sound-one : SoundCopy one
+    pub sound-two : SoundCopy two
+    pub active : tableAt (one .store) (setApart 0 2) .active ≡ true
+    pub alike : Alike 0 2 one two
+    pub shut-one : AllShut 0 2 f tries one
+    pub shut-two : AllShut 0 2 f tries two
+    pub replies : run f tries one .replies ≡ answers
+
+  pub record Bites : Type 0 where
+    pub done : number f shown (one .store) memory ≡ 0
+    pub refused : number f shown (two .store) memory ≡ 9
