@@ -29,7 +29,7 @@ use Rattle.guard.proofs.NumberLaws.{step-refused, step-done, front-reco
 abbrev pub endedWith : List ℕ → Done → Outcome
 endedWith m r = ended (r .store) m (r .answer) []
 
-after-front : (n rest : ℕ) → (n ≡ 0 → ⊥) → after n rest ≡ n
+pub after-front : (n rest : ℕ) → (n ≡ 0 → ⊥) → after n rest ≡ n
 after-front zero rest t = absurd (t refl)
 after-front (suc n) rest t = refl
 

@@ -15,7 +15,7 @@ ghost use Rattle.guard.specs.Steps.{aesStep};
 ghost use Rattle.guard.specs.Entries.{copyOf, asked, ended, leftAlone};
 
 // A call that leaves the store as it was and gives a number alone.
-fn unchanged(store: Store, number: u8) -> Done
+pub fn unchanged(store: Store, number: u8) -> Done
     ensures { λ r. ⌜ r ≡ leftAlone store number ⌝ }
 {
     let answer = number_alone(number);

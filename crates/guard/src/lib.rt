@@ -4,9 +4,11 @@ use store::Store;
 
 mod change; // change.rt: the calls that change a record and no byte
 mod front; // front.rt: the refusals that the calls which open a cluster share
+mod make; // make.rt: the call that makes a segment
 mod open; // open.rt: validation and reduction, which change nothing
 
 pub use change::delete_cluster;
+pub use make::new_segment;
 pub use open::reduce;
 pub use open::validate;
 
@@ -26,6 +28,10 @@ pub const INACTIVE: u8 = 8;
 pub const VIOLATED: u8 = 9;
 
 pub const NOT_PRIMARY: u8 = 10;
+
+pub const PRESENT: u8 = 13;
+
+pub const NO_ROOM: u8 = 16;
 
 // The two modes.
 pub const READ: u8 = 1;
