@@ -56,11 +56,12 @@ put-clear a n m part h e =
     back : (a n : ℕ) → a + n - a ≡ n
     back a n = omega arith
 
-module _ (c : Cluster) (m : List ℕ) (node segment base size : ℕ) (can : CanMake (length m) node segment base size) where
+module _ (c : Cluster) (m : List ℕ) (node segment base size : ℕ) (can : CanMake (length m) node base size) where
   pub make-is : (part : List ℕ)
       → part
       ≡ replicate (length (midOf (node * nodeMemory + base) (node * nodeMemory + base + size - (node * nodeMemory + base)) m)) 0
-      → Made node segment base size c (withPlace c segment (Present base size)) m
+      → (d : Cluster) → d ≡ withPlace c segment (Present base size)
+      → Made node segment base size c d m
       (putMid (node * nodeMemory + base) (node * nodeMemory + base + size - (node * nodeMemory + base)) m part)
-  make-is part e =
-      record { placed = refl; cleared = put-clear (node * nodeMemory + base) size m part (omega arith) e }
+  make-is part e d ed =
+      record { placed = ed; cleared = put-clear (node * nodeMemory + base) size m part (omega arith) e }

@@ -2,18 +2,23 @@
 -- Assumes nothing.
 use mathlib.Core.Path.{_≡_, refl, sym, ap, _∙_}
 use mathlib.Core.Bool.{Bool, true, false, not, _||_, cond, false≢true}
-use mathlib.Core.List.{List}
+use mathlib.Core.List.{List, map}
 use Prim.Native.Nat.{ℕ, zero, suc, _+_, _*_, _≤_, _<_}
 use native.Mathlib.Omega.{arith}
 use borrow.Author.Tests.{le-leb, lt-leb, eq-eqb, ne-eqb, leb-false}
 use lib.Dec.{eqb, leb}
-use Rattle.sizes.specs.Sizes.{nodes, clusters, records}
+use lib.ListN.{length, length-map, List·getD-eq-default}
+use lib.Seq.{set-out}
+use Rattle.sizes.specs.Sizes.{nodes, clusters, records, segments}
 use Rattle.handle.specs.declared.Handle.{Handle}
 use Rattle.handle.specs.Selectors.{gapped}
 use Rattle.handle.specs.Handles.{widthOf, firstOf, validates}
 use Rattle.handle.specs.Conversion.{conversion}
+use Rattle.store.specs.declared.Place.{Place}
+use Rattle.store.specs.declared.Place.the-variants.{Absent}
+use Rattle.store.specs.declared.Segment.{Segment}
 use Rattle.store.specs.declared.Cluster.{Cluster}
-use Rattle.store.specs.Records.{recordOf}
+use Rattle.store.specs.Records.{absentSegment, tableOf, recordOf, placeOf, withPlace}
 use Rattle.guard.specs.Calls.{readMode, primaryOf}
 use Rattle.guard.specs.Entries.{recordAt, frontRows}
 
@@ -28,6 +33,19 @@ module _ (node local : ℕ) where
 
   pub at-record : node < nodes → local < clusters → node * clusters + local ≡ recordAt node local
   at-record h l = simp (lt-leb nodes node h, lt-leb clusters local l)
+
+-- ---- the place of a segment
+
+pub length-mapped : {A B : Type 0} (f : A → B) (l : List A) (n : ℕ) → length (map f l) ≡ n → length l ≡ n
+length-mapped f l n e = sym (length-map l f) ∙ e
+
+module _ (c : Cluster) (i : ℕ) (e : length (c .segments) ≡ segments) (h : segments ≤ i) where
+  pub place-beyond : Absent ≡ placeOf (tableOf c) i
+  place-beyond = sym (ap (λ (g : Segment). g .place) (List·getD-eq-default (c .segments) absentSegment (rw e h)))
+
+  pub with-beyond : (p : Place) → c ≡ withPlace c i p
+  with-beyond p = ap (λ (l : List Segment). record { active = c .active; read = c .read; write = c .write; segments = l })
+      (sym (set-out (c .segments) i (record { place = p }) (rw e h)))
 
 -- ---- the primary password of a mode
 

@@ -1,18 +1,16 @@
 -- Rows 1 to 13 of making a segment, return by return: the shared rows, 10, 13. Where none applies, the store is sound and
--- the handle's cluster and the segment are there; where the handle's place is bad, the record does not count.
+-- the handle's cluster is there; where the handle's place is bad, the record does not count.
 -- Assumes nothing.
 use mathlib.Core.Path.{_≡_, refl, sym, ap, ap₂, _∙_}
-use mathlib.Core.Bool.{Bool, true, false, not, _||_, cond, true≢false}
-use Prim.Native.Nat.{ℕ, zero, suc, _<_}
+use mathlib.Core.Bool.{Bool, true, false, not, cond}
+use Prim.Native.Nat.{ℕ, zero, suc}
 use native.Mathlib.Omega.{arith}
-use lib.Dec.{eqb, leb, ltb}
-use borrow.Author.Tests.{leb-false}
-use Rattle.sizes.specs.Sizes.{nodes, segments, nodeMemory}
+use lib.Dec.{eqb, leb}
+use Rattle.sizes.specs.Sizes.{nodes}
 use Rattle.handle.specs.declared.Handle.{Handle}
 use Rattle.handle.specs.Selectors.{allFlat}
 use Rattle.handle.specs.Handles.{widthOf, noSuchPlace, firstOf}
 use Rattle.store.specs.declared.Place.{Place}
-use Rattle.store.specs.declared.Place.the-variants.{Absent, Present}
 use Rattle.store.specs.declared.Cluster.{Cluster}
 use Rattle.store.specs.declared.Store.{Store}
 use Rattle.store.specs.Records.{tableOf, clusterAt, placeOf}
@@ -23,27 +21,11 @@ use Rattle.guard.specs.Makes.{badFields, judged}
 use Rattle.guard.proofs.FrontLaws.{Passed, front-passed}
 use Rattle.guard.proofs.ChangeLaws.{after-front}
 
--- ---- whether a place is absent
-
-module _ (p : Place) where
-  pub place-absent : p ≡ Absent → true ≡ isAbsent p
-  place-absent e = sym (ap isAbsent e)
-
-  pub place-present : (base length : ℕ) → p ≡ Present base length → false ≡ isAbsent p
-  place-present base length e = sym (ap isAbsent e)
-
 -- ---- the returns
 
 -- rows 10 and 13
 abbrev rows : Bool → Bool → ℕ
 rows primary vacant = cond (not primary) 10 (cond (not vacant) 13 0)
-
-fields-segment : (segment size : ℕ) → badFields segment size ≡ false → segment < segments
-fields-segment segment size e = go (leb segments segment) refl e
-  where
-    go : (t : Bool) → leb segments segment ≡ t → t || (eqb size 0 || ltb nodeMemory size) ≡ false → segment < segments
-    go true q e = absurd (true≢false e)
-    go false q e = leb-false segments segment q
 
 module _ (sd : Bool) (h : Handle) (c : Cluster) (current segment size : ℕ) where
   abbrev primary : Bool
@@ -55,43 +37,33 @@ module _ (sd : Bool) (h : Handle) (c : Cluster) (current segment size : ℕ) whe
   abbrev shared : ℕ
   shared =
       firstOf
-      (frontRows sd h c (leb nodes current) (leb segments segment || (eqb size 0 || ltb nodeMemory size))
-      (not (eqb current (h .node))) writeMode)
-
-  front-facts : shared ≡ 0 → Passed h (leb nodes current) (badFields segment size) (not (eqb current (h .node)))
-  front-facts z =
-      front-passed sd h c (leb nodes current) (badFields segment size) (not (eqb current (h .node))) writeMode z
+      (frontRows sd h c (leb nodes current) (badFields segment size) (not (eqb current (h .node))) writeMode)
 
   module _ (n : ℕ) (en : n ≡ shared) where
     pub judge-front : (n ≡ 0 → ⊥) → n ≡ judged sd h c current segment size
     unfolding judged
     judge-front t = sym (after-front n (rows primary vacant) t) ∙ ap (λ (k : ℕ). after k (rows primary vacant)) en
 
-    module _ (z : n ≡ 0) where
-      pub judge-segment : segment < segments
-      judge-segment = fields-segment segment size (front-facts (sym en ∙ z) .fields)
+    module _ (z : n ≡ 0) (p : Bool) (ep : p ≡ allFlat (widthOf h) (h .selector)) where
+      own : (v : Bool) → v ≡ vacant → rows p v ≡ judged sd h c current segment size
+      unfolding judged
+      own v ev = ap₂ rows ep ev ∙ ap (λ (k : ℕ). after k (rows primary vacant)) (sym z ∙ en)
 
-      module _ (p : Bool) (ep : p ≡ allFlat (widthOf h) (h .selector)) where
-        own : (v : Bool) → v ≡ vacant → rows p v ≡ judged sd h c current segment size
-        unfolding judged
-        own v ev = ap₂ rows ep ev ∙ ap (λ (k : ℕ). after k (rows primary vacant)) (sym z ∙ en)
+      pub judge-primary : not p ≡ true → 10 ≡ judged sd h c current segment size
+      judge-primary t = sym (ap (λ (q : Bool). cond q 10 (cond (not vacant) 13 0)) t) ∙ own vacant refl
 
-        pub judge-primary : not p ≡ true → 10 ≡ judged sd h c current segment size
-        judge-primary t = sym (ap (λ (q : Bool). cond q 10 (cond (not vacant) 13 0)) t) ∙ own vacant refl
+      module _ (t10 : not p ≡ false) (q : Place) (eq : q ≡ placeOf (tableOf c) segment) (v : Bool) (ev : v ≡ isAbsent q) where
+        pub judge-present : not v ≡ true → 13 ≡ judged sd h c current segment size
+        judge-present t = sym (ap₂ (λ (q w : Bool). cond q 10 (cond w 13 0)) t10 t) ∙ own v (ev ∙ ap isAbsent eq)
 
-        module _ (t10 : not p ≡ false) (v : Bool) (ev : v ≡ isAbsent (placeOf (tableOf c) segment)) where
-          pub judge-present : not v ≡ true → 13 ≡ judged sd h c current segment size
-          judge-present t = sym (ap₂ (λ (q w : Bool). cond q 10 (cond w 13 0)) t10 t) ∙ own v ev
-
-          pub judge-none : not v ≡ false → 0 ≡ judged sd h c current segment size
-          judge-none t = sym (ap₂ (λ (q w : Bool). cond q 10 (cond w 13 0)) t10 t) ∙ own v ev
+        pub judge-none : not v ≡ false → 0 ≡ judged sd h c current segment size
+        judge-none t = sym (ap₂ (λ (q w : Bool). cond q 10 (cond w 13 0)) t10 t) ∙ own v (ev ∙ ap isAbsent eq)
 
   -- ---- no row applies
 
   pub record Judged : Type 0 where
     pub sound : sd ≡ true
     pub front : Passed h (leb nodes current) (badFields segment size) (not (eqb current (h .node)))
-    pub there : segment < segments
 
   pub judged-out : judged sd h c current segment size ≡ 0 → Judged
   unfolding judged
@@ -99,8 +71,8 @@ module _ (sd : Bool) (h : Handle) (c : Cluster) (current segment size : ℕ) whe
       let z : shared ≡ 0 = first-none shared e in
       record {
         sound = is-sound sd z;
-        front = front-facts z;
-        there = fields-segment segment size (front-facts z .fields);
+        front =
+            front-passed sd h c (leb nodes current) (badFields segment size) (not (eqb current (h .node))) writeMode z;
       }
     where
       first-none : (n : ℕ) → after n (rows primary vacant) ≡ 0 → n ≡ 0

@@ -2,6 +2,9 @@ pub mod FrontLaws
 pub mod NumberLaws
 pub mod OpenLaws
 pub mod ChangeLaws
+pub mod PasswordLaws
+pub mod CreateLaws
+pub mod ExampleLaws
 pub mod ClearLaws
 pub mod JudgeLaws
 pub mod MakeLaws

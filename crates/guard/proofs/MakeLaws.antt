@@ -6,7 +6,6 @@ use mathlib.Core.Bool.{Bool, true, false, not, cond, or-false}
 use mathlib.Core.List.{List, []}
 use mathlib.Core.Option.{Option, none, some}
 use Prim.Native.Nat.{ℕ, zero, suc}
-use native.Mathlib.Omega.{arith}
 use lib.Dec.{eqb, leb}
 use lib.ListN.{length, set, replicate}
 use Rattle.sizes.specs.Sizes.{nodes}
@@ -35,7 +34,7 @@ use Rattle.guard.specs.Entries.{copyOf, asked, leftAlone, recordAt, fron
 use Rattle.guard.specs.Makes.{badFields, judged, CanMake, Made}
 use Rattle.guard.proofs.FrontLaws.{at-record}
 use Rattle.guard.proofs.NumberLaws.{step-done, front-then}
-use Rattle.guard.proofs.ChangeLaws.{endedWith, after-front, left-refused}
+use Rattle.guard.proofs.ChangeLaws.{endedWith, after-front, above, left-refused}
 use Rattle.guard.proofs.JudgeLaws.{Judged, judged-out, judged-record}
 
 -- ---- what placement gives lies inside the node's memory
@@ -45,10 +44,7 @@ unfolding placement
 placement-inside ts node size base e = inside-out base size (go (newBase ts node size) refl e .within)
   where
     go : (o : Option ℕ) → newBase ts node size ≡ o → roomAt base ≡ answered o → Fits ts node size base
-    go none q e = absurd (differ (ap (λ (a : Answer). a .number) e))
-      where
-        differ : _≡_ {A = ℕ} 0 noRoomNumber → ⊥
-        differ d = omega arith
+    go none q e = absurd (above 15 (sym (ap (λ (a : Answer). a .number) e)))
     go (some k) q e = newBase-fits ts node size base (q ∙ ap some (sym (ap (λ (a : Answer). a .base) e)))
 
 -- ---- the number
@@ -106,13 +102,12 @@ module _ (s : Store) (all : ℕ) (b : List ℕ) (current segment size : ℕ) whe
 module _ (s : Store) (all current segment size : ℕ) (h : Handle) (c : Cluster) (sd : Bool) (es : sd ≡ sound s all) (n : ℕ)
     (en : n ≡ judged sd h c current segment size) (z : n ≡ 0) (f : Found)
     (ef : answer f ≡ placement (tableAt s) (h .node) size) (base : ℕ) (eb : f ≡ At base) where
-  pub new-segment-can : CanMake all (h .node) segment base size
+  pub new-segment-can : CanMake all (h .node) base size
   new-segment-can =
       let j : Judged sd h c current segment size = judged-out sd h c current segment size (sym en ∙ z) in
       record {
         whole = sound-out s all (sym es ∙ j .sound) .whole;
         known = j .front .node;
-        there = j .there;
         ends = placement-inside (tableAt s) (h .node) size base (sym (ap answer eb) ∙ ef) .ends;
       }
 
@@ -142,10 +137,7 @@ module _ (s : Store) (m b : List ℕ) (current segment size : ℕ) (h : Handle) 
     last g e = told ∙ ap₂ withRoom z (sym ef ∙ ap answer e)
 
     pub new-segment-full : f ≡ Nowhere → (r : Done) → r ≡ leftAlone s 16 → endedWith m r ≡ aesStep making (copyOf s m)
-    new-segment-full e r er = left-refused making s m refl 16 (λ q. absurd (differ q)) (last Nowhere e) r er
-      where
-        differ : _≡_ {A = ℕ} 16 0 → ⊥
-        differ q = omega arith
+    new-segment-full e r er = left-refused making s m refl 16 (above 15) (last Nowhere e) r er
 
     module _ (base : ℕ) (eb : f ≡ At base) where
       found : roomAt base ≡ placement (tableAt s) (h .node) size

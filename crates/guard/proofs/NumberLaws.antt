@@ -11,18 +11,18 @@ use lib.ListN.{length}
 use Rattle.handle.specs.declared.Handle.{Handle}
 use Rattle.handle.specs.Handles.{Name, widthOf, noSuchPlace, firstOf, decoded, validates}
 use Rattle.handle.specs.Selectors.{allFlat, gapped}
-use Rattle.sizes.specs.Sizes.{nodes}
+use Rattle.sizes.specs.Sizes.{nodes, segments}
 use Rattle.handle.specs.Conversion.{conversion}
 use Rattle.store.specs.declared.Cluster.{Cluster}
 use Rattle.store.specs.declared.Store.{Store}
-use Rattle.store.specs.Records.{clusterAt}
-use Rattle.store.specs.Sound.{sound}
-use Rattle.guard.specs.Calls.{Copy, Call, Arguments, call, deleteCluster, reduce, validate, readMode, writeMode, recordNamed, buffer, primaryOf}
+use Rattle.store.specs.Records.{tableOf, clusterAt, placeOf}
+use Rattle.store.specs.Sound.{isAbsent, sound}
+use Rattle.guard.specs.Calls.{Copy, Call, Arguments, call, deleteCluster, deleteSegment, newPassword, reduce, validate, readMode, writeMode, recordNamed, buffer, primaryOf}
 use Rattle.guard.specs.Numbers.{noPlace, badMode, badSegment, badSize, badField, gappedHandle, elsewhere, twins}
 use Rattle.guard.specs.Numbers.{notPrimary, notReferenced, spentHandle, inUse, inactiveCluster, segmentPresent}
-use Rattle.guard.specs.Numbers.{segmentAbsent, short, fullNode, unsound, oldPassword, valid, violated, number}
+use Rattle.guard.specs.Numbers.{segmentAbsent, short, fullNode, unsound, isOld, oldPassword, valid, violated, number}
 use Rattle.guard.specs.Steps.{Outcome, plain, left, given, outcome, step, aesStep}
-use Rattle.guard.specs.Entries.{asked, recordAt, frontRows, after}
+use Rattle.guard.specs.Entries.{badModes, asked, recordAt, frontRows, after}
 
 -- ---- a call refused, and a call done
 
@@ -106,3 +106,28 @@ module _ (s : Store) (size : ℕ) (b : List ℕ) where
       simp or-false
       (front-then (sound s size) h (clusterAt s (recordNamed h)) (leb nodes current) false (not (eqb current (h .node))) writeMode
       (cond (not (allFlat (widthOf h) (h .selector))) 10 0))
+
+  abbrev c : Cluster
+  c = clusterAt s (recordNamed h)
+
+  pub number-delete-segment : (current segment : ℕ)
+      → number (λ m. conversion) (call deleteSegment (asked current 0 0 segment 0 0 b [] [] [])) s size
+      ≡ after
+      (firstOf (frontRows (sound s size) h c (leb nodes current) (leb segments segment) (not (eqb current (h .node))) writeMode))
+      (cond (not (allFlat (widthOf h) (h .selector))) 10 (cond (isAbsent (placeOf (tableOf c) segment)) 14 0))
+  unfolding number noPlace badField badMode badSegment badSize gappedHandle elsewhere twins notPrimary notReferenced spentHandle inUse inactiveCluster segmentPresent segmentAbsent short fullNode unsound oldPassword valid violated
+  number-delete-segment current segment =
+      simp or-false
+      (front-then (sound s size) h c (leb nodes current) (leb segments segment) (not (eqb current (h .node))) writeMode
+      (cond (not (allFlat (widthOf h) (h .selector))) 10 (cond (isAbsent (placeOf (tableOf c) segment)) 14 0)))
+
+  pub number-new-password : (mode : ℕ) (p : List ℕ)
+      → number (λ m. conversion) (call newPassword (asked 0 0 mode 0 0 0 b p [] [])) s size
+      ≡ after (firstOf (frontRows (sound s size) h c false (badModes mode) false mode))
+      (cond (not (allFlat (widthOf h) (h .selector))) 10 (cond (isOld p c) 12 0))
+  unfolding number noPlace badField badMode badSegment badSize gappedHandle elsewhere twins notPrimary notReferenced spentHandle inUse inactiveCluster segmentPresent segmentAbsent short fullNode unsound oldPassword valid violated
+  number-new-password mode p =
+      simp or-false
+      (simp or-false at
+      (front-then (sound s size) h c false (badModes mode) false mode
+      (cond (not (allFlat (widthOf h) (h .selector))) 10 (cond (isOld p c) 12 0))))

@@ -17,19 +17,16 @@ use Rattle.guard.specs.declared.Answer.{Answer}
 use Rattle.guard.specs.Calls.{Call, call, reduce, validate, readMode, writeMode, primaryOf, recordNamed}
 use Rattle.guard.specs.Numbers.{number}
 use Rattle.guard.specs.Steps.{Reply, handles, zeroHandle, outcome, step, aesStep, left, given}
-use Rattle.guard.specs.Entries.{copyOf, asked, ended, replied, numberAlone, recordAt, frontRows}
+use Rattle.guard.specs.Entries.{badModes, handlesAlone, copyOf, asked, ended, replied, numberAlone, recordAt, frontRows}
 use Rattle.guard.proofs.FrontLaws.{at-record, Passed, front-passed}
 use Rattle.guard.proofs.NumberLaws.{step-refused, step-done, front-record, number-validate, number-reduce}
 
-abbrev badModes : ℕ → Bool
-badModes mode = not (eqb mode readMode || eqb mode writeMode)
-
 module _ (s : Store) (m b : List ℕ) (mode : ℕ) (h : Handle) (eh : h ≡ decoded b) (at : ℕ) (ea : at ≡ recordAt (h .node) (h .local))
-    (sd : Bool) (es : sd ≡ sound s (length m)) (n : ℕ)
-    (en : n ≡ firstOf (frontRows sd h (clusterAt s at) false (not (eqb mode readMode || eqb mode writeMode)) false mode)) where
+    (sd : Bool) (es : sd ≡ sound s (length m)) (bad : Bool) (eb : bad ≡ badModes mode) (n : ℕ)
+    (en : n ≡ firstOf (frontRows sd h (clusterAt s at) false bad false mode)) where
   told : n ≡ number (λ k. conversion) (call reduce (asked 0 0 mode 0 0 0 b [] [] [])) s (length m)
   told =
-      en ∙ ap (λ (i : ℕ). firstOf (frontRows sd h (clusterAt s i) false (badModes mode) false mode)) ea
+      en ∙ ap₂ (λ (i : ℕ) (d : Bool). firstOf (frontRows sd h (clusterAt s i) false d false mode)) ea eb
       ∙ front-record s sd h false (badModes mode) false mode
       ∙ ap₂ (λ (t : Bool) (g : Handle). firstOf (frontRows t g (clusterAt s (recordNamed g)) false (badModes mode) false mode)) es eh
       ∙ sym (number-reduce s (length m) b mode)
@@ -49,16 +46,18 @@ module _ (s : Store) (m b : List ℕ) (mode : ℕ) (h : Handle) (eh : h ≡ deco
       ∙ sym (step-refused (call reduce (asked 0 0 mode 0 0 0 b [] [] [])) (copyOf s m) n (sym told) t)
 
   pub reduce-done : (n ≡ 0) → (p : List ℕ) → p ≡ primaryOf (clusterAt s at) mode → (r : Handle)
-      → r ≡ reduced (widthOf h) conversion h p → (e : List ℕ) → e ≡ encoded r
-      → ended s m (record { number = 0; first = e; second = zeroHandle; count = 0; length = 0 }) []
+      → r ≡ reduced (widthOf h) conversion h p → (e : List ℕ) → e ≡ encoded r → (a : Answer)
+      → a ≡ handlesAlone e zeroHandle
+      → ended s m a []
       ≡ aesStep (call reduce (asked 0 0 mode 0 0 0 b [] [] [])) (copyOf s m)
   unfolding left given
-  reduce-done z p ep r er e ee =
-      ap (λ (x : List ℕ). record { copy = copyOf s m; reply = handles x zeroHandle 0 }) (ee ∙ ap encoded (er ∙ same))
+  reduce-done z p ep r er e ee a aa =
+      ap (λ (x : Answer). ended s m x []) aa
+      ∙ ap (λ (x : List ℕ). record { copy = copyOf s m; reply = handles x zeroHandle 0 }) (ee ∙ ap encoded (er ∙ same))
       ∙ sym (step-done (call reduce (asked 0 0 mode 0 0 0 b [] [] [])) (copyOf s m) (sym told ∙ z))
     where
-      passed : Passed h false (badModes mode) false
-      passed = front-passed sd h (clusterAt s at) false (badModes mode) false mode (sym en ∙ z)
+      passed : Passed h false bad false
+      passed = front-passed sd h (clusterAt s at) false bad false mode (sym en ∙ z)
 
       there : at ≡ recordNamed h
       there = ea ∙ sym (at-record (h .node) (h .local) (passed .node) (passed .local))

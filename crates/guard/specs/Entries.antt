@@ -4,6 +4,9 @@
 --     replied a b            the reply that the code's answer a and the buffer b make
 --     ended s m a b          what is left and given
 --     numberAlone n          the code's answer that gives the number n and nothing else
+--     handlesAlone a b       the code's answer of a call done that gives the handles a and b
+--     primaryBytes ..        the bytes of the primary handle of a node, a local number and a password
+--     badModes mode          the mode is neither of the two
 --     leftAlone s n          the records s, and the number n alone
 --     recordAt node local    the record of a cluster; the first where there is no such place
 --     frontRows ..           rows 1 to 5, 8 and 9, from their tests: the store is sound; the handle; the record of its
@@ -13,18 +16,19 @@
 use Prim.Native.Nat.{ℕ, zero, suc}
 use mathlib.Core.Bool.{Bool, true, false, not, _||_, cond}
 use mathlib.Core.List.{List, [], _∷_}
-use lib.Dec.{leb}
-use Rattle.sizes.specs.Sizes.{nodes, clusters}
+use lib.Dec.{leb, eqb}
+use Rattle.sizes.specs.Sizes.{nodes, clusters, segments}
 use Rattle.handle.specs.declared.Handle.{Handle}
 use Rattle.handle.specs.Selectors.{gapped}
-use Rattle.handle.specs.Handles.{widthOf, noSuchPlace, Row, validates}
+use Rattle.handle.specs.Handles.{widthOf, noSuchPlace, Row, encoded, validates}
+use Rattle.handle.specs.Opens.{primaryHandle}
 use Rattle.handle.specs.Conversion.{conversion}
 use Rattle.store.specs.declared.Cluster.{Cluster}
 use Rattle.store.specs.declared.Store.{Store}
 use Rattle.store.specs.Records.{recordOf}
 use Rattle.guard.specs.declared.Answer.{Answer}
 use Rattle.guard.specs.declared.Done.{Done}
-use Rattle.guard.specs.Calls.{Copy, Arguments, primaryOf}
+use Rattle.guard.specs.Calls.{Copy, Arguments, readMode, writeMode, primaryOf}
 use Rattle.guard.specs.Steps.{Reply, Outcome, zeroHandle}
 
 abbrev pub copyOf : Store → List ℕ → Copy
@@ -61,6 +65,15 @@ ended s m a b = record { copy = copyOf s m; reply = replied a b }
 
 abbrev pub numberAlone : ℕ → Answer
 numberAlone n = record { number = n; first = zeroHandle; second = zeroHandle; count = 0; length = 0 }
+
+abbrev pub handlesAlone : List ℕ → List ℕ → Answer
+handlesAlone a b = record { number = 0; first = a; second = b; count = 0; length = 0 }
+
+abbrev pub primaryBytes : ℕ → ℕ → List ℕ → List ℕ
+primaryBytes node local p = encoded (primaryHandle segments (record { node = node; local = local }) p)
+
+abbrev pub badModes : ℕ → Bool
+badModes mode = not (eqb mode readMode || eqb mode writeMode)
 
 abbrev pub leftAlone : Store → ℕ → Done
 leftAlone s n = record { store = s; answer = numberAlone n }

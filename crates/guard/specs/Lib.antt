@@ -2,4 +2,5 @@ pub mod Calls
 pub mod Numbers
 pub mod Steps
 pub mod Entries
+pub mod Examples
 pub mod Makes

@@ -2,8 +2,8 @@
 --     badFields segment size                 segment above 7; size 0 or above 4,096
 --     judged sound h c current segment size  rows 1 to 5, 8, 9, 10 and 13, of a handle and the record of its cluster: the
 --                                            number of the first that applies, or 0
---     CanMake all node segment base size     a slice of that many bytes is whole, there are such a node and such a segment,
---                                            and the segment ends inside the node's memory
+--     CanMake all node base size             a slice of that many bytes is whole, the node is one of the four, and the
+--                                            segment ends inside its memory
 --     Made ..                                the cluster's record and the memory, before and after: the segment is present
 --                                            at the base and its bytes are zero, the others as they were
 -- Assumes nothing.
@@ -35,10 +35,9 @@ judged sound h c current segment size =
     (frontRows sound h c (leb nodes current) (badFields segment size) (not (eqb current (h .node))) writeMode))
     (cond (not (allFlat (widthOf h) (h .selector))) 10 (cond (not (isAbsent (placeOf (tableOf c) segment))) 13 0))
 
-pub record CanMake (all node segment base size : ℕ) : Type 0 where
+pub record CanMake (all node base size : ℕ) : Type 0 where
   pub whole : all ≡ memory
   pub known : node < nodes
-  pub there : segment < segments
   pub ends : base + size ≤ nodeMemory
 
 pub record Made (node segment base size : ℕ) (c d : Cluster) (before after : List ℕ) : Type 0 where

@@ -6,6 +6,7 @@
 --     zeroHandle          23 zero bytes
 --     plain n b           the reply with the number n and the buffer b alone
 --     handles a b n       the reply of a call done with the handles a and b and the count n
+--     readReply n b       the reply of a read done: the length n and the buffer b
 --     overwritten m a bs  the bytes m with bs from place a on
 --     putCluster          the copy with one record replaced
 --     putBytes            the copy with some bytes of its memory overwritten
@@ -29,6 +30,7 @@
 -- And as a whole:
 --     outcome f n         what is left and given where the number is n: a refusal leaves the copy and the buffer alone
 --     step f              what a call leaves and gives on a copy
+--     followed r n        the reply r, and then the list's
 --     run f               the replies of a list of calls, and the copy at its end
 --     aesStep             the step by the AES conversion, which takes in no name
 -- Assumes nothing.
@@ -73,6 +75,9 @@ pub record Ran : Type 0 where
   pub replies : List Reply
   pub copy : Copy
 
+abbrev pub followed : Reply → Ran → Ran
+followed r n = record { replies = r ∷ n .replies; copy = n .copy }
+
 abbrev pub zeroHandle : List ℕ
 zeroHandle = replicate handleBytes 0
 
@@ -81,6 +86,9 @@ plain n b = record { number = n; first = zeroHandle; second = zeroHandle; count 
 
 abbrev pub handles : List ℕ → List ℕ → ℕ → Reply
 handles a b n = record { number = 0; first = a; second = b; count = n; length = 0; buffer = [] }
+
+abbrev pub readReply : ℕ → List ℕ → Reply
+readReply n b = record { number = 0; first = zeroHandle; second = zeroHandle; count = 0; length = n; buffer = b }
 
 -- ---- changes
 
@@ -155,14 +163,7 @@ unfoldable pub segmentRead : Call → Copy → Reply
 segmentRead x c =
     let ts = tableAt (c .store) in
     let n = lengthOf (placeFor x ts) in
-    record {
-      number = 0;
-      first = zeroHandle;
-      second = zeroHandle;
-      count = 0;
-      length = n;
-      buffer = take n (drop (startFor x ts) (c .memory)) ++ drop n (buffer x);
-    }
+    readReply n (take n (drop (startFor x ts) (c .memory)) ++ drop n (buffer x))
 
 abbrev pub newPrimary : Call → List ℕ → List ℕ
 newPrimary x p = encoded (primaryHandle segments (record { node = nodeFor x; local = localFor x }) p)
@@ -200,11 +201,7 @@ module _ (f : Name → List ℕ → ℕ → List ℕ) where
 
   abbrev pub run : List Call → Copy → Ran
   run [] c = record { replies = []; copy = c }
-  run (x ∷ xs) c =
-      record {
-        replies = step x c .reply ∷ run xs (step x c .copy) .replies;
-        copy = run xs (step x c .copy) .copy;
-      }
+  run (x ∷ xs) c = followed (step x c .reply) (run xs (step x c .copy))
 
 abbrev pub aesStep : Call → Copy → Outcome
 aesStep = step (λ n. conversion)

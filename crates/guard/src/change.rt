@@ -1,25 +1,42 @@
 // The calls that change a cluster's record and no byte of the memory.
+use crate::ABSENT;
 use crate::Done;
 use crate::NOT_PRIMARY;
+use crate::OLD_PASSWORD;
+use crate::READ;
 use crate::WRITE;
+use crate::front::absent;
+use crate::front::bad_mode;
 use crate::front::front;
-use crate::front::number_alone;
+use crate::front::handle_alone;
+use crate::front::place_of;
+use crate::front::primary_handle;
 use crate::front::record_at;
+use crate::front::unchanged;
+use crate::front::with_place;
 use handle::Handle;
+use store::Cluster;
 use store::NODES;
+use store::Place;
+use store::SEGMENTS;
 use store::Store;
 ghost use mathlib.Core.Path.{_≡_};
 ghost use mathlib.Core.List.{[]};
 ghost use Rattle.guard.specs.Calls as calls;
-ghost use Rattle.guard.specs.Steps.{aesStep};
-ghost use Rattle.guard.specs.Entries.{copyOf, asked, ended, leftAlone};
+ghost use Rattle.guard.specs.Steps.{aesStep, withPassword};
+ghost use Rattle.guard.specs.Entries.{copyOf, asked, ended};
 
-// A call that leaves the store as it was and gives a number alone.
-pub fn unchanged(store: Store, number: u8) -> Done
-    ensures { λ r. ⌜ r ≡ leftAlone store number ⌝ }
+// The record with the primary password of a mode replaced.
+fn with_password(cluster: Cluster, mode: u8, password: [u8; 16]) -> Cluster
+    ensures { λ r. ⌜ r ≡ withPassword cluster mode password ⌝ }
 {
-    let answer = number_alone(number);
-    Done { store, answer }
+    let mut changed = cluster;
+    if mode == READ {
+        changed.read = password;
+        return changed;
+    }
+    changed.write = password;
+    changed
 }
 
 // Call 2: the cluster's record becomes that of the starting store.
@@ -52,4 +69,94 @@ pub fn delete_cluster(store: Store, memory: &[u8], current: usize, bytes: [u8; 2
     let mut next = store;
     next.clusters[at] = store::inactive_cluster();
     unchanged(next, 0)
+}
+
+// Call 4: the segment is absent; memory bytes stay.
+pub fn delete_segment(
+    store: Store,
+    memory: &[u8],
+    current: usize,
+    segment: usize,
+    bytes: [u8; 23],
+) -> Done
+    ensures { λ r. ⌜ ended (r .store) (now (memory .entry)) (r .answer) []
+        ≡ aesStep (calls.call calls.Kind.deleteSegment (asked current 0 0 segment 0 0 bytes [] [] [])) (copyOf store (now (memory .entry))) ⌝ }
+{
+    let handle = Handle::decode(bytes);
+    let at = record_at(handle.node, handle.local);
+    let cluster = store.clusters[at];
+    let tables = aes::tables();
+    let sound = store::sound(store, memory.len());
+    let node = handle.node as usize;
+    let number = front(
+        &tables,
+        sound,
+        handle,
+        cluster,
+        NODES <= current,
+        SEGMENTS <= segment,
+        current != node,
+        WRITE,
+    );
+    if number != 0 {
+        return unchanged(store, number);
+    }
+    if !handle.primary() {
+        return unchanged(store, NOT_PRIMARY);
+    }
+    if absent(place_of(cluster, segment)) {
+        return unchanged(store, ABSENT);
+    }
+    let mut next = store;
+    next.clusters[at] = with_place(cluster, segment, Place::Absent);
+    unchanged(next, 0)
+}
+
+// Call 9: the primary password of the mode named becomes the new one.
+pub fn new_password(
+    store: Store,
+    memory: &[u8],
+    mode: u8,
+    bytes: [u8; 23],
+    password: [u8; 16],
+) -> Done
+    ensures { λ r. ⌜ ended (r .store) (now (memory .entry)) (r .answer) []
+        ≡ aesStep (calls.call calls.Kind.newPassword (asked 0 0 mode 0 0 0 bytes password [] [])) (copyOf store (now (memory .entry))) ⌝ }
+{
+    let handle = Handle::decode(bytes);
+    let at = record_at(handle.node, handle.local);
+    let cluster = store.clusters[at];
+    let tables = aes::tables();
+    let sound = store::sound(store, memory.len());
+    let number = front(
+        &tables,
+        sound,
+        handle,
+        cluster,
+        false,
+        bad_mode(mode),
+        false,
+        mode,
+    );
+    if number != 0 {
+        return unchanged(store, number);
+    }
+    if !handle.primary() {
+        return unchanged(store, NOT_PRIMARY);
+    }
+    let read = cluster.read;
+    let write = cluster.write;
+    if handle::same(password, read) {
+        return unchanged(store, OLD_PASSWORD);
+    }
+    if handle::same(password, write) {
+        return unchanged(store, OLD_PASSWORD);
+    }
+    let mut next = store;
+    next.clusters[at] = with_password(cluster, mode, password);
+    let given = primary_handle(handle.node, handle.local, password);
+    Done {
+        store: next,
+        answer: handle_alone(given),
+    }
 }

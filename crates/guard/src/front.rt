@@ -1,5 +1,6 @@
 // The refusals that the calls which open a cluster share: 1 to 5, 8 and 9.
 use crate::Answer;
+use crate::Done;
 use crate::ELSEWHERE;
 use crate::FIELD;
 use crate::GAPPED;
@@ -8,18 +9,26 @@ use crate::NO_SUCH_PLACE;
 use crate::READ;
 use crate::UNSOUND;
 use crate::VIOLATED;
+use crate::WRITE;
 use aes::Tables;
 use handle::Handle;
 use store::CLUSTERS;
 use store::Cluster;
 use store::NODES;
+use store::Place;
+use store::SEGMENTS;
+use store::Segment;
+use store::Store;
 ghost use mathlib.Core.Path.{_≡_};
 ghost use Prim.Native.Nat.{_<_};
 ghost use Rattle.sizes.specs.Sizes.{records};
 ghost use Rattle.aes.specs.Tables.{IsTables};
 ghost use Rattle.handle.specs.Handles.{firstOf};
 ghost use Rattle.guard.specs.Calls.{primaryOf};
-ghost use Rattle.guard.specs.Entries.{numberAlone, recordAt, frontRows};
+ghost use Rattle.guard.specs.Entries.{numberAlone, leftAlone, handlesAlone, primaryBytes, badModes, recordAt, frontRows};
+ghost use Rattle.guard.specs.Steps.{zeroHandle};
+ghost use Rattle.store.specs.Records.{tableOf, placeOf, withPlace};
+ghost use Rattle.store.specs.Sound.{isAbsent};
 
 // The answer that gives a number and nothing else: a refusal, or a call done that gives nothing.
 pub fn number_alone(number: u8) -> Answer
@@ -32,6 +41,78 @@ pub fn number_alone(number: u8) -> Answer
         count: 0,
         length: 0,
     }
+}
+
+// Records, and a number alone: what a refusal leaves and gives, and a call done that gives nothing.
+pub fn unchanged(store: Store, number: u8) -> Done
+    ensures { λ r. ⌜ r ≡ leftAlone store number ⌝ }
+{
+    let answer = number_alone(number);
+    Done { store, answer }
+}
+
+// The answer of a call done that gives one handle.
+pub fn handle_alone(first: [u8; 23]) -> Answer
+    ensures { λ r. ⌜ r ≡ handlesAlone first zeroHandle ⌝ }
+{
+    Answer {
+        number: 0,
+        first,
+        second: [0; 23],
+        count: 0,
+        length: 0,
+    }
+}
+
+// The bytes of the primary handle of a cluster with a password.
+pub fn primary_handle(node: u16, local: u8, password: [u8; 16]) -> [u8; 23]
+    ensures { λ r. ⌜ r ≡ primaryBytes node local password ⌝ }
+{
+    let handle = Handle {
+        node,
+        local,
+        password,
+        selector: [255; 4],
+    };
+    handle.encode()
+}
+
+pub fn bad_mode(mode: u8) -> bool
+    ensures { λ r. ⌜ r ≡ badModes mode ⌝ }
+{
+    !((mode == READ) | (mode == WRITE))
+}
+
+pub fn absent(place: Place) -> bool
+    ensures { λ r. ⌜ r ≡ isAbsent place ⌝ }
+{
+    match place {
+        Place::Absent => true,
+        Place::Present { base: _, length: _ } => false,
+    }
+}
+
+// The place of a segment of a cluster; there is none above the last.
+pub fn place_of(cluster: Cluster, segment: usize) -> Place
+    ensures { λ r. ⌜ r ≡ placeOf (tableOf cluster) segment ⌝ }
+{
+    if SEGMENTS <= segment {
+        return Place::Absent;
+    }
+    let found = cluster.segments[segment];
+    found.place
+}
+
+// The record with the place of a segment replaced.
+pub fn with_place(cluster: Cluster, segment: usize, place: Place) -> Cluster
+    ensures { λ r. ⌜ r ≡ withPlace cluster segment place ⌝ }
+{
+    let mut changed = cluster;
+    if SEGMENTS <= segment {
+        return changed;
+    }
+    changed.segments[segment] = Segment { place };
+    changed
 }
 
 // The record of a cluster, or record 0 where there is no such place, so that it can be looked up before the place is

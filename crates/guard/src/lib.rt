@@ -3,11 +3,16 @@
 use store::Store;
 
 mod change; // change.rt: the calls that change a record and no byte
+mod create; // create.rt: calls 1 and 7
 mod front; // front.rt: the refusals that the calls which open a cluster share
 mod make; // make.rt: the call that makes a segment
 mod open; // open.rt: validation and reduction, which change nothing
 
 pub use change::delete_cluster;
+pub use change::delete_segment;
+pub use change::new_password;
+pub use create::new_cluster;
+pub use create::weaken;
 pub use make::new_segment;
 pub use open::reduce;
 pub use open::validate;
@@ -23,13 +28,21 @@ pub const GAPPED: u8 = 4;
 
 pub const ELSEWHERE: u8 = 5;
 
+pub const IN_USE: u8 = 6;
+
+pub const TWINS: u8 = 7;
+
 pub const INACTIVE: u8 = 8;
 
 pub const VIOLATED: u8 = 9;
 
 pub const NOT_PRIMARY: u8 = 10;
 
+pub const OLD_PASSWORD: u8 = 12;
+
 pub const PRESENT: u8 = 13;
+
+pub const ABSENT: u8 = 14;
 
 pub const NO_ROOM: u8 = 16;
 

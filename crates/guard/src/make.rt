@@ -4,9 +4,12 @@ use crate::NO_ROOM;
 use crate::NOT_PRIMARY;
 use crate::PRESENT;
 use crate::WRITE;
-use crate::change::unchanged;
+use crate::front::absent;
 use crate::front::front;
+use crate::front::place_of;
 use crate::front::record_at;
+use crate::front::unchanged;
+use crate::front::with_place;
 use handle::Handle;
 use store::Cluster;
 use store::Found;
@@ -14,15 +17,10 @@ use store::NODE_MEMORY;
 use store::NODES;
 use store::Place;
 use store::SEGMENTS;
-use store::Segment;
 use store::Store;
 ghost use mathlib.Core.Path.{_≡_};
 ghost use mathlib.Core.List.{[]};
-ghost use Prim.Native.Nat.{_<_};
 ghost use lib.ListN.{length, replicate};
-ghost use Rattle.sizes.specs.Sizes.{segments};
-ghost use Rattle.store.specs.Records.{tableOf, placeOf};
-ghost use Rattle.store.specs.Sound.{isAbsent};
 ghost use Rattle.guard.specs.Calls as calls;
 ghost use Rattle.guard.specs.Steps.{aesStep};
 ghost use Rattle.guard.specs.Entries.{copyOf, asked, ended};
@@ -36,19 +34,6 @@ fn clear(part: &mut [u8])
     while i < part.len() {
         part[i] = 0;
         i += 1;
-    }
-}
-
-// Whether a segment of a cluster is absent.
-fn absent(cluster: Cluster, segment: usize) -> bool
-    requires { ⌜ segment < segments ⌝ }
-    ensures { λ r. ⌜ r ≡ isAbsent (placeOf (tableOf cluster) segment) ⌝ }
-{
-    let found = cluster.segments[segment];
-    let place = found.place;
-    match place {
-        Place::Absent => true,
-        Place::Present { base, length } => false,
     }
 }
 
@@ -82,7 +67,7 @@ fn judge(
     if !handle.primary() {
         return NOT_PRIMARY;
     }
-    if !absent(cluster, segment) {
+    if !absent(place_of(cluster, segment)) {
         return PRESENT;
     }
     0
@@ -98,7 +83,7 @@ fn make(
     base: usize,
     size: usize,
 ) -> Cluster
-    requires { ⌜ CanMake (length (now memory)) node segment base size ⌝ }
+    requires { ⌜ CanMake (length (now memory)) node base size ⌝ }
     ensures { λ r. ⌜ Made node segment base size cluster r (now (memory .entry)) (now (memory .exit)) ⌝ }
 {
     let from = node * NODE_MEMORY + base;
@@ -108,9 +93,7 @@ fn make(
         base: base as u16,
         length: size as u16,
     };
-    let mut next = cluster;
-    next.segments[segment] = Segment { place };
-    next
+    with_place(cluster, segment, place)
 }
 
 // Call 3: the segment is present at the smallest base at which it fits, and its bytes are zero.

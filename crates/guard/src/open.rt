@@ -1,13 +1,12 @@
 // Validation and reduction: they open a cluster and change nothing.
 use crate::Answer;
-use crate::READ;
-use crate::WRITE;
+use crate::front::bad_mode;
 use crate::front::front;
+use crate::front::handle_alone;
 use crate::front::number_alone;
 use crate::front::primary;
 use crate::front::record_at;
 use handle::Handle;
-use store::CLUSTERS;
 use store::Store;
 ghost use mathlib.Core.Path.{_≡_};
 ghost use mathlib.Core.List.{[]};
@@ -24,7 +23,7 @@ pub fn validate(store: Store, memory: &[u8], mode: u8, bytes: [u8; 23]) -> u8
     let cluster = store.clusters[at];
     let tables = aes::tables();
     let sound = store::sound(store, memory.len());
-    let field = !((mode == READ) | (mode == WRITE));
+    let field = bad_mode(mode);
     front(&tables, sound, handle, cluster, false, field, false, mode)
 }
 
@@ -38,18 +37,12 @@ pub fn reduce(store: Store, memory: &[u8], mode: u8, bytes: [u8; 23]) -> Answer
     let cluster = store.clusters[at];
     let tables = aes::tables();
     let sound = store::sound(store, memory.len());
-    let field = !((mode == READ) | (mode == WRITE));
+    let field = bad_mode(mode);
     let number = front(&tables, sound, handle, cluster, false, field, false, mode);
     if number != 0 {
         return number_alone(number);
     }
     let password = primary(cluster, mode);
     let reduced = handle.reduce_with(&tables, password);
-    Answer {
-        number: 0,
-        first: reduced.encode(),
-        second: [0; 23],
-        count: 0,
-        length: 0,
-    }
+    handle_alone(reduced.encode())
 }

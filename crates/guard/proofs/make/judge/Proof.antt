@@ -1,6 +1,6 @@
--- Each return is the shared rows or one row more; a segment is looked at once the shared rows let its number pass.
+-- Each return is the shared rows or one row more.
 -- Assumes nothing.
-use Rattle.guard.proofs.JudgeLaws.{judge-front, judge-segment, judge-primary, judge-present, judge-none}
+use Rattle.guard.proofs.JudgeLaws.{judge-front, judge-primary, judge-present, judge-none}
 use borrow.Author.Needs.{needs}
 use Rattle.guard.proofs.make.judge.Statement.{statement}
 use Rattle.guard.proofs.make.judge.Tie as tie
@@ -10,9 +10,6 @@ returns c = search (needs, judge-front)
 
 returns-2 : tie.Need-returns-2
 returns-2 c = search (needs, judge-primary)
-
-absent-requires : tie.Need-absent-requires
-absent-requires c κs = search (needs, judge-segment)
 
 returns-3 : tie.Need-returns-3
 returns-3 c = search (needs, judge-present)
@@ -30,6 +27,7 @@ judge-spec =
     returns
     (λ c κs. search needs)
     returns-2
-    absent-requires
+    (λ c κs. search needs)
+    (λ c κs. search needs)
     returns-3
     returns-4)

@@ -4,8 +4,8 @@ use mathlib.Core.Path.{ap}
 use borrow.Author.Needs.{needs}
 use Rattle.guard.specs.declared.Answer.{Answer}
 use Rattle.guard.specs.declared.Done.{Done}
-use Rattle.guard.proofs.change.unchanged.Statement.{statement}
-use Rattle.guard.proofs.change.unchanged.Tie as tie
+use Rattle.guard.proofs.front.unchanged.Statement.{statement}
+use Rattle.guard.proofs.front.unchanged.Tie as tie
 
 returns : tie.Need-returns
 returns c = cc

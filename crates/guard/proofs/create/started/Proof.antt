@@ -1,0 +1,14 @@
+-- All but the flag and the passwords is as in an inactive record.
+-- Assumes nothing.
+use mathlib.Core.Path.{ap}
+use mathlib.Core.Bool.{true}
+use Rattle.store.specs.declared.Cluster.{Cluster}
+use borrow.Author.Needs.{needs}
+use Rattle.guard.proofs.create.started.Statement.{statement}
+use Rattle.guard.proofs.create.started.Tie as tie
+
+returns : tie.Need-returns
+returns c = ap (λ (d : Cluster). record { active = true; read = c .before .args .read; write = c .before .args .write; segments = d .segments }) (c .inactive-cluster .ensures)
+
+pub started-spec : {M : Type 1} → statement M
+started-spec = tie.close (tie.spec (λ c κs. search needs) returns)

@@ -1,0 +1,204 @@
+-- Two copies that are alike stay alike, and answer alike, under a call done that is about another cluster than the one
+-- set apart: it meets equal records, puts equal records and equal bytes at equal places, and what it reads lies outside
+-- the segments of the cluster set apart.
+-- Assumes nothing.
+use mathlib.Core.Path.{_≡_, refl, sym, ap, _∙_, subst}
+use mathlib.Core.Logic.{_≢_}
+use Prim.Native.Nat.{ℕ, _+_, _≤_, _<_}
+use native.Mathlib.Omega.{arith}
+use native.Mathlib.Decide.{ℕ-discrete, decLt}
+use mathlib.Core.Bool.{true}
+use mathlib.Core.List.{List, _++_}
+use lib.ListN.{length, take, drop, replicate, length-set}
+use Rattle.sizes.specs.Sizes.{nodes, clusters}
+use Rattle.handle.specs.Handles.{Name, nameOf, widthOf, encoded, reduced}
+use Rattle.store.specs.declared.Place.{Place}
+use Rattle.store.specs.declared.Place.the-variants.{Absent}
+use Rattle.store.specs.declared.Cluster.{Cluster}
+use Rattle.store.specs.declared.Store.{Store}
+use Rattle.store.specs.Records.{Table, Tables, inactive, started, tableOf, clusterAt, tableAt, placeOf, putRecord, withPlace}
+use Rattle.store.proofs.ChangeLaws.{put-other, put-same, put-out}
+use Rattle.guard.specs.Calls.{Copy, Call, call, Arguments, Kind, newCluster, deleteCluster, newSegment, deleteSegment}
+use Rattle.guard.specs.Calls.{read, write, weaken, reduce, newPassword, validate, opens, handleOf, nodeFor, localFor}
+use Rattle.guard.specs.Calls.{recordFor, placeFor, baseOf, lengthOf, address, startFor, primaryOf}
+use Rattle.guard.specs.Steps.{zeroHandle, handles, readReply, putCluster, putBytes, about, withPassword, newPlace, newStart}
+use Rattle.guard.specs.Steps.{clusterMade, clusterDeleted, segmentMade, segmentDeleted, segmentWritten, passwordReplaced}
+use Rattle.guard.specs.Steps.{left, segmentRead, given}
+use Rattle.isolation.specs.Copies.{SoundCopy, Done, InPlace, setApart, Alike, Shut}
+use Rattle.isolation.proofs.MemoryLaws.{length-overwritten, overwritten-both, part-same}
+use Rattle.isolation.proofs.CallLaws.{InRange}
+use Rattle.isolation.proofs.AddressLaws.{in-place, place-outside}
+use Rattle.isolation.proofs.DoneLaws.{done-range, shut-away, new-away}
+use Rattle.isolation.proofs.KeptLaws.{tables, facts, segment-fits, new-fits, write-fits, read-segment}
+use Rattle.isolation.proofs.NumberLaws.{alike-tables}
+
+module _ (node local : ℕ) where
+  pub put-table : (s : Store) (n : ℕ) (d : Cluster) → n ≢ setApart node local
+      → tableAt (putRecord s n d) (setApart node local) ≡ tableAt s (setApart node local)
+  put-table s n d ne = ap tableOf (put-other s n d (setApart node local) (λ q. ne (sym q)))
+
+  module _ (a b : Copy) (al : Alike node local a b) where
+    -- ---- one record put, one part overwritten
+
+    put-others : (n : ℕ) (d : Cluster) (m : ℕ) → m ≢ setApart node local
+        → clusterAt (putRecord (a .store) n d) m ≡ clusterAt (putRecord (b .store) n d) m
+    put-others n d m mz = go (ℕ-discrete m n) (decLt n (length (a .store .clusters)))
+      where
+        same : length (a .store .clusters) ≡ length (b .store .clusters)
+        same = al .records
+
+        go : Dec (m ≡ n) → Dec (n < length (a .store .clusters))
+            → clusterAt (putRecord (a .store) n d) m ≡ clusterAt (putRecord (b .store) n d) m
+        go (no q) h = put-other (a .store) n d m q ∙ al .others m mz ∙ sym (put-other (b .store) n d m q)
+        go (yes q) (yes h) = rw q (put-same (a .store) n d h ∙ sym (put-same (b .store) n d (omega (arith, same))))
+        go (yes q) (no h) =
+            ap (λ (s : Store). clusterAt s m) (put-out (a .store) n d (omega arith))
+            ∙ al .others m mz
+            ∙ ap (λ (s : Store). clusterAt s m) (sym (put-out (b .store) n d (omega (arith, same))))
+
+    alike-put : (n : ℕ) (d : Cluster) → n ≢ setApart node local → Alike node local (putCluster a n d) (putCluster b n d)
+    alike-put n d ne =
+        record {
+          records = length-set (a .store .clusters) n d ∙ al .records ∙ sym (length-set (b .store .clusters) n d);
+          others = put-others n d;
+          table = put-table (a .store) n d ne ∙ al .table ∙ sym (put-table (b .store) n d ne);
+          size = al .size;
+          bytes = λ p out.
+              al .bytes p
+              (λ i hi u. out i hi (subst (λ (t : Table). InPlace node (placeOf t i) p) (sym (put-table (a .store) n d ne)) u));
+        }
+
+    alike-bytes : (at : ℕ) (bs : List ℕ) → at + length bs ≤ length (a .memory)
+        → Alike node local (putBytes a at bs) (putBytes b at bs)
+    alike-bytes at bs fit =
+        let same : length (a .memory) ≡ length (b .memory) = al .size in
+        let fit′ : at + length bs ≤ length (b .memory) = omega arith in
+        record {
+          records = al .records;
+          others = al .others;
+          table = al .table;
+          size = length-overwritten (a .memory) at bs fit ∙ same ∙ sym (length-overwritten (b .memory) at bs fit′);
+          bytes = λ p out. overwritten-both (a .memory) (b .memory) at bs fit fit′ p (al .bytes p out);
+        }
+
+    -- a change made from the cluster's own record
+    change : (x : Call) (g : Cluster → Cluster) → recordFor x ≢ setApart node local
+        → Alike node local (putCluster a (recordFor x) (g (about x a))) (putCluster b (recordFor x) (g (about x b)))
+    change x g ne =
+        subst
+        (λ (d : Cluster). Alike node local (putCluster a (recordFor x) (g (about x a))) (putCluster b (recordFor x) (g d)))
+        (al .others (recordFor x) ne) (alike-put (recordFor x) (g (about x a)) ne)
+
+-- ---- what a call done leaves and gives
+
+module _ (node local : ℕ) (high : node < nodes) (low : local < clusters) (f : Name → List ℕ → ℕ → List ℕ) (a b : Copy)
+    (al : Alike node local a b) (k : SoundCopy a) (active : tables a (setApart node local) .active ≡ true)
+    (g : Arguments) where
+  abbrev Closed : Kind → Type 0
+  Closed kind = Shut node local f (call kind g) (a .store)
+
+  same-tables : tables a ≡ tables b
+  same-tables = alike-tables node local a b al
+
+  elsewhere : (kind : Kind) → opens kind ≡ true → Done f (call kind g) a → Closed kind
+      → recordFor (call kind g) ≢ setApart node local
+  elsewhere kind o e h = shut-away f (call kind g) (a .store) (length (a .memory)) e o node local low h
+
+  made-alike : Done f (call newSegment g) a → recordFor (call newSegment g) ≢ setApart node local
+      → Alike node local (segmentMade (call newSegment g) a) (segmentMade (call newSegment g) b)
+  unfolding segmentMade
+  made-alike e ne =
+      let x : Call = call newSegment g in
+      let cleared : List ℕ = replicate (g .size) 0 in
+      let made : Cluster → Cluster = λ d. withPlace d (g .segment) (newPlace x (tables a)) in
+      subst
+      (λ (ts : Tables).
+      Alike node local (segmentMade x a)
+      (putBytes (putCluster b (recordFor x) (withPlace (about x b) (g .segment) (newPlace x ts))) (newStart x ts) cleared))
+      same-tables
+      (alike-bytes node local (putCluster a (recordFor x) (made (about x a)))
+      (putCluster b (recordFor x) (made (about x b))) (change node local a b al x made ne) (newStart x (tables a)) cleared
+      (new-fits f g a k e))
+
+  written-alike : Done f (call write g) a
+      → Alike node local (segmentWritten (call write g) a) (segmentWritten (call write g) b)
+  unfolding segmentWritten
+  written-alike e =
+      let x : Call = call write g in
+      subst
+      (λ (ts : Tables).
+      Alike node local (segmentWritten x a) (putBytes b (startFor x ts) (take (lengthOf (placeFor x ts)) (g .bytes))))
+      same-tables
+      (alike-bytes node local a b al (startFor x (tables a)) (take (lengthOf (placeFor x (tables a))) (g .bytes))
+      (write-fits f g a k e))
+
+  pub left-alike : (kind : Kind) → Closed kind → Done f (call kind g) a
+      → Alike node local (left kind (call kind g) a) (left kind (call kind g) b)
+  unfolding left clusterMade clusterDeleted segmentDeleted passwordReplaced
+  left-alike newCluster h e =
+      change node local a b al (call newCluster g) (λ d. started (g .first) (g .second))
+      (new-away f g (a .store) (length (a .memory)) e (setApart node local) active)
+  left-alike deleteCluster h e =
+      change node local a b al (call deleteCluster g) (λ d. inactive) (elsewhere deleteCluster refl e h)
+  left-alike newSegment h e = made-alike e (elsewhere newSegment refl e h)
+  left-alike deleteSegment h e =
+      change node local a b al (call deleteSegment g) (λ d. withPlace d (g .segment) Absent)
+      (elsewhere deleteSegment refl e h)
+  left-alike read h e = al
+  left-alike write h e = written-alike e
+  left-alike weaken h e = al
+  left-alike reduce h e = al
+  left-alike newPassword h e =
+      change node local a b al (call newPassword g) (λ d. withPassword d (g .mode) (g .first))
+      (elsewhere newPassword refl e h)
+  left-alike validate h e = al
+
+  -- the segment that a read copies lies outside those of the cluster set apart
+  read-alike : Done f (call read g) a → recordFor (call read g) ≢ setApart node local
+      → segmentRead (call read g) a ≡ segmentRead (call read g) b
+  unfolding segmentRead
+  read-alike e ne =
+      ap (λ (bs : List ℕ). readReply (size (tables a)) (bs ++ drop (size (tables a)) (g .bytes))) part
+      ∙ ap (λ (ts : Tables). readReply (size ts) (take (size ts) (drop (startFor x ts) (b .memory)) ++ drop (size ts) (g .bytes)))
+      same-tables
+    where
+      x : Call
+      x = call read g
+
+      size : Tables → ℕ
+      size ts = lengthOf (placeFor x ts)
+
+      v : InRange (nodeFor x) (localFor x)
+      v = done-range f x (a .store) (length (a .memory)) e
+
+      part : take (size (tables a)) (drop (startFor x (tables a)) (a .memory))
+          ≡ take (size (tables a)) (drop (startFor x (tables a)) (b .memory))
+      part =
+          part-same (a .memory) (b .memory) (startFor x (tables a)) (size (tables a))
+          (segment-fits f g a k x v (read-segment f g a k e)) (al .size)
+          (λ p lo hi.
+          al .bytes p
+          (place-outside (a .store) (length (a .memory)) (facts a k) node local high low (nodeFor x) (localFor x)
+          (g .segment) (v .node-low) (v .local-low) (read-segment f g a k e) ne p
+          (in-place (nodeFor x) (placeFor x (tables a)) p lo hi)))
+
+  pub given-alike : (kind : Kind) → Closed kind → Done f (call kind g) a
+      → given f kind (call kind g) a ≡ given f kind (call kind g) b
+  unfolding given
+  given-alike newCluster h e = refl
+  given-alike deleteCluster h e = refl
+  given-alike newSegment h e = refl
+  given-alike deleteSegment h e = refl
+  given-alike read h e = read-alike e (elsewhere read refl e h)
+  given-alike write h e = refl
+  given-alike weaken h e = refl
+  given-alike reduce h e =
+      let x : Call = call reduce g in
+      ap
+      (λ (d : Cluster).
+      handles
+      (encoded (reduced (widthOf (handleOf x)) (f (nameOf (handleOf x))) (handleOf x) (primaryOf d (g .mode))))
+      zeroHandle 0)
+      (al .others (recordFor x) (elsewhere reduce refl e h))
+  given-alike newPassword h e = refl
+  given-alike validate h e = refl

@@ -1,0 +1,79 @@
+-- The computed lists. In a sound store the number is that of the rows below the first, and calls keep soundness: so only
+-- these rows are computed for each call.
+-- Assumes nothing.
+use mathlib.Core.Path.{_≡_, refl, ap, _∙_}
+use Prim.Native.Nat.{ℕ}
+use mathlib.Core.Bool.{Bool, true, false, not, _&&_, cond}
+use mathlib.Core.List.{List, [], _∷_, map}
+use Rattle.bits.specs.Sets.{has, setOf, count}
+use Rattle.bits.specs.Bytes.{bytes, wordFrom, word}
+use Rattle.loops.specs.Below.{every}
+use Rattle.loops.specs.Search.{leastFrom, least}
+use Rattle.sizes.specs.Sizes.{memory}
+use Rattle.handle.specs.Handles.{Name, encoded, decoded, samePassword, firstOf, validates, weakened, reduced}
+use Rattle.store.specs.declared.Store.{Store}
+use Rattle.store.specs.Sound.{inRanges, endsInside, inside, soundSegment, apart, nodeApart, zeroBytes, idle, settled, sound}
+use Rattle.store.specs.Placement.{clear, fits, newBase, placement}
+use Rattle.guard.specs.Calls.{Call, among}
+use Rattle.guard.specs.Numbers.{unsound, noPlace, badMode, badSegment, badSize, badField, gappedHandle, elsewhere}
+use Rattle.guard.specs.Numbers.{inUse, twins, inactiveCluster, valid, violated, notPrimary, notReferenced, oldPassword}
+use Rattle.guard.specs.Numbers.{segmentPresent, segmentAbsent, short, fullNode, spentHandle, rows, number}
+use Rattle.guard.specs.Steps.{clusterMade, clusterDeleted, segmentMade, segmentDeleted, segmentWritten}
+use Rattle.guard.specs.Steps.{passwordReplaced, left, segmentRead, given, step}
+use Rattle.isolation.specs.Statements.{start}
+use Rattle.isolation.specs.Cases.{added, bench, Case, damaged, refusals, orders, NumbersGiven}
+use Rattle.isolation.specs.Replies.{doneCalls, seen, EachDone}
+use Rattle.isolation.proofs.KeptLaws.{start-sound}
+use Rattle.isolation.proofs.RunLaws.{numberBelow, number-below, run-below}
+
+-- ---- the numbers
+
+bench-sound : sound bench memory ≡ true
+unfolding sound every soundSegment nodeApart settled idle zeroBytes apart inside inRanges endsInside
+bench-sound = refl
+
+abbrev benchNumber : Call → ℕ
+benchNumber x = numberBelow added x bench memory
+
+numbers-below : (cs : List Case)
+    → map (λ (c : Case). number added (c .call) bench memory) cs ≡ map (λ (c : Case). benchNumber (c .call)) cs
+numbers-below [] = refl
+numbers-below (c ∷ cs) = λ j. number-below added (c .call) bench memory bench-sound j ∷ numbers-below cs j
+
+refusals-below : map (λ (c : Case). benchNumber (c .call)) refusals ≡ map (λ (c : Case). c .number) refusals
+unfolding has setOf count bytes word wordFrom every least leastFrom encoded decoded samePassword validates
+    placement newBase fits clear apart inside inRanges endsInside
+    noPlace badMode badSegment badSize badField gappedHandle elsewhere inUse twins inactiveCluster
+    valid violated notPrimary notReferenced oldPassword segmentPresent segmentAbsent short fullNode spentHandle
+refusals-below = refl
+
+orders-below : map (λ (c : Case). benchNumber (c .call)) orders ≡ map (λ (c : Case). c .number) orders
+unfolding has setOf count bytes word wordFrom every least leastFrom encoded decoded samePassword validates
+    placement newBase fits clear apart inside inRanges endsInside
+    noPlace badMode badSegment badSize badField gappedHandle elsewhere inUse twins inactiveCluster
+    valid violated notPrimary notReferenced oldPassword segmentPresent segmentAbsent short fullNode spentHandle
+orders-below = refl
+
+damaged-told : map (λ (c : Case). number added (c .call) bench 16383) damaged ≡ map (λ (c : Case). c .number) damaged
+unfolding number unsound sound has setOf count bytes word wordFrom encoded decoded noPlace badMode badSegment badSize
+    badField gappedHandle elsewhere inUse twins inactiveCluster violated notPrimary notReferenced oldPassword
+    segmentPresent segmentAbsent short fullNode spentHandle
+damaged-told = refl
+
+pub numbers-given : NumbersGiven
+numbers-given =
+    record {
+      damaged = damaged-told;
+      refusals = numbers-below refusals ∙ refusals-below;
+      orders = numbers-below orders ∙ orders-below;
+    }
+
+-- ---- every kind done
+
+pub each-done : EachDone
+unfolding left given clusterMade clusterDeleted segmentMade segmentDeleted segmentWritten passwordReplaced segmentRead
+    has setOf count bytes word wordFrom every least leastFrom encoded decoded samePassword validates weakened reduced
+    placement newBase fits clear apart inside inRanges endsInside
+    noPlace badMode badSegment badSize badField gappedHandle elsewhere inUse twins inactiveCluster
+    valid violated notPrimary notReferenced oldPassword segmentPresent segmentAbsent short fullNode spentHandle
+each-done = ap seen (run-below added doneCalls start start-sound) ∙ refl

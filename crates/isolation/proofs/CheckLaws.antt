@@ -1,0 +1,252 @@
+-- Conditions 1 and 2 of single calls. A refusal is the second clause of `outcome`. A call done had what must hold, since
+-- each row, at its kind, is the test in question. Validation and weakening meet few rows: the others compute away, and
+-- what is left is compared with the chain of conversions and with the handle crate's weakening.
+-- Assumes nothing.
+use mathlib.Core.Path.{_≡_, refl, sym, ap, _∙_}
+use mathlib.Core.Logic.{_≢_, _⊎_, inl, inr}
+use Prim.Native.Nat.{ℕ, zero, suc}
+use native.Mathlib.Omega.{arith}
+use mathlib.Core.Bool.{Bool, true, false, not, _||_, cond}
+use mathlib.Core.List.{List, []}
+use lib.Dec.{eqb}
+use lib.ListN.{length, take, drop, length-drop}
+use lib.Seq.{length-take-le}
+use borrow.Author.Tests.{eqb-true, eq-eqb, not-false}
+use Rattle.loops.proofs.BelowLaws.{test-off}
+use Rattle.sizes.specs.Sizes.{passwordBytes}
+use Rattle.handle.specs.declared.Handle.{Handle}
+use Rattle.handle.specs.Sizes.{passwordAt, handleBytes}
+use Rattle.handle.specs.Selectors.{references, allFlat, gapped, spent, referenced}
+use Rattle.handle.specs.Handles.{Name, nameOf, nodeOf, widthOf, encoded, decoded, noSuchPlace, noHandle, reply, refusal}
+use Rattle.handle.specs.Handles.{weakenNumber, validates, weakened, weakening}
+use Rattle.handle.proofs.PasswordLaws.{equal-validates, validates-equal}
+use Rattle.handle.proofs.CodecLaws.{encoded-none}
+use Rattle.store.specs.declared.Store.{Store}
+use Rattle.store.specs.Records.{clusterAt, tableAt}
+use Rattle.store.specs.Sound.{sound}
+use Rattle.guard.specs.Calls.{Copy, Call, call, Arguments, Kind, newCluster, deleteCluster, newSegment, deleteSegment}
+use Rattle.guard.specs.Calls.{read, write, weaken, reduce, newPassword, validate, opens, readMode, writeMode, needed}
+use Rattle.guard.specs.Calls.{handleOf, buffer, recordNamed, primaryOf}
+use Rattle.guard.specs.Numbers.{unsound, noPlace, badMode, badSegment, badSize, badField, gappedHandle, elsewhere}
+use Rattle.guard.specs.Numbers.{inUse, twins, inactiveCluster, valid, violated, notPrimary, notReferenced, oldPassword}
+use Rattle.guard.specs.Numbers.{segmentPresent, segmentAbsent, short, fullNode, spentHandle, number}
+use Rattle.guard.specs.Steps.{Outcome, Reply, zeroHandle, plain, left, given, outcome, step}
+use Rattle.isolation.specs.Checks.{Refused, RefusalChangesNothing, Opener, Owner, Primary, Fresh, MustHold, DoneHeld}
+use Rattle.isolation.specs.Checks.{Judgeable, Judged, chained, ValidationJudges, ValidationIsReduction}
+use Rattle.isolation.specs.Checks.{weakenReply, WeakeningIs}
+use Rattle.isolation.proofs.CallLaws.{or-left, record-is, violated-is}
+use Rattle.isolation.proofs.DoneLaws.{no-row, done-even, done-active, done-valid}
+
+module _ (f : Name → List ℕ → ℕ → List ℕ) where
+  -- ---- condition 1
+
+  pub refusal-changes-nothing : RefusalChangesNothing f
+  unfolding step
+  refusal-changes-nothing x c ne = go (number f x (c .store) (length (c .memory))) refl
+    where
+      go : (n : ℕ) → number f x (c .store) (length (c .memory)) ≡ n → Refused f x c
+      go zero e = absurd (ne e)
+      go (suc n) e =
+          record {
+            copy = ap (λ (k : ℕ). outcome f k x c .copy) e;
+            reply = ap (λ (k : ℕ). outcome f k x c .reply) e ∙ ap (λ (k : ℕ). plain k (buffer x)) (sym e);
+          }
+
+  -- ---- the column "Must hold"
+
+  module _ (x : Call) (s : Store) (size : ℕ) (e : number f x s size ≡ 0) where
+    opener : opens (x .kind) ≡ true → Opener f (needed x) x s
+    opener o =
+        record {
+          valid = done-valid f x s size e o;
+          even = done-even f x s size e o;
+          active = ap (λ (n : ℕ). tableAt s n .active) (sym (record-is x o)) ∙ done-active f x s size e o;
+        }
+
+  module _ (g : Arguments) (s : Store) (size : ℕ) where
+    abbrev all : Kind → Bool
+    all k = allFlat (widthOf (handleOf (call k g))) (handleOf (call k g) .selector)
+
+    all-flat : (h : Handle) → (not (allFlat (widthOf h) (h .selector)) || false) ≡ false
+        → allFlat (widthOf h) (h .selector) ≡ true
+    all-flat h e =
+        not-false (allFlat (widthOf h) (h .selector)) (or-left (not (allFlat (widthOf h) (h .selector))) false e)
+
+    same-node : (h : Handle) → not (eqb (g .current) (nodeOf h)) ≡ false → g .current ≡ nodeOf h
+    same-node h e = eqb-true (g .current) (nodeOf h) (not-false (eqb (g .current) (nodeOf h)) e)
+
+    held-kind : (k : Kind) → number f (call k g) s size ≡ 0 → MustHold f k (call k g) s
+    unfolding notReferenced twins elsewhere notPrimary inUse
+    held-kind newCluster e = let r = no-row f (call newCluster g) s size e in record { free = r .inUse; two = r .twins }
+    held-kind deleteCluster e =
+        let x : Call = call deleteCluster g in
+        let r = no-row f x s size e in
+        record {
+          primary = record { opener = opener x s size e refl; flat = all-flat (handleOf x) (r .notPrimary) };
+          here = same-node (handleOf x) (r .elsewhere);
+        }
+    held-kind newSegment e =
+        let x : Call = call newSegment g in
+        let r = no-row f x s size e in
+        record {
+          primary = record { opener = opener x s size e refl; flat = all-flat (handleOf x) (r .notPrimary) };
+          here = same-node (handleOf x) (r .elsewhere);
+        }
+    held-kind deleteSegment e =
+        let x : Call = call deleteSegment g in
+        let r = no-row f x s size e in
+        record {
+          primary = record { opener = opener x s size e refl; flat = all-flat (handleOf x) (r .notPrimary) };
+          here = same-node (handleOf x) (r .elsewhere);
+        }
+    held-kind read e =
+        let x : Call = call read g in
+        record {
+          opener = opener x s size e refl;
+          refers = not-false (references (handleOf x .selector) (g .segment)) (no-row f x s size e .notReferenced);
+        }
+    held-kind write e =
+        let x : Call = call write g in
+        record {
+          opener = opener x s size e refl;
+          refers = not-false (references (handleOf x .selector) (g .segment)) (no-row f x s size e .notReferenced);
+        }
+    held-kind weaken e = tt
+    held-kind reduce e = opener (call reduce g) s size e refl
+    held-kind newPassword e =
+        let x : Call = call newPassword g in
+        record { opener = opener x s size e refl; flat = all-flat (handleOf x) (no-row f x s size e .notPrimary) }
+    held-kind validate e = opener (call validate g) s size e refl
+
+  pub done-held : DoneHeld f
+  done-held x s size e = held-kind (x .args) s size (x .kind) e
+
+  -- ---- condition 2
+
+  pub validation-is-reduction : ValidationIsReduction f
+  unfolding number unsound noPlace badField badMode badSegment badSize gappedHandle elsewhere inUse twins inactiveCluster
+      violated notPrimary notReferenced oldPassword segmentPresent segmentAbsent short fullNode spentHandle
+  validation-is-reduction g s size = refl
+
+  module _ (g : Arguments) (s : Store) (size : ℕ) where
+    abbrev x : Call
+    x = call validate g
+
+    abbrev h : Handle
+    h = handleOf x
+
+    -- the rows that validation meets
+    validation-rows : number f x s size
+        ≡ cond (unsound size x s) 1
+        (cond (noPlace x) 2
+        (cond (badField x) 3
+        (cond (gappedHandle x) 4 (cond (inactiveCluster x (tableAt s)) 8 (cond (violated f x s) 9 0)))))
+    unfolding number elsewhere inUse twins notPrimary notReferenced oldPassword segmentPresent segmentAbsent short
+        fullNode spentHandle
+    validation-rows = refl
+
+    mode-good : (g .mode ≡ readMode) ⊎ (g .mode ≡ writeMode) → badField x ≡ false
+    unfolding badField badMode badSegment badSize
+    mode-good (inl e) = rw e refl
+    mode-good (inr e) = rw e refl
+
+    row-nine : (a b c d e v : Bool) → a ≡ false → b ≡ false → c ≡ false → d ≡ false → e ≡ false
+        → cond {A = ℕ} a 1 (cond b 2 (cond c 3 (cond d 4 (cond e 8 (cond v 9 0))))) ≡ cond v 9 0
+    row-nine a b c d e v p q r s t = rw (p, q, r, s, t) refl
+
+    reached : Judgeable f g s size → number f x s size ≡ cond (violated f x s) 9 0
+    unfolding unsound noPlace gappedHandle inactiveCluster
+    reached j =
+        validation-rows
+        ∙ row-nine (unsound size x s) (noPlace x) (badField x) (gappedHandle x) (inactiveCluster x (tableAt s))
+        (violated f x s) (ap not (j .sound)) (ap (λ (t : Bool). t || false || false || false) (j .place))
+        (mode-good (j .mode)) (ap (λ (t : Bool). t || false) (j .even)) (ap (λ (t : Bool). not t || false) (j .active))
+
+    told : (v : Bool) → Judgeable f g s size → valid f (g .mode) h s ≡ v → number f x s size ≡ cond (not v) 9 0
+    told v j e =
+        reached j ∙ ap (λ (t : Bool). cond t 9 0) (violated-is x refl f s) ∙ ap (λ (t : Bool). cond (not t) 9 0) e
+
+    length-password : length (g .handle) ≡ handleBytes → length (h .password) ≡ passwordBytes
+    unfolding decoded
+    length-password e =
+        length-take-le passwordBytes (drop passwordAt (g .handle)) (simp length-drop (omega (arith, e)))
+
+  pub validation-judges : ValidationJudges f
+  unfolding valid
+  validation-judges sixteen g s size long primary j =
+      record {
+        right = λ e. told g s size true j (equal-validates w k h p e);
+        wrong = λ ne.
+            told g s size false j
+            (test-off (validates w k p h)
+            (λ e. ne (validates-equal w k h p (sixteen (nameOf h)) primary (length-password g s size long) e)));
+      }
+    where
+      h : Handle
+      h = handleOf (call validate g)
+
+      w : ℕ
+      w = widthOf h
+
+      k : List ℕ → ℕ → List ℕ
+      k = f (nameOf h)
+
+      p : List ℕ
+      p = primaryOf (clusterAt s (recordNamed h)) (g .mode)
+
+  -- ---- weakening
+
+  module _ (g : Arguments) (c : Copy) where
+    abbrev y : Call
+    y = call weaken g
+
+    abbrev old : Handle
+    old = handleOf y
+
+    weaken-number : (s : Store) (size : ℕ) → number f y s size ≡ weakenNumber (widthOf old) old (g .mask)
+    unfolding number weakenNumber unsound noPlace badField badMode badSegment badSize gappedHandle elsewhere inUse twins
+        inactiveCluster violated notPrimary notReferenced oldPassword segmentPresent segmentAbsent short fullNode
+        spentHandle
+    weaken-number s size =
+        go (noSuchPlace old) (gapped (widthOf old) (old .selector)) (spent (widthOf old) (g .mask) (old .selector))
+      where
+        go : (a b d : Bool) → cond {A = ℕ} (a || false || false || false) 2 (cond (b || false) 4 (cond d 17 0))
+            ≡ cond a 2 (cond b 4 (cond d 17 0))
+        go true b d = refl
+        go false true d = refl
+        go false false d = refl
+
+  pub weakening-is : WeakeningIs f
+  unfolding step weakening left given
+  weakening-is g c =
+      ap (λ (n : ℕ). outcome f n x c) (weaken-number g c (c .store) (length (c .memory)))
+      ∙ go (weakenNumber (widthOf h) h (g .mask))
+    where
+      x : Call
+      x = call weaken g
+
+      h : Handle
+      h = handleOf x
+
+      w : Handle
+      w = weakened (widthOf h) (f (nameOf h)) h (g .mask)
+
+      go : (n : ℕ) → outcome f n x c
+          ≡ record { copy = c; reply = weakenReply (reply n w (referenced (widthOf h) (w .selector))) }
+      go zero = refl
+      go (suc n) =
+          ap
+          (λ (b : List ℕ).
+          record {
+            copy = c;
+            reply =
+                record {
+                  number = suc n;
+                  first = b;
+                  second = zeroHandle;
+                  count = 0;
+                  length = 0;
+                  buffer = [];
+                };
+          })
+          (sym encoded-none)

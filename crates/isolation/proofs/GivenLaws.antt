@@ -1,0 +1,230 @@
+-- The handles that calls 1, 7, 8 and 9 give open the cluster on the copy left. Each is written to its bytes and read back;
+-- a primary handle's chain of conversions is empty, and the chains of a weakened and of a reduced handle end as the laws
+-- of one handle say.
+-- Assumes nothing.
+use mathlib.Core.Path.{_≡_, refl, sym, ap, _∙_, subst}
+use mathlib.Core.Logic.{_⊎_, inl, inr}
+use Prim.Native.Nat.{ℕ, _<_}
+use native.Mathlib.Omega.{arith}
+use native.Mathlib.Decide.{decLt}
+use mathlib.Core.Bool.{Bool, true, false, true≢false}
+use mathlib.Core.List.{List}
+use lib.Dec.{eqb}
+use lib.ListN.{length, List·getD-eq-default}
+use Rattle.sizes.specs.Sizes.{nodes, clusters, segments, passwordBytes}
+use Rattle.handle.specs.declared.Handle.{Handle}
+use Rattle.handle.specs.Sizes.{handleBytes}
+use Rattle.handle.specs.Selectors.{references, gapped, flats, spent}
+use Rattle.handle.specs.Handles.{Name, nameOf, widthOf, encoded, decoded, Holdable, Bytes, through, validates}
+use Rattle.handle.specs.Handles.{weakened, reduced}
+use Rattle.handle.specs.Opens.{primaryHandle}
+use Rattle.handle.proofs.HandleLaws.{name-weakened, valid-weakened, references-weakened}
+use Rattle.handle.proofs.HandleLaws.{name-reduced, valid-reduced, references-reduced}
+use Rattle.handle.proofs.OpensLaws.{opens-primary}
+use Rattle.handle.proofs.PasswordLaws.{equal-validates, validates-equal}
+use Rattle.handle.proofs.CodecLaws.{decode-encode, holdable-decoded, whole-decoded, holdable-weakened, holdable-reduced}
+use Rattle.store.specs.declared.Cluster.{Cluster}
+use Rattle.store.specs.declared.Store.{Store}
+use Rattle.store.specs.Records.{started, recordOf, noCluster, clusterAt, tableAt, putRecord}
+use Rattle.store.proofs.ChangeLaws.{put-same}
+use Rattle.guard.specs.Calls.{Copy, Call, call, Arguments, newCluster, weaken, reduce, newPassword, readMode, writeMode}
+use Rattle.guard.specs.Calls.{handleOf, nodeFor, localFor, recordFor, recordNamed, primaryOf}
+use Rattle.guard.specs.Numbers.{gappedHandle, spentHandle, valid}
+use Rattle.guard.specs.Steps.{Outcome, about, withPassword, clusterMade, passwordReplaced, left, given}
+use Rattle.isolation.specs.Copies.{Done}
+use Rattle.isolation.specs.Checks.{NoRow}
+use Rattle.isolation.specs.Effects.{Made, MadeOpens, otherMode, Renewed, RenewedOpens, Reduced, ReducedOpens}
+use Rattle.isolation.specs.Effects.{SixteenBytes, Weakened, WeakenedOpens}
+use Rattle.isolation.proofs.CallLaws.{or-left, InRange}
+use Rattle.isolation.proofs.DoneLaws.{no-row, done-range, done-mode, done-active, done-valid}
+use Rattle.isolation.proofs.KeptLaws.{step-done}
+
+-- an active record is one of the store's
+pub active-in : (s : Store) (n : ℕ) → tableAt s n .active ≡ true → n < length (s .clusters)
+active-in s n e = go (decLt n (length (s .clusters)))
+  where
+    go : Dec (n < length (s .clusters)) → n < length (s .clusters)
+    go (yes h) = h
+    go (no h) =
+        absurd (true≢false
+        (sym e ∙ ap (λ (c : Cluster). c .active) (List·getD-eq-default (s .clusters) noCluster (omega arith))))
+
+module _ (f : Name → List ℕ → ℕ → List ℕ) where
+  -- ---- primary handles
+
+  primary-valid : (n : Name) (mode : ℕ) (p : List ℕ) (s : Store) → n .node < nodes → n .local < clusters
+      → length p ≡ passwordBytes → primaryOf (clusterAt s (recordOf (n .node) (n .local))) mode ≡ p
+      → valid f mode (decoded (encoded (primaryHandle segments n p))) s ≡ true
+  unfolding valid
+  primary-valid n mode p s hn hl hp e =
+      ap (λ (h : Handle). valid f mode h s) (decode-encode h (record {
+        node = omega arith;
+        local = omega arith;
+        password = hp;
+        selector = refl;
+      }))
+      ∙ equal-validates segments (f n) h _
+      (ap (through segments (f n) (flats segments)) e ∙ opens-primary segments (f n) n p .valid)
+    where
+      h : Handle
+      h = primaryHandle segments n p
+
+  pub made-opens : MadeOpens f
+  unfolding left given clusterMade
+  made-opens g c shape lp lq e =
+      subst (Made f) (sym (step-done f x c e)) (record {
+        reading =
+            primary-valid n readMode (g .first) s (v .node-low) (v .local-low) lp
+            (ap (λ (d : Cluster). d .read) here);
+        writing =
+            primary-valid n writeMode (g .second) s (v .node-low) (v .local-low) lq
+            (ap (λ (d : Cluster). d .write) here);
+      })
+    where
+      x : Call
+      x = call newCluster g
+
+      n : Name
+      n = record { node = nodeFor x; local = localFor x }
+
+      s : Store
+      s = putRecord (c .store) (recordFor x) (started (g .first) (g .second))
+
+      v : InRange (nodeFor x) (localFor x)
+      v = done-range f x (c .store) (length (c .memory)) e
+
+      here : clusterAt s (recordFor x) ≡ started (g .first) (g .second)
+      here =
+          put-same (c .store) (recordFor x) (started (g .first) (g .second))
+          (omega (arith, shape .records, v .node-low, v .local-low))
+
+  pub renewed-opens : RenewedOpens f
+  unfolding left given passwordReplaced
+  renewed-opens g c lp e =
+      subst (Renewed f x c) (sym (step-done f x c e)) (record {
+        opens =
+            primary-valid (nameOf (handleOf x)) (g .mode) (g .first) s (v .node-low) (v .local-low) lp
+            (ap (λ (d : Cluster). primaryOf d (g .mode)) here ∙ new mode);
+        other = ap (λ (d : Cluster). primaryOf d (otherMode (g .mode))) here ∙ old mode;
+      })
+    where
+      x : Call
+      x = call newPassword g
+
+      d : Cluster
+      d = withPassword (about x c) (g .mode) (g .first)
+
+      s : Store
+      s = putRecord (c .store) (recordFor x) d
+
+      v : InRange (nodeFor x) (localFor x)
+      v = done-range f x (c .store) (length (c .memory)) e
+
+      here : clusterAt s (recordFor x) ≡ d
+      here =
+          put-same (c .store) (recordFor x) d
+          (active-in (c .store) (recordFor x) (done-active f x (c .store) (length (c .memory)) e refl))
+
+      mode : (g .mode ≡ readMode) ⊎ (g .mode ≡ writeMode)
+      mode = done-mode f x (c .store) (length (c .memory)) e
+
+      new : (g .mode ≡ readMode) ⊎ (g .mode ≡ writeMode) → primaryOf d (g .mode) ≡ g .first
+      new (inl q) = ap (λ (m : ℕ). primaryOf (withPassword (about x c) m (g .first)) m) q
+      new (inr q) = ap (λ (m : ℕ). primaryOf (withPassword (about x c) m (g .first)) m) q
+
+      old : (g .mode ≡ readMode) ⊎ (g .mode ≡ writeMode)
+          → primaryOf d (otherMode (g .mode)) ≡ primaryOf (about x c) (otherMode (g .mode))
+      old (inl q) =
+          ap (λ (m : ℕ). primaryOf (withPassword (about x c) m (g .first)) (otherMode m)) q
+          ∙ ap (λ (m : ℕ). primaryOf (about x c) (otherMode m)) (sym q)
+      old (inr q) =
+          ap (λ (m : ℕ). primaryOf (withPassword (about x c) m (g .first)) (otherMode m)) q
+          ∙ ap (λ (m : ℕ). primaryOf (about x c) (otherMode m)) (sym q)
+
+  -- ---- handles made from a handle
+
+  -- a handle of the same name, whose chain ends as its password
+  renamed-valid : (h r : Handle) (m : ℕ) (s : Store) → nameOf r ≡ nameOf h
+      → through segments (f (nameOf h)) (r .selector) (primaryOf (clusterAt s (recordNamed h)) m) ≡ r .password
+      → valid f m r s ≡ true
+  unfolding valid
+  renamed-valid h r m s q e =
+      ap
+      (λ (n : Name). validates segments (f n) (primaryOf (clusterAt s (recordOf (n .node) (n .local))) m) r) q
+      ∙ equal-validates segments (f (nameOf h)) r (primaryOf (clusterAt s (recordNamed h)) m) e
+
+  module _ (sixteen : SixteenBytes f) (b : List ℕ) (o : Bytes handleBytes b) where
+    abbrev h : Handle
+    h = decoded b
+
+    chain : (m : ℕ) (s : Store) → length (primaryOf (clusterAt s (recordNamed h)) m) ≡ passwordBytes
+        → valid f m h s ≡ true
+        → through segments (f (nameOf h)) (h .selector) (primaryOf (clusterAt s (recordNamed h)) m) ≡ h .password
+    unfolding valid
+    chain m s l e =
+        validates-equal segments (f (nameOf h)) h (primaryOf (clusterAt s (recordNamed h)) m) (sixteen (nameOf h)) l
+        (holdable-decoded b o .password) e
+
+  pub reduced-opens : ReducedOpens f
+  unfolding left given
+  reduced-opens sixteen g c o l e =
+      subst (Reduced f x) (sym (step-done f x c e)) (record {
+        opens =
+            ap (λ (k : Handle). valid f (g .mode) k (c .store)) back
+            ∙ renamed-valid h r (g .mode) (c .store) (name-reduced segments (f (nameOf h)) h p)
+            (valid-reduced segments (f (nameOf h)) h p (whole-decoded (g .handle) o)
+            (chain sixteen (g .handle) o (g .mode) (c .store) l (done-valid f x (c .store) (length (c .memory)) e refl)));
+        refers = λ i k.
+            ap (λ (z : Handle). references (z .selector) i) back
+            ∙ references-reduced segments (f (nameOf h)) h p i k;
+      })
+    where
+      x : Call
+      x = call reduce g
+
+      h : Handle
+      h = decoded (g .handle)
+
+      p : List ℕ
+      p = primaryOf (clusterAt (c .store) (recordNamed h)) (g .mode)
+
+      r : Handle
+      r = reduced segments (f (nameOf h)) h p
+
+      back : decoded (encoded r) ≡ r
+      back =
+          decode-encode r
+          (holdable-reduced segments (f (nameOf h)) (sixteen (nameOf h)) h (holdable-decoded (g .handle) o) p)
+
+  pub weakened-opens : WeakenedOpens f
+  unfolding left given gappedHandle spentHandle
+  weakened-opens sixteen g c o e =
+      subst (Weakened f x c) (sym (step-done f x c e)) (record {
+        opens = λ m l v.
+            ap (λ (k : Handle). valid f m k (c .store)) back
+            ∙ renamed-valid h r m (c .store) (name-weakened segments (f (nameOf h)) h (g .mask))
+            (valid-weakened segments (f (nameOf h)) h (g .mask) (row .spentHandle)
+            (primaryOf (clusterAt (c .store) (recordNamed h)) m)
+            (or-left (gapped segments (h .selector)) false (row .gappedHandle))
+            (chain sixteen (g .handle) o m (c .store) l v));
+        refers = λ i k.
+            ap (λ (z : Handle). references (z .selector) i) back
+            ∙ references-weakened segments (f (nameOf h)) h (g .mask) (row .spentHandle) i k;
+      })
+    where
+      x : Call
+      x = call weaken g
+
+      h : Handle
+      h = decoded (g .handle)
+
+      row : NoRow f x (c .store) (length (c .memory))
+      row = no-row f x (c .store) (length (c .memory)) e
+
+      r : Handle
+      r = weakened segments (f (nameOf h)) h (g .mask)
+
+      back : decoded (encoded r) ≡ r
+      back =
+          decode-encode r
+          (holdable-weakened segments (f (nameOf h)) (sixteen (nameOf h)) h (holdable-decoded (g .handle) o) (g .mask))

@@ -1,0 +1,17 @@
+pub mod MemoryLaws
+pub mod FirstLaws
+pub mod CallLaws
+pub mod AddressLaws
+pub mod DoneLaws
+pub mod KeptLaws
+pub mod NumberLaws
+pub mod AlikeLaws
+pub mod TwoCopies
+pub mod ReaderLaws
+pub mod UnusedLaws
+pub mod CheckLaws
+pub mod RunLaws
+pub mod CaseLaws
+pub mod WitnessLaws
+pub mod GivenLaws
+pub mod EffectLaws

@@ -1,0 +1,152 @@
+-- The hypotheses of condition 3 are met by two differing copies, so the theorem applies to them. All is computed, but for
+-- the memory, whose bytes outside the segment are compared place by place.
+-- Assumes nothing.
+use mathlib.Core.Path.{_≡_, refl, sym, ap, _∙_}
+use Prim.Native.Nat.{ℕ, zero, suc}
+use native.Mathlib.Omega.{arith}
+use mathlib.Core.Bool.{true}
+use mathlib.Core.List.{List}
+use lib.ListN.{length, getD}
+use Rattle.bits.specs.Sets.{has, setOf, count}
+use Rattle.bits.specs.Bytes.{bytes, wordFrom, word}
+use Rattle.loops.specs.Below.{every}
+use Rattle.loops.specs.Search.{leastFrom, least}
+use Rattle.sizes.specs.Sizes.{memory}
+use Rattle.handle.specs.Handles.{encoded, decoded, samePassword, validates, weakened}
+use Rattle.store.specs.declared.Store.{Store}
+use Rattle.store.specs.Records.{startingStore, clusterAt, tableAt}
+use Rattle.store.specs.Sound.{inRanges, endsInside, inside, soundSegment, apart, nodeApart, zeroBytes, idle, settled, sound}
+use Rattle.store.specs.Placement.{clear, fits, newBase, placement}
+use Rattle.store.proofs.ChangeLaws.{put-other}
+use Rattle.guard.specs.Numbers.{unsound, noPlace, badMode, badSegment, badSize, badField, gappedHandle, elsewhere}
+use Rattle.guard.specs.Numbers.{inUse, twins, inactiveCluster, valid, violated, notPrimary, notReferenced, oldPassword}
+use Rattle.guard.specs.Numbers.{segmentPresent, segmentAbsent, short, fullNode, spentHandle, number}
+use Rattle.guard.specs.Steps.{Ran, clusterMade, clusterDeleted, segmentMade, segmentDeleted, segmentWritten}
+use Rattle.guard.specs.Steps.{passwordReplaced, left, segmentRead, given, step, run}
+use Rattle.isolation.specs.Copies.{SoundCopy, Outside, Alike, AllShut, keyed}
+use Rattle.isolation.specs.Statements.{Agreed}
+use Rattle.isolation.specs.Cases.{added}
+use Rattle.isolation.specs.Witness.{one, two, tries, answers, Witnessed, shown, Bites}
+use Rattle.isolation.proofs.RunLaws.{number-below, run-below, ShutBelow, shut-below}
+use Rattle.isolation.proofs.TwoCopies.{two-copies}
+
+sound-one : SoundCopy one
+unfolding sound every soundSegment nodeApart settled idle zeroBytes apart inside inRanges endsInside
+sound-one = refl
+
+sound-two : SoundCopy two
+unfolding sound every soundSegment nodeApart settled idle zeroBytes apart inside inRanges endsInside
+sound-two = refl
+
+alike : Alike 0 2 one two
+alike =
+    record {
+      records = refl;
+      others = λ n ne. put-other startingStore 2 _ n ne ∙ sym (put-other startingStore 2 _ n ne);
+      table = refl;
+      size = refl;
+      bytes = bytes-equal;
+    }
+  where
+    bytes-equal : (p : ℕ) → Outside 0 2 (tableAt (one .store)) p → getD (one .memory) p 0 ≡ getD (two .memory) p 0
+    bytes-equal zero out = absurd (out 5 (omega arith) (omega arith))
+    bytes-equal (suc zero) out = absurd (out 5 (omega arith) (omega arith))
+    bytes-equal (suc (suc zero)) out = absurd (out 5 (omega arith) (omega arith))
+    bytes-equal (suc (suc (suc zero))) out = absurd (out 5 (omega arith) (omega arith))
+    bytes-equal (suc (suc (suc (suc p)))) out = refl
+
+replies : run added tries one .replies ≡ answers
+unfolding left given clusterMade clusterDeleted segmentMade segmentDeleted segmentWritten passwordReplaced segmentRead
+    has setOf count bytes word wordFrom every least leastFrom encoded decoded samePassword validates weakened
+    placement newBase fits clear apart inside inRanges endsInside
+    noPlace badMode badSegment badSize badField gappedHandle elsewhere inUse twins inactiveCluster
+    valid violated notPrimary notReferenced oldPassword segmentPresent segmentAbsent short fullNode spentHandle
+replies = ap (λ (r : Ran). r .replies) (run-below added tries one sound-one) ∙ refl
+
+-- no call is keyed, on what the rows below the first make of a copy
+below-one : ShutBelow added 0 2 tries one
+unfolding keyed left given clusterMade clusterDeleted segmentMade segmentDeleted segmentWritten passwordReplaced
+    segmentRead has setOf count bytes word wordFrom every least leastFrom encoded decoded samePassword validates weakened
+    placement newBase fits clear apart inside inRanges endsInside
+    noPlace badMode badSegment badSize badField gappedHandle elsewhere inUse twins inactiveCluster
+    valid violated notPrimary notReferenced oldPassword segmentPresent segmentAbsent short fullNode spentHandle
+below-one = (
+  (refl, refl),
+  (
+    (refl, refl),
+    (
+      (refl, refl),
+      (
+        (refl, refl),
+        (
+          (refl, refl),
+          (
+            (refl, refl),
+            (
+              (refl, refl),
+              ((refl, refl), tt),
+            ),
+          ),
+        ),
+      ),
+    ),
+  ),
+)
+
+below-two : ShutBelow added 0 2 tries two
+unfolding keyed left given clusterMade clusterDeleted segmentMade segmentDeleted segmentWritten passwordReplaced
+    segmentRead has setOf count bytes word wordFrom every least leastFrom encoded decoded samePassword validates weakened
+    placement newBase fits clear apart inside inRanges endsInside
+    noPlace badMode badSegment badSize badField gappedHandle elsewhere inUse twins inactiveCluster
+    valid violated notPrimary notReferenced oldPassword segmentPresent segmentAbsent short fullNode spentHandle
+below-two = (
+  (refl, refl),
+  (
+    (refl, refl),
+    (
+      (refl, refl),
+      (
+        (refl, refl),
+        (
+          (refl, refl),
+          (
+            (refl, refl),
+            (
+              (refl, refl),
+              ((refl, refl), tt),
+            ),
+          ),
+        ),
+      ),
+    ),
+  ),
+)
+
+pub witnessed : Witnessed
+witnessed =
+    record {
+      sound-one = sound-one;
+      sound-two = sound-two;
+      active = refl;
+      alike = alike;
+      shut-one = shut-below added 0 2 tries one sound-one below-one;
+      shut-two = shut-below added 0 2 tries two sound-two below-two;
+      replies = replies;
+    }
+
+-- condition 3 at the two copies
+pub agreed : Agreed 0 2 added tries one two
+agreed =
+    two-copies 0 2 added (omega arith) (omega arith) tries one two sound-one sound-two refl alike
+    (witnessed .shut-one) (witnessed .shut-two)
+
+pub bites : Bites
+unfolding has setOf count bytes word wordFrom every least leastFrom encoded decoded samePassword validates
+    placement newBase fits clear apart inside inRanges endsInside
+    noPlace badMode badSegment badSize badField gappedHandle elsewhere inUse twins inactiveCluster
+    valid violated notPrimary notReferenced oldPassword segmentPresent segmentAbsent short fullNode spentHandle
+bites =
+    record {
+      done = number-below added shown (one .store) memory sound-one ∙ refl;
+      refused = number-below added shown (two .store) memory sound-two ∙ refl;
+    }

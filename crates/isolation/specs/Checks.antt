@@ -1,0 +1,193 @@
+-- What `step` does, in words that are not its text: conditions 1 and 2, and the column "Must hold" of document 01's
+-- calls. For every conversion f:
+--     NoRow x s size       no row of the table applies to the call x, row by row
+--     DoneIsClear          a number is 0 just where no row applies
+--     Refused x c          the copy and the buffer are as they were; the handles are zero bytes, the count and length zero
+--     RefusalChangesNothing    condition 1: a call to which some row applies is so refused, with the number of the first
+--     MustHold k x s       the column "Must hold" for the kind k:
+--       Opener m             the handle validates in the mode m, is not gapped, and its cluster is active
+--       Primary m            so it does, and all its subselectors are flat
+--       Owner                it is a write primary handle of the current node
+--       Access m             it validates in the mode m and references the segment
+--       Fresh                the cluster is inactive, and the two passwords differ
+--     DoneHeld             a call done had what must hold
+--     Judgeable g s size   validation by the arguments g gets as far as row 9: the store is sound, the place exists, the
+--                          mode is one of the two, the selector is not gapped and the cluster is active
+--     chained g s          what the chain of conversions makes of the primary password of the mode named
+--     ValidationJudges     condition 2: then a handle of 23 bytes validates if its password is what the chain gives, and is
+--                          refused with 9 in every other case
+--     ValidationIsReduction    validation gives the number that call 8 would give
+--     WeakeningIs          call 7 replies what the handle crate's weakening does, whatever the store, and leaves it alone
+--     trimmed u g          the arguments g, those not used by u blank
+--     UnusedIgnored        calls that agree in what they use have equal steps
+-- Assumes nothing.
+use mathlib.Core.Path.{_≡_}
+use mathlib.Core.Logic.{_≢_, _⊎_}
+use Prim.Native.Nat.{ℕ}
+use mathlib.Core.Bool.{Bool, true, false}
+use mathlib.Core.List.{List, []}
+use lib.ListN.{length}
+use Rattle.sizes.specs.Sizes.{passwordBytes}
+use Rattle.handle.specs.declared.Weakened.{Weakened}
+use Rattle.handle.specs.Sizes.{handleBytes}
+use Rattle.handle.specs.Selectors.{references, allFlat, gapped}
+use Rattle.handle.specs.Handles.{Name, nameOf, nodeOf, widthOf, encoded, samePassword, noSuchPlace, through, weakening}
+use Rattle.store.specs.declared.Store.{Store}
+use Rattle.store.specs.Records.{recordOf, clusterAt, tableAt}
+use Rattle.store.specs.Sound.{sound}
+use Rattle.guard.specs.Calls.{Copy, Call, call, Arguments, Kind, newCluster, deleteCluster, newSegment, deleteSegment}
+use Rattle.guard.specs.Calls.{read, write, weaken, reduce, newPassword, validate, Uses, uses, readMode, writeMode}
+use Rattle.guard.specs.Calls.{handleOf, buffer, recordNamed, primaryOf}
+use Rattle.guard.specs.Numbers.{unsound, noPlace, badField, gappedHandle, elsewhere, inUse, twins, inactiveCluster}
+use Rattle.guard.specs.Numbers.{valid, violated, notPrimary, notReferenced, oldPassword, segmentPresent, segmentAbsent}
+use Rattle.guard.specs.Numbers.{short, fullNode, spentHandle, number}
+use Rattle.guard.specs.Steps.{Outcome, Reply, zeroHandle, plain, step}
+
+-- ---- unused arguments
+
+abbrev numberIf : Bool → ℕ → ℕ
+numberIf true n = n
+numberIf false n = 0
+
+abbrev bytesIf : Bool → List ℕ → List ℕ
+bytesIf true b = b
+bytesIf false b = []
+
+abbrev pub trimmed : Uses → Arguments → Arguments
+trimmed u g =
+    record {
+      current = numberIf (u .current) (g .current);
+      local = numberIf (u .local) (g .local);
+      mode = numberIf (u .mode) (g .mode);
+      segment = numberIf (u .segment) (g .segment);
+      size = numberIf (u .size) (g .size);
+      mask = numberIf (u .mask) (g .mask);
+      handle = bytesIf (u .handle) (g .handle);
+      first = bytesIf (u .first) (g .first);
+      second = bytesIf (u .second) (g .second);
+      bytes = bytesIf (u .bytes) (g .bytes);
+    }
+
+-- the reply of a weakening, as the guard gives it
+abbrev pub weakenReply : Weakened → Reply
+weakenReply w =
+    record {
+      number = w .number;
+      first = encoded (w .handle);
+      second = zeroHandle;
+      count = w .count;
+      length = 0;
+      buffer = [];
+    }
+
+module _ (f : Name → List ℕ → ℕ → List ℕ) where
+  abbrev pub UnusedIgnored : Type 0
+  UnusedIgnored =
+      (k : Kind) (g h : Arguments) (c : Copy) → trimmed (uses k) g ≡ trimmed (uses k) h
+      → step f (call k g) c ≡ step f (call k h) c
+
+  -- ---- condition 1
+
+  pub record NoRow (x : Call) (s : Store) (size : ℕ) : Type 0 where
+    pub unsound : unsound size x s ≡ false
+    pub noPlace : noPlace x ≡ false
+    pub badField : badField x ≡ false
+    pub gappedHandle : gappedHandle x ≡ false
+    pub elsewhere : elsewhere x ≡ false
+    pub inUse : inUse x (tableAt s) ≡ false
+    pub twins : twins x ≡ false
+    pub inactiveCluster : inactiveCluster x (tableAt s) ≡ false
+    pub violated : violated f x s ≡ false
+    pub notPrimary : notPrimary x ≡ false
+    pub notReferenced : notReferenced x ≡ false
+    pub oldPassword : oldPassword x s ≡ false
+    pub segmentPresent : segmentPresent x (tableAt s) ≡ false
+    pub segmentAbsent : segmentAbsent x (tableAt s) ≡ false
+    pub short : short x (tableAt s) ≡ false
+    pub fullNode : fullNode x (tableAt s) ≡ false
+    pub spentHandle : spentHandle x ≡ false
+
+  pub record DoneIsClear (x : Call) (s : Store) (size : ℕ) : Type 0 where
+    pub clear : number f x s size ≡ 0 → NoRow x s size
+    pub done : NoRow x s size → number f x s size ≡ 0
+
+  pub record Refused (x : Call) (c : Copy) : Type 0 where
+    pub copy : step f x c .copy ≡ c
+    pub reply : step f x c .reply ≡ plain (number f x (c .store) (length (c .memory))) (buffer x)
+
+  abbrev pub RefusalChangesNothing : Type 0
+  RefusalChangesNothing = (x : Call) (c : Copy) → number f x (c .store) (length (c .memory)) ≢ 0 → Refused x c
+
+  -- ---- the column "Must hold"
+
+  pub record Opener (mode : ℕ) (x : Call) (s : Store) : Type 0 where
+    pub valid : valid f mode (handleOf x) s ≡ true
+    pub even : gapped (widthOf (handleOf x)) (handleOf x .selector) ≡ false
+    pub active : tableAt s (recordNamed (handleOf x)) .active ≡ true
+
+  pub record Primary (mode : ℕ) (x : Call) (s : Store) : Type 0 where
+    pub opener : Opener mode x s
+    pub flat : allFlat (widthOf (handleOf x)) (handleOf x .selector) ≡ true
+
+  pub record Owner (x : Call) (s : Store) : Type 0 where
+    pub primary : Primary writeMode x s
+    pub here : x .args .current ≡ nodeOf (handleOf x)
+
+  pub record Access (mode : ℕ) (x : Call) (s : Store) : Type 0 where
+    pub opener : Opener mode x s
+    pub refers : references (handleOf x .selector) (x .args .segment) ≡ true
+
+  pub record Fresh (x : Call) (s : Store) : Type 0 where
+    pub free : tableAt s (recordOf (x .args .current) (x .args .local)) .active ≡ false
+    pub two : samePassword (x .args .first) (x .args .second) ≡ false
+
+  abbrev pub MustHold : Kind → Call → Store → Type 0
+  MustHold newCluster x s = Fresh x s
+  MustHold deleteCluster x s = Owner x s
+  MustHold newSegment x s = Owner x s
+  MustHold deleteSegment x s = Owner x s
+  MustHold read x s = Access readMode x s
+  MustHold write x s = Access writeMode x s
+  MustHold weaken x s = Unit {0}
+  MustHold reduce x s = Opener (x .args .mode) x s
+  MustHold newPassword x s = Primary (x .args .mode) x s
+  MustHold validate x s = Opener (x .args .mode) x s
+
+  abbrev pub DoneHeld : Type 0
+  DoneHeld = (x : Call) (s : Store) (size : ℕ) → number f x s size ≡ 0 → MustHold (x .kind) x s
+
+  -- ---- condition 2
+
+  pub record Judgeable (g : Arguments) (s : Store) (size : ℕ) : Type 0 where
+    pub sound : sound s size ≡ true
+    pub place : noSuchPlace (handleOf (call validate g)) ≡ false
+    pub mode : (g .mode ≡ readMode) ⊎ (g .mode ≡ writeMode)
+    pub even : gapped (widthOf (handleOf (call validate g))) (handleOf (call validate g) .selector) ≡ false
+    pub active : tableAt s (recordNamed (handleOf (call validate g))) .active ≡ true
+
+  abbrev pub chained : Arguments → Store → List ℕ
+  chained g s =
+      let h = handleOf (call validate g) in
+      through (widthOf h) (f (nameOf h)) (h .selector) (primaryOf (clusterAt s (recordNamed h)) (g .mode))
+
+  pub record Judged (g : Arguments) (s : Store) (size : ℕ) : Type 0 where
+    pub right : chained g s ≡ handleOf (call validate g) .password → number f (call validate g) s size ≡ 0
+    pub wrong : chained g s ≢ handleOf (call validate g) .password → number f (call validate g) s size ≡ 9
+
+  abbrev pub ValidationJudges : Type 0
+  ValidationJudges =
+      ((n : Name) (p : List ℕ) (c : ℕ) → length (f n p c) ≡ passwordBytes)
+      → (g : Arguments) (s : Store) (size : ℕ) → length (g .handle) ≡ handleBytes
+      → length (primaryOf (clusterAt s (recordNamed (handleOf (call validate g)))) (g .mode)) ≡ passwordBytes
+      → Judgeable g s size → Judged g s size
+
+  abbrev pub ValidationIsReduction : Type 0
+  ValidationIsReduction =
+      (g : Arguments) (s : Store) (size : ℕ)
+      → number f (call validate g) s size ≡ number f (call reduce g) s size
+
+  abbrev pub WeakeningIs : Type 0
+  WeakeningIs =
+      (g : Arguments) (c : Copy) → let h = handleOf (call weaken g) in
+      step f (call weaken g) c
+      ≡ record { copy = c; reply = weakenReply (weakening (widthOf h) (f (nameOf h)) h (g .mask)) }

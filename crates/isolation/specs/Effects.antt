@@ -1,0 +1,128 @@
+-- Document 01, "The calls", the column "Done, it gives and leaves", by what can be seen of it afterwards. For every
+-- conversion f and a call done:
+--     Shaped s           the store has all its records, and each has all its segments
+--     SixteenBytes f     the conversion gives sixteen bytes
+--     MadeOpens          call 1: the two handles validate, one for reading and one for writing, on the copy left
+--     RenewedOpens       call 9: the handle validates in the mode named on the copy left, and the other password stays
+--     ReducedOpens       call 8: the handle validates in the mode named, and references the same segments
+--     WeakenedOpens      call 7: the handle validates in each mode in which the old one does, and references those segments
+--                        of the old one that the mask keeps
+--     SameSegment x y    two calls are about the same segment
+--     WrittenReads       call 6 and then 5: the buffer begins with what was written
+--     NewReads           call 3 and then 5: the buffer begins with zeros
+--     ClusterGone        call 2: the record is that of the starting store
+--     SegmentGone        call 4: the segment is absent
+-- Assumes nothing.
+use mathlib.Core.Path.{_≡_}
+use Prim.Native.Nat.{ℕ, _<_}
+use mathlib.Core.Bool.{true, false, _&&_}
+use mathlib.Core.List.{List, _++_}
+use lib.Dec.{eqb}
+use lib.ListN.{length, take, drop, replicate}
+use Rattle.bits.specs.Sets.{has}
+use Rattle.sizes.specs.Sizes as N
+use Rattle.handle.specs.declared.Handle.{Handle}
+use Rattle.handle.specs.Sizes.{handleBytes}
+use Rattle.handle.specs.Selectors.{references}
+use Rattle.handle.specs.Handles.{Name, widthOf, decoded, Bytes}
+use Rattle.store.specs.declared.Place.the-variants.{Absent}
+use Rattle.store.specs.declared.Store.{Store}
+use Rattle.store.specs.Records.{inactive, clusterAt, tableAt}
+use Rattle.guard.specs.Calls.{Copy, Call, call, Arguments, newCluster, deleteCluster, newSegment, deleteSegment}
+use Rattle.guard.specs.Calls.{read, write, weaken, reduce, newPassword, readMode, writeMode, handleOf, nodeFor, localFor}
+use Rattle.guard.specs.Calls.{recordFor, placeFor, lengthOf, primaryOf}
+use Rattle.guard.specs.Numbers.{valid}
+use Rattle.guard.specs.Steps.{Outcome, step}
+use Rattle.isolation.specs.Copies.{SoundCopy, Done}
+
+pub record Shaped (s : Store) : Type 0 where
+  pub records : length (s .clusters) ≡ N.records
+  pub segments : (n : ℕ) → n < N.records → length (clusterAt s n .segments) ≡ N.segments
+
+abbrev pub SixteenBytes : (Name → List ℕ → ℕ → List ℕ) → Type 0
+SixteenBytes f = (n : Name) (p : List ℕ) (c : ℕ) → length (f n p c) ≡ N.passwordBytes
+
+pub record SameSegment (x y : Call) : Type 0 where
+  pub node : nodeFor y ≡ nodeFor x
+  pub local : localFor y ≡ localFor x
+  pub segment : y .args .segment ≡ x .args .segment
+
+abbrev pub otherMode : ℕ → ℕ
+otherMode m = elim (eqb m readMode) [ true ↦ writeMode | false ↦ readMode ]
+
+module _ (f : Name → List ℕ → ℕ → List ℕ) where
+  -- ---- the handles
+
+  pub record Made (o : Outcome) : Type 0 where
+    pub reading : valid f readMode (decoded (o .reply .first)) (o .copy .store) ≡ true
+    pub writing : valid f writeMode (decoded (o .reply .second)) (o .copy .store) ≡ true
+
+  abbrev pub MadeOpens : Type 0
+  MadeOpens =
+      (g : Arguments) (c : Copy) → Shaped (c .store) → length (g .first) ≡ N.passwordBytes
+      → length (g .second) ≡ N.passwordBytes → Done f (call newCluster g) c → Made (step f (call newCluster g) c)
+
+  pub record Renewed (x : Call) (c : Copy) (o : Outcome) : Type 0 where
+    pub opens : valid f (x .args .mode) (decoded (o .reply .first)) (o .copy .store) ≡ true
+    pub other : primaryOf (clusterAt (o .copy .store) (recordFor x)) (otherMode (x .args .mode))
+        ≡ primaryOf (clusterAt (c .store) (recordFor x)) (otherMode (x .args .mode))
+
+  abbrev pub RenewedOpens : Type 0
+  RenewedOpens =
+      (g : Arguments) (c : Copy) → length (g .first) ≡ N.passwordBytes → Done f (call newPassword g) c
+      → Renewed (call newPassword g) c (step f (call newPassword g) c)
+
+  pub record Reduced (x : Call) (o : Outcome) : Type 0 where
+    pub opens : valid f (x .args .mode) (decoded (o .reply .first)) (o .copy .store) ≡ true
+    pub refers : (i : ℕ) → i < widthOf (handleOf x)
+        → references (decoded (o .reply .first) .selector) i ≡ references (handleOf x .selector) i
+
+  abbrev pub ReducedOpens : Type 0
+  ReducedOpens =
+      SixteenBytes f → (g : Arguments) (c : Copy) → let x = call reduce g in
+      Bytes handleBytes (g .handle)
+      → length (primaryOf (clusterAt (c .store) (recordFor x)) (g .mode)) ≡ N.passwordBytes
+      → Done f x c → Reduced x (step f x c)
+
+  pub record Weakened (x : Call) (c : Copy) (o : Outcome) : Type 0 where
+    pub opens : (m : ℕ) → length (primaryOf (clusterAt (c .store) (recordFor x)) m) ≡ N.passwordBytes
+        → valid f m (handleOf x) (c .store) ≡ true → valid f m (decoded (o .reply .first)) (c .store) ≡ true
+    pub refers : (i : ℕ) → i < widthOf (handleOf x)
+        → references (decoded (o .reply .first) .selector) i
+        ≡ references (handleOf x .selector) i && has i (x .args .mask)
+
+  abbrev pub WeakenedOpens : Type 0
+  WeakenedOpens =
+      SixteenBytes f → (g : Arguments) (c : Copy) → let x = call weaken g in
+      Bytes handleBytes (g .handle) → Done f x c → Weakened x c (step f x c)
+
+  -- ---- the segments
+
+  abbrev pub WrittenReads : Type 0
+  WrittenReads =
+      (g h : Arguments) (c : Copy) → let x = call write g in
+      let y = call read h in
+      let d = step f x c .copy in
+      let n = lengthOf (placeFor x (tableAt (c .store))) in
+      SoundCopy c → SameSegment x y → Done f x c → Done f y d
+      → step f y d .reply .buffer ≡ take n (g .bytes) ++ drop n (h .bytes)
+
+  abbrev pub NewReads : Type 0
+  NewReads =
+      (g h : Arguments) (c : Copy) → let x = call newSegment g in
+      let y = call read h in
+      let d = step f x c .copy in
+      SoundCopy c → Shaped (c .store) → SameSegment x y → Done f x c → Done f y d
+      → step f y d .reply .buffer ≡ replicate (g .size) 0 ++ drop (g .size) (h .bytes)
+
+  -- ---- what is deleted
+
+  abbrev pub ClusterGone : Type 0
+  ClusterGone =
+      (g : Arguments) (c : Copy) → let x = call deleteCluster g in
+      Done f x c → clusterAt (step f x c .copy .store) (recordFor x) ≡ inactive
+
+  abbrev pub SegmentGone : Type 0
+  SegmentGone =
+      (g : Arguments) (c : Copy) → let x = call deleteSegment g in
+      Done f x c → placeFor x (tableAt (step f x c .copy .store)) ≡ Absent

@@ -1,0 +1,7 @@
+pub mod Copies
+pub mod Statements
+pub mod Checks
+pub mod Cases
+pub mod Replies
+pub mod Witness
+pub mod Effects

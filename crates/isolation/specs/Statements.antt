@@ -1,0 +1,89 @@
+-- Condition 3 and what stands beside it, each as one statement about `step` and `run`, for every conversion f.
+--     start                   the starting store with a memory of zeros
+--     StartSound              it is sound
+--     SoundKept               any list of calls leaves a sound copy sound
+--     Agreed xs a b           condition 3's conclusions, for the list xs on the copies a and b:
+--       replies                 the answers and the buffers are equal, call by call
+--       alike                   at the end every other record is equal, and every byte outside the cluster's segments
+--       others                  at the end the bytes of every segment of another cluster are equal
+--       held-first, held-second    in each copy the cluster's record and segment bytes are what they were at the start
+--     TwoCopies               condition 3: two sound copies, alike but for the segment bytes and the passwords of one
+--                             active cluster, of which no call shows a handle that validates in either copy
+--     ReadersAlterNothing     where no call of a list shows a handle of a cluster that validates for writing, its table,
+--                             its write password and its segments' bytes are at the end what they were
+--     Touched k x ts p        address p is a byte of the segment that the call x, of the kind k, makes or writes
+--     OnlyItsOwn x c          the call x on the copy c leaves every record but that of its own cluster as it was, and
+--                             every byte but those of the segment that it makes or writes
+--     OthersAlone             so does every call on a sound copy
+--     OtherHeld               and the record and the segment bytes of every cluster that a call is not about are held
+-- Assumes nothing.
+use mathlib.Core.Path.{_≡_}
+use mathlib.Core.Logic.{_≢_}
+use Prim.Native.Nat.{ℕ, _<_}
+use mathlib.Core.Bool.{true}
+use mathlib.Core.List.{List}
+use lib.ListN.{getD, replicate}
+use Rattle.sizes.specs.Sizes.{nodes, clusters, segments, memory}
+use Rattle.handle.specs.Handles.{Name}
+use Rattle.store.specs.Records.{Tables, startingStore, recordOf, clusterAt, tableAt, placeOn}
+use Rattle.guard.specs.Calls.{Copy, Call, Kind, newCluster, deleteCluster, newSegment, deleteSegment}
+use Rattle.guard.specs.Calls.{read, write, weaken, reduce, newPassword, validate, nodeFor, recordFor, placeFor}
+use Rattle.guard.specs.Steps.{Reply, newPlace, step, run}
+use Rattle.isolation.specs.Copies.{SoundCopy, InPlace, setApart, Alike, Held, Unaltered, AllShut, NoWriter}
+
+abbrev pub start : Copy
+start = record { store = startingStore; memory = replicate memory 0 }
+
+abbrev pub StartSound : Type 0
+StartSound = SoundCopy start
+
+abbrev pub Touched : Kind → Call → Tables → ℕ → Type 0
+Touched newCluster x ts p = ⊥
+Touched deleteCluster x ts p = ⊥
+Touched newSegment x ts p = InPlace (nodeFor x) (newPlace x ts) p
+Touched deleteSegment x ts p = ⊥
+Touched read x ts p = ⊥
+Touched write x ts p = InPlace (nodeFor x) (placeFor x ts) p
+Touched weaken x ts p = ⊥
+Touched reduce x ts p = ⊥
+Touched newPassword x ts p = ⊥
+Touched validate x ts p = ⊥
+
+-- the copy d is c but for what a call may change
+pub record OnlyItsOwn (x : Call) (c d : Copy) : Type 0 where
+  pub records : (n : ℕ) → n ≢ recordFor x → clusterAt (d .store) n ≡ clusterAt (c .store) n
+  pub bytes : (p : ℕ) → (Touched (x .kind) x (tableAt (c .store)) p → ⊥) → getD (d .memory) p 0 ≡ getD (c .memory) p 0
+
+module _ (f : Name → List ℕ → ℕ → List ℕ) where
+  abbrev pub SoundKept : Type 0
+  SoundKept = (xs : List Call) (c : Copy) → SoundCopy c → SoundCopy (run f xs c .copy)
+
+  abbrev pub OthersAlone : Type 0
+  OthersAlone = (x : Call) (c : Copy) → SoundCopy c → OnlyItsOwn x c (step f x c .copy)
+
+module _ (node local : ℕ) (f : Name → List ℕ → ℕ → List ℕ) where
+  abbrev pub OtherHeld : Type 0
+  OtherHeld =
+      node < nodes → local < clusters → (x : Call) (c : Copy) → SoundCopy c → recordFor x ≢ setApart node local
+      → Held node local c (step f x c .copy)
+
+  pub record Agreed (xs : List Call) (a b : Copy) : Type 0 where
+    pub replies : run f xs a .replies ≡ run f xs b .replies
+    pub alike : Alike node local (run f xs a .copy) (run f xs b .copy)
+    pub others : (v l i p : ℕ) → v < nodes → l < clusters → i < segments → recordOf v l ≢ setApart node local
+        → InPlace v (placeOn (tableAt (run f xs a .copy .store)) v l i) p
+        → getD (run f xs a .copy .memory) p 0 ≡ getD (run f xs b .copy .memory) p 0
+    pub held-first : Held node local a (run f xs a .copy)
+    pub held-second : Held node local b (run f xs b .copy)
+
+  abbrev pub TwoCopies : Type 0
+  TwoCopies =
+      node < nodes → local < clusters → (xs : List Call) (a b : Copy) → SoundCopy a → SoundCopy b
+      → tableAt (a .store) (setApart node local) .active ≡ true → Alike node local a b
+      → AllShut node local f xs a → AllShut node local f xs b → Agreed xs a b
+
+  abbrev pub ReadersAlterNothing : Type 0
+  ReadersAlterNothing =
+      node < nodes → local < clusters → (xs : List Call) (a : Copy) → SoundCopy a
+      → tableAt (a .store) (setApart node local) .active ≡ true → NoWriter node local f xs a
+      → Unaltered node local a (run f xs a .copy)

@@ -1,0 +1,80 @@
+-- Condition 3 is not empty, and it bites. The cluster set apart is local number 2 of node 0, with a segment of four bytes;
+-- the conversion and the shorthands for calls are those of the computed lists.
+--     holding r w b       a copy in which its passwords are sixteen r and sixteen w, and its four bytes b
+--     one, two            two such copies that differ in all of these
+--     tries               calls that name the cluster with wrong handles, weaken the right one, and work on another cluster
+--     answers             what both copies answer
+--     Witnessed           the copies and the list meet each hypothesis of condition 3, and the answers are computed
+--     shown               a read with the read primary handle of the copy one
+--     Bites               it is done on that copy and refused with 9 on the other
+-- Assumes nothing.
+use mathlib.Core.Path.{_≡_}
+use Prim.Native.Nat.{ℕ}
+use mathlib.Core.Bool.{true}
+use mathlib.Core.List.{List, [], _∷_}
+use lib.ListN.{replicate}
+use Rattle.sizes.specs.Sizes.{segments, memory}
+use Rattle.handle.specs.Selectors.{flats}
+use Rattle.store.specs.declared.Place.the-variants.{Present}
+use Rattle.store.specs.Records.{startingStore, started, recordOf, tableAt, putRecord, withPlace}
+use Rattle.guard.specs.Calls.{Copy, Call}
+use Rattle.guard.specs.Numbers.{number}
+use Rattle.guard.specs.Steps.{Reply, zeroHandle, plain, handles, readReply, run}
+use Rattle.isolation.specs.Copies.{SoundCopy, setApart, Alike, AllShut}
+use Rattle.isolation.specs.Cases as C
+
+abbrev holding : ℕ → ℕ → ℕ → Copy
+holding r w b =
+    record {
+      store = putRecord startingStore (recordOf 0 2) (withPlace (started (C.sixteen r) (C.sixteen w)) 5 (Present 0 4));
+      memory = b ∷ b ∷ b ∷ b ∷ replicate 16380 0;
+    }
+
+abbrev pub one : Copy
+one = holding 17 34 7
+
+abbrev pub two : Copy
+two = holding 1 2 9
+
+abbrev primary : ℕ → ℕ → List ℕ
+primary l b = C.shown 0 l b (flats segments)
+
+abbrev pub tries : List Call
+tries =
+    C.call5 (primary 2 5) 5 (replicate 6 9)
+    ∷ C.call2 0 (primary 2 5)
+    ∷ C.call1 0 2 (C.sixteen 3) (C.sixteen 4)
+    ∷ C.call7 (primary 2 17) 255
+    ∷ C.call1 0 3 (C.sixteen 3) (C.sixteen 4)
+    ∷ C.call3 0 (primary 3 4) 0 2
+    ∷ C.call5 (primary 3 3) 0 (replicate 3 9)
+    ∷ C.callV 2 (primary 2 4)
+    ∷ []
+
+abbrev pub answers : List Reply
+answers =
+    plain 9 (replicate 6 9)
+    ∷ plain 9 []
+    ∷ plain 6 []
+    ∷ handles (primary 2 17) zeroHandle 8
+    ∷ handles (primary 3 3) (primary 3 4) 0
+    ∷ plain 0 []
+    ∷ readReply 2 (0 ∷ 0 ∷ 9 ∷ [])
+    ∷ plain 9 []
+    ∷ []
+
+pub record Witnessed : Type 0 where
+  pub sound-one : SoundCopy one
+  pub sound-two : SoundCopy two
+  pub active : tableAt (one .store) (setApart 0 2) .active ≡ true
+  pub alike : Alike 0 2 one two
+  pub shut-one : AllShut 0 2 C.added tries one
+  pub shut-two : AllShut 0 2 C.added tries two
+  pub replies : run C.added tries one .replies ≡ answers
+
+abbrev pub shown : Call
+shown = C.call5 (primary 2 17) 5 (replicate 6 9)
+
+pub record Bites : Type 0 where
+  pub done : number C.added shown (one .store) memory ≡ 0
+  pub refused : number C.added shown (two .store) memory ≡ 9
