@@ -5,15 +5,16 @@ use mathlib.Core.Path.{_≡_, refl, sym, ap, _∙_}
 use mathlib.Core.List.{List, _++_, append-nil}
 use Prim.Native.Nat.{ℕ, _+_, _*_, _-_, _≤_, _<_}
 use native.Mathlib.Omega.{arith}
-use lib.ListN.{length, set, take, drop, replicate, length-set, length-replicate, drop-of-length-le}
+use lib.ListN.{length, set, drop, replicate, length-set, length-replicate, drop-of-length-le}
 use borrow.Author.Fill.{fill-none, fill-more}
-use borrow.Rule.Slice.PartMut.{putMid, midOf, postOf, post-is, mid-len}
+use borrow.Rule.Slice.PartMut.{putMid, midOf, mid-len}
 use Rattle.sizes.specs.Sizes.{nodeMemory}
 use Rattle.store.specs.declared.Place.the-variants.{Present}
 use Rattle.store.specs.declared.Cluster.{Cluster}
 use Rattle.store.specs.Records.{withPlace}
 use Rattle.guard.specs.Steps.{overwritten}
 use Rattle.guard.specs.Makes.{CanMake, Made}
+use Rattle.guard.proofs.CopyLaws.{put-is}
 
 -- ---- the loop over the part
 
@@ -46,12 +47,12 @@ module _ (before part : List ℕ) (i : ℕ) (w : Clearing before part i) where
 
 -- ---- the part back in the memory
 
-pub put-clear : (a n : ℕ) (m part : List ℕ) → a + n ≤ length m → part ≡ replicate (length (midOf a (a + n - a) m)) 0
+put-clear : (a n : ℕ) (m part : List ℕ) → a + n ≤ length m → part ≡ replicate (length (midOf a (a + n - a) m)) 0
     → putMid a (a + n - a) m part ≡ overwritten m a (replicate n 0)
 put-clear a n m part h e =
-    ap (λ (z : List ℕ). take a m ++ (z ++ postOf a (a + n - a) m)) (e ∙ ap (λ (k : ℕ). replicate k 0) (mid-len a (a + n) m h ∙ back a n))
-    ∙ ap (λ (z : List ℕ). take a m ++ (replicate n 0 ++ z)) (post-is a (a + n) m (omega arith))
-    ∙ ap (λ (k : ℕ). take a m ++ (replicate n 0 ++ drop (a + k) m)) (sym (length-replicate {A = ℕ} n 0))
+    let q : part ≡ replicate n 0 = e ∙ ap (λ (k : ℕ). replicate k 0) (mid-len a (a + n) m h ∙ back a n) in
+    let g : length part ≡ n = ap length q ∙ length-replicate n 0 in
+    put-is a (a + n) m part (omega arith) (omega arith) ∙ ap (λ (z : List ℕ). overwritten m a z) q
   where
     back : (a n : ℕ) → a + n - a ≡ n
     back a n = omega arith

@@ -5,6 +5,9 @@ pub mod ChangeLaws
 pub mod PasswordLaws
 pub mod CreateLaws
 pub mod ExampleLaws
+pub mod CopyLaws
+pub mod BytesNumbers
+pub mod BytesLaws
 pub mod ClearLaws
 pub mod JudgeLaws
 pub mod MakeLaws

@@ -3,4 +3,5 @@ pub mod Numbers
 pub mod Steps
 pub mod Entries
 pub mod Examples
+pub mod Access
 pub mod Makes

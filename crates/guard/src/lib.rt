@@ -2,12 +2,15 @@
 // the memory lent, and gives what `step` gives: a refused call leaves all as it was.
 use store::Store;
 
+mod bytes; // bytes.rt: the calls that move the bytes of a segment
 mod change; // change.rt: the calls that change a record and no byte
 mod create; // create.rt: calls 1 and 7
 mod front; // front.rt: the refusals that the calls which open a cluster share
 mod make; // make.rt: the call that makes a segment
 mod open; // open.rt: validation and reduction, which change nothing
 
+pub use bytes::read;
+pub use bytes::write;
 pub use change::delete_cluster;
 pub use change::delete_segment;
 pub use change::new_password;
@@ -38,11 +41,15 @@ pub const VIOLATED: u8 = 9;
 
 pub const NOT_PRIMARY: u8 = 10;
 
+pub const NOT_REFERENCED: u8 = 11;
+
 pub const OLD_PASSWORD: u8 = 12;
 
 pub const PRESENT: u8 = 13;
 
 pub const ABSENT: u8 = 14;
+
+pub const SHORT: u8 = 15;
 
 pub const NO_ROOM: u8 = 16;
 
