@@ -12,7 +12,6 @@ use mathlib.Core.List.{List, _++_}
 use lib.ListN.{length, take, drop, replicate, length-set}
 use Rattle.sizes.specs.Sizes.{nodes, clusters}
 use Rattle.handle.specs.Handles.{Name, nameOf, widthOf, encoded, reduced}
-use Rattle.store.specs.declared.Place.{Place}
 use Rattle.store.specs.declared.Place.the-variants.{Absent}
 use Rattle.store.specs.declared.Cluster.{Cluster}
 use Rattle.store.specs.declared.Store.{Store}
@@ -20,7 +19,7 @@ use Rattle.store.specs.Records.{Table, Tables, inactive, started, tableOf, clus
 use Rattle.store.proofs.ChangeLaws.{put-other, put-same, put-out}
 use Rattle.guard.specs.Calls.{Copy, Call, call, Arguments, Kind, newCluster, deleteCluster, newSegment, deleteSegment}
 use Rattle.guard.specs.Calls.{read, write, weaken, reduce, newPassword, validate, opens, handleOf, nodeFor, localFor}
-use Rattle.guard.specs.Calls.{recordFor, placeFor, baseOf, lengthOf, address, startFor, primaryOf}
+use Rattle.guard.specs.Calls.{recordFor, placeFor, lengthOf, startFor, primaryOf}
 use Rattle.guard.specs.Steps.{zeroHandle, handles, readReply, putCluster, putBytes, about, withPassword, newPlace, newStart}
 use Rattle.guard.specs.Steps.{clusterMade, clusterDeleted, segmentMade, segmentDeleted, segmentWritten, passwordReplaced}
 use Rattle.guard.specs.Steps.{left, segmentRead, given}

@@ -3,23 +3,22 @@
 -- Assumes nothing.
 use mathlib.Core.Path.{_≡_, refl, ap, _∙_}
 use Prim.Native.Nat.{ℕ}
-use mathlib.Core.Bool.{Bool, true, false, not, _&&_, cond}
+use mathlib.Core.Bool.{true}
 use mathlib.Core.List.{List, [], _∷_, map}
 use Rattle.bits.specs.Sets.{has, setOf, count}
 use Rattle.bits.specs.Bytes.{bytes, wordFrom, word}
 use Rattle.loops.specs.Below.{every}
 use Rattle.loops.specs.Search.{leastFrom, least}
 use Rattle.sizes.specs.Sizes.{memory}
-use Rattle.handle.specs.Handles.{Name, encoded, decoded, samePassword, firstOf, validates, weakened, reduced}
-use Rattle.store.specs.declared.Store.{Store}
+use Rattle.handle.specs.Handles.{encoded, decoded, samePassword, validates, weakened, reduced}
 use Rattle.store.specs.Sound.{inRanges, endsInside, inside, soundSegment, apart, nodeApart, zeroBytes, idle, settled, sound}
 use Rattle.store.specs.Placement.{clear, fits, newBase, placement}
-use Rattle.guard.specs.Calls.{Call, among}
+use Rattle.guard.specs.Calls.{Call}
 use Rattle.guard.specs.Numbers.{unsound, noPlace, badMode, badSegment, badSize, badField, gappedHandle, elsewhere}
 use Rattle.guard.specs.Numbers.{inUse, twins, inactiveCluster, valid, violated, notPrimary, notReferenced, oldPassword}
-use Rattle.guard.specs.Numbers.{segmentPresent, segmentAbsent, short, fullNode, spentHandle, rows, number}
+use Rattle.guard.specs.Numbers.{segmentPresent, segmentAbsent, short, fullNode, spentHandle, number}
 use Rattle.guard.specs.Steps.{clusterMade, clusterDeleted, segmentMade, segmentDeleted, segmentWritten}
-use Rattle.guard.specs.Steps.{passwordReplaced, left, segmentRead, given, step}
+use Rattle.guard.specs.Steps.{passwordReplaced, left, segmentRead, given}
 use Rattle.isolation.specs.Statements.{start}
 use Rattle.isolation.specs.Cases.{added, bench, Case, damaged, refusals, orders, NumbersGiven}
 use Rattle.isolation.specs.Replies.{doneCalls, seen, EachDone}

@@ -3,21 +3,21 @@
 -- what is left is compared with the chain of conversions and with the handle crate's weakening.
 -- Assumes nothing.
 use mathlib.Core.Path.{_≡_, refl, sym, ap, _∙_}
-use mathlib.Core.Logic.{_≢_, _⊎_, inl, inr}
+use mathlib.Core.Logic.{_⊎_, inl, inr}
 use Prim.Native.Nat.{ℕ, zero, suc}
 use native.Mathlib.Omega.{arith}
 use mathlib.Core.Bool.{Bool, true, false, not, _||_, cond}
 use mathlib.Core.List.{List, []}
 use lib.Dec.{eqb}
-use lib.ListN.{length, take, drop, length-drop}
+use lib.ListN.{length, drop, length-drop}
 use lib.Seq.{length-take-le}
-use borrow.Author.Tests.{eqb-true, eq-eqb, not-false}
+use borrow.Author.Tests.{eqb-true, not-false}
 use Rattle.loops.proofs.BelowLaws.{test-off}
 use Rattle.sizes.specs.Sizes.{passwordBytes}
 use Rattle.handle.specs.declared.Handle.{Handle}
 use Rattle.handle.specs.Sizes.{passwordAt, handleBytes}
 use Rattle.handle.specs.Selectors.{references, allFlat, gapped, spent, referenced}
-use Rattle.handle.specs.Handles.{Name, nameOf, nodeOf, widthOf, encoded, decoded, noSuchPlace, noHandle, reply, refusal}
+use Rattle.handle.specs.Handles.{Name, nameOf, nodeOf, widthOf, decoded, noSuchPlace, reply}
 use Rattle.handle.specs.Handles.{weakenNumber, validates, weakened, weakening}
 use Rattle.handle.proofs.PasswordLaws.{equal-validates, validates-equal}
 use Rattle.handle.proofs.CodecLaws.{encoded-none}
@@ -30,9 +30,10 @@ use Rattle.guard.specs.Calls.{handleOf, buffer, recordNamed, primaryOf}
 use Rattle.guard.specs.Numbers.{unsound, noPlace, badMode, badSegment, badSize, badField, gappedHandle, elsewhere}
 use Rattle.guard.specs.Numbers.{inUse, twins, inactiveCluster, valid, violated, notPrimary, notReferenced, oldPassword}
 use Rattle.guard.specs.Numbers.{segmentPresent, segmentAbsent, short, fullNode, spentHandle, number}
-use Rattle.guard.specs.Steps.{Outcome, Reply, zeroHandle, plain, left, given, outcome, step}
-use Rattle.isolation.specs.Checks.{Refused, RefusalChangesNothing, Opener, Owner, Primary, Fresh, MustHold, DoneHeld}
-use Rattle.isolation.specs.Checks.{Judgeable, Judged, chained, ValidationJudges, ValidationIsReduction}
+use Rattle.guard.specs.Steps.{zeroHandle, plain, left, given, outcome, step}
+use Rattle.isolation.specs.Copies.{SixteenBytes}
+use Rattle.isolation.specs.Checks.{Refused, RefusalChangesNothing, Opener, MustHold, DoneHeld}
+use Rattle.isolation.specs.Checks.{Judgeable, ValidationJudges, ValidationIsReduction}
 use Rattle.isolation.specs.Checks.{weakenReply, WeakeningIs}
 use Rattle.isolation.proofs.CallLaws.{or-left, record-is, violated-is}
 use Rattle.isolation.proofs.DoneLaws.{no-row, done-even, done-active, done-valid}
@@ -171,7 +172,7 @@ module _ (f : Name → List ℕ → ℕ → List ℕ) where
     length-password e =
         length-take-le passwordBytes (drop passwordAt (g .handle)) (simp length-drop (omega (arith, e)))
 
-  pub validation-judges : ValidationJudges f
+  pub validation-judges : SixteenBytes f → ValidationJudges f
   unfolding valid
   validation-judges sixteen g s size long primary j =
       record {

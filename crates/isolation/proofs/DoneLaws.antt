@@ -3,22 +3,22 @@
 -- Assumes nothing.
 use mathlib.Core.Path.{_≡_, refl, sym, ap, _∙_}
 use mathlib.Core.Logic.{_≢_, _⊎_, inl, inr}
-use Prim.Native.Nat.{ℕ, _+_, _≤_, _<_}
+use Prim.Native.Nat.{ℕ, _≤_, _<_}
 use native.Mathlib.Omega.{arith}
-use mathlib.Core.Bool.{Bool, true, false, _||_, true≢false}
-use mathlib.Core.List.{List, [], _∷_}
+use mathlib.Core.Bool.{true, false, _||_, true≢false}
+use mathlib.Core.List.{List}
 use mathlib.Core.Option.{Option, none, some}
-use lib.Dec.{leb, ltb, eqb}
+use lib.Dec.{eqb}
 use lib.ListN.{length}
-use borrow.Author.Tests.{leb-false, ltb-false, not-false}
-use Rattle.sizes.specs.Sizes.{clusters, segments}
+use borrow.Author.Tests.{ltb-false, not-false}
+use Rattle.sizes.specs.Sizes.{clusters}
 use Rattle.handle.specs.Selectors.{gapped}
 use Rattle.handle.specs.Handles.{Name, nodeOf, widthOf}
 use Rattle.store.specs.declared.Store.{Store}
-use Rattle.store.specs.Records.{Tables, tableAt}
+use Rattle.store.specs.Records.{tableAt}
 use Rattle.store.specs.Placement.{noRoomNumber, answered, newBase, placement}
-use Rattle.guard.specs.Calls.{Call, call, Arguments, newCluster, newSegment, write, opens, uses, readMode, writeMode}
-use Rattle.guard.specs.Calls.{needed, handleOf, buffer, nodeFor, localFor, recordFor, recordNamed, placeFor, lengthOf}
+use Rattle.guard.specs.Calls.{Call, call, Arguments, newCluster, newSegment, write, opens, readMode, writeMode}
+use Rattle.guard.specs.Calls.{needed, handleOf, nodeFor, localFor, recordFor, recordNamed, placeFor, lengthOf}
 use Rattle.guard.specs.Numbers.{unsound, noPlace, badMode, badSegment, badSize, badField, gappedHandle, elsewhere}
 use Rattle.guard.specs.Numbers.{inUse, twins, inactiveCluster, valid, violated, notPrimary, notReferenced, oldPassword}
 use Rattle.guard.specs.Numbers.{segmentPresent, segmentAbsent, short, fullNode, spentHandle, rows, number}

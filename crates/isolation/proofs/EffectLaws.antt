@@ -16,16 +16,16 @@ use Rattle.store.specs.declared.Place.{Place}
 use Rattle.store.specs.declared.Place.the-variants.{Absent}
 use Rattle.store.specs.declared.Segment.{Segment}
 use Rattle.store.specs.declared.Cluster.{Cluster}
-use Rattle.store.specs.Records.{Tables, absentSegment, inactive, tableOf, recordOf, clusterAt, tableAt, placeOf, placeAt}
-use Rattle.store.specs.Records.{putRecord, withPlace}
+use Rattle.store.specs.Records.{Tables, absentSegment, inactive, tableOf, recordOf, clusterAt, placeOf, placeAt}
+use Rattle.store.specs.Records.{withPlace}
 use Rattle.store.proofs.ChangeLaws.{put-same}
 use Rattle.guard.specs.Calls.{Copy, Call, call, Arguments, deleteCluster, newSegment, deleteSegment, read, write}
-use Rattle.guard.specs.Calls.{nodeFor, localFor, recordFor, placeFor, baseOf, lengthOf, address, startFor}
+use Rattle.guard.specs.Calls.{nodeFor, recordFor, placeFor, baseOf, lengthOf, address, startFor}
 use Rattle.guard.specs.Numbers.{badSegment}
 use Rattle.guard.specs.Steps.{Outcome, overwritten, about, newPlace, newStart}
 use Rattle.guard.specs.Steps.{clusterDeleted, segmentMade, segmentDeleted, segmentWritten, left, segmentRead, given, step}
-use Rattle.isolation.specs.Copies.{SoundCopy, Done}
-use Rattle.isolation.specs.Effects.{Shaped, SameSegment, WrittenReads, NewReads, ClusterGone, SegmentGone}
+use Rattle.isolation.specs.Copies.{Done}
+use Rattle.isolation.specs.Effects.{SameSegment, WrittenReads, NewReads, ClusterGone, SegmentGone}
 use Rattle.isolation.proofs.MemoryLaws.{part-overwritten}
 use Rattle.isolation.proofs.DoneLaws.{done-range, done-segment, done-active}
 use Rattle.isolation.proofs.KeptLaws.{tables, step-done, new-fits, write-fits, length-data}

@@ -7,15 +7,14 @@ use mathlib.Core.Logic.{_⊎_, inl, inr}
 use Prim.Native.Nat.{ℕ, _<_}
 use native.Mathlib.Omega.{arith}
 use native.Mathlib.Decide.{decLt}
-use mathlib.Core.Bool.{Bool, true, false, true≢false}
+use mathlib.Core.Bool.{true, false, true≢false}
 use mathlib.Core.List.{List}
-use lib.Dec.{eqb}
 use lib.ListN.{length, List·getD-eq-default}
 use Rattle.sizes.specs.Sizes.{nodes, clusters, segments, passwordBytes}
 use Rattle.handle.specs.declared.Handle.{Handle}
 use Rattle.handle.specs.Sizes.{handleBytes}
-use Rattle.handle.specs.Selectors.{references, gapped, flats, spent}
-use Rattle.handle.specs.Handles.{Name, nameOf, widthOf, encoded, decoded, Holdable, Bytes, through, validates}
+use Rattle.handle.specs.Selectors.{references, gapped, flats}
+use Rattle.handle.specs.Handles.{Name, nameOf, encoded, decoded, Bytes, through, validates}
 use Rattle.handle.specs.Handles.{weakened, reduced}
 use Rattle.handle.specs.Opens.{primaryHandle}
 use Rattle.handle.proofs.HandleLaws.{name-weakened, valid-weakened, references-weakened}
@@ -27,14 +26,14 @@ use Rattle.store.specs.declared.Cluster.{Cluster}
 use Rattle.store.specs.declared.Store.{Store}
 use Rattle.store.specs.Records.{started, recordOf, noCluster, clusterAt, tableAt, putRecord}
 use Rattle.store.proofs.ChangeLaws.{put-same}
-use Rattle.guard.specs.Calls.{Copy, Call, call, Arguments, newCluster, weaken, reduce, newPassword, readMode, writeMode}
+use Rattle.guard.specs.Calls.{Call, call, newCluster, weaken, reduce, newPassword, readMode, writeMode}
 use Rattle.guard.specs.Calls.{handleOf, nodeFor, localFor, recordFor, recordNamed, primaryOf}
 use Rattle.guard.specs.Numbers.{gappedHandle, spentHandle, valid}
-use Rattle.guard.specs.Steps.{Outcome, about, withPassword, clusterMade, passwordReplaced, left, given}
-use Rattle.isolation.specs.Copies.{Done}
+use Rattle.guard.specs.Steps.{about, withPassword, clusterMade, passwordReplaced, left, given}
+use Rattle.isolation.specs.Copies.{SixteenBytes}
 use Rattle.isolation.specs.Checks.{NoRow}
 use Rattle.isolation.specs.Effects.{Made, MadeOpens, otherMode, Renewed, RenewedOpens, Reduced, ReducedOpens}
-use Rattle.isolation.specs.Effects.{SixteenBytes, Weakened, WeakenedOpens}
+use Rattle.isolation.specs.Effects.{Weakened, WeakenedOpens}
 use Rattle.isolation.proofs.CallLaws.{or-left, InRange}
 use Rattle.isolation.proofs.DoneLaws.{no-row, done-range, done-mode, done-active, done-valid}
 use Rattle.isolation.proofs.KeptLaws.{step-done}

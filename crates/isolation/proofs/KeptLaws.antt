@@ -2,11 +2,10 @@
 -- crate shows to keep soundness; bytes are overwritten inside the slice, so that its length stays. What a call makes or
 -- writes is a segment of its own cluster, and lies outside the segments of every other one.
 -- Assumes nothing.
-use mathlib.Core.Path.{_≡_, refl, sym, ap, _∙_, subst}
+use mathlib.Core.Path.{_≡_, refl, sym, ap, _∙_}
 use mathlib.Core.Logic.{_≢_}
 use Prim.Native.Nat.{ℕ, zero, suc, _+_, _≤_, _<_}
 use native.Mathlib.Omega.{arith}
-use mathlib.Core.Bool.{true}
 use mathlib.Core.List.{List, [], _∷_}
 use lib.ListN.{length, take, replicate, length-replicate}
 use lib.Seq.{length-take-le}
@@ -26,7 +25,7 @@ use Rattle.guard.specs.Calls.{placeFor, lengthOf, startFor}
 use Rattle.guard.specs.Numbers.{badSegment, number}
 use Rattle.guard.specs.Steps.{putCluster, about, withPassword, newBaseFor, newPlace, newStart}
 use Rattle.guard.specs.Steps.{clusterMade, clusterDeleted, segmentMade, segmentDeleted, segmentWritten, passwordReplaced}
-use Rattle.guard.specs.Steps.{left, given, outcome, step, run}
+use Rattle.guard.specs.Steps.{left, given, outcome, step}
 use Rattle.isolation.specs.Copies.{SoundCopy, Done, setApart, Outside, Held}
 use Rattle.isolation.specs.Statements.{start, StartSound, SoundKept, Touched, OnlyItsOwn, OthersAlone, OtherHeld}
 use Rattle.isolation.proofs.MemoryLaws.{length-overwritten, overwritten-out}

@@ -15,3 +15,4 @@ pub mod CaseLaws
 pub mod WitnessLaws
 pub mod GivenLaws
 pub mod EffectLaws
+pub mod AesLaws

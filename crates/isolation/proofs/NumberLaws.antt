@@ -7,15 +7,15 @@ use mathlib.Core.Logic.{_≢_, _⊎_, inl, inr}
 use Prim.Native.Nat.{ℕ, _<_}
 use native.Mathlib.Decide.{ℕ-discrete}
 use mathlib.Core.Bool.{Bool, true, false, not, _&&_, true≢false}
-use mathlib.Core.List.{List, [], _∷_}
+use mathlib.Core.List.{List}
 use lib.ListN.{length}
 use borrow.Author.Tests.{not-false}
 use Rattle.sizes.specs.Sizes.{clusters}
 use Rattle.handle.specs.declared.Handle.{Handle}
-use Rattle.handle.specs.Handles.{Name, nameOf, nodeOf, widthOf, Row, validates}
+use Rattle.handle.specs.Handles.{Name, nameOf, nodeOf, widthOf, validates}
 use Rattle.store.specs.declared.Cluster.{Cluster}
 use Rattle.store.specs.declared.Store.{Store}
-use Rattle.store.specs.Records.{Table, Tables, tableOf, clusterAt, tableAt}
+use Rattle.store.specs.Records.{Tables, tableOf, tableAt}
 use Rattle.store.specs.Sound.{sound}
 use Rattle.guard.specs.Calls.{Copy, Call, call, Arguments, Kind, newCluster, deleteCluster, newSegment, deleteSegment}
 use Rattle.guard.specs.Calls.{read, write, weaken, reduce, newPassword, validate, opens, readMode, writeMode, needed}
@@ -24,7 +24,7 @@ use Rattle.guard.specs.Numbers.{unsound, noPlace, badField, gappedHandle, inUse
 use Rattle.guard.specs.Numbers.{isOld, oldPassword, segmentPresent, segmentAbsent, short, fullNode}
 use Rattle.guard.specs.Numbers.{byTables, byRecords, rows, number}
 use Rattle.isolation.specs.Copies.{SoundCopy, setApart, Alike, Shut}
-use Rattle.isolation.proofs.FirstLaws.{Line, Agree, first-agree}
+use Rattle.isolation.proofs.FirstLaws.{Agree, first-agree}
 use Rattle.isolation.proofs.CallLaws.{handle-range, named, mode-known, record-is, ungapped-is, violated-is}
 use Rattle.isolation.proofs.CallLaws.{not-keyed}
 

@@ -3,7 +3,6 @@
 -- nothing; done, it is about another cluster, and leaves and gives alike.
 -- Assumes nothing.
 use mathlib.Core.Path.{_≡_, refl, sym, ap, ap₂, _∙_, subst}
-use mathlib.Core.Logic.{_≢_}
 use Prim.Native.Nat.{ℕ, zero, suc, _<_}
 use native.Mathlib.Omega.{arith}
 use mathlib.Core.Bool.{true}
@@ -12,13 +11,13 @@ use lib.ListN.{length}
 use Rattle.sizes.specs.Sizes.{nodes, clusters}
 use Rattle.handle.specs.Handles.{Name}
 use Rattle.store.specs.declared.Cluster.{Cluster}
-use Rattle.store.specs.Records.{Table, tableOf, tableAt, placeOf}
+use Rattle.store.specs.Records.{Table, tableOf, placeOf}
 use Rattle.guard.specs.Calls.{Copy, Call, call, Arguments, Kind, newCluster, deleteCluster, newSegment, deleteSegment}
-use Rattle.guard.specs.Calls.{read, write, weaken, reduce, newPassword, validate, opens, buffer, recordFor}
+use Rattle.guard.specs.Calls.{read, write, weaken, reduce, newPassword, validate, opens, buffer}
 use Rattle.guard.specs.Numbers.{number}
 use Rattle.guard.specs.Steps.{Reply, plain, left, outcome, step, run}
 use Rattle.isolation.specs.Copies.{SoundCopy, Done, InPlace, setApart, Alike, Held, Shut, AllShut}
-use Rattle.isolation.specs.Statements.{Agreed, TwoCopies}
+use Rattle.isolation.specs.Statements.{TwoCopies}
 use Rattle.isolation.proofs.AddressLaws.{place-outside}
 use Rattle.isolation.proofs.DoneLaws.{shut-away, new-away}
 use Rattle.isolation.proofs.KeptLaws.{tables, facts, left-held, held-same, by-number, step-sound}

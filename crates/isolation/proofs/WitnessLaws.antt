@@ -4,26 +4,23 @@
 use mathlib.Core.Path.{_≡_, refl, sym, ap, _∙_}
 use Prim.Native.Nat.{ℕ, zero, suc}
 use native.Mathlib.Omega.{arith}
-use mathlib.Core.Bool.{true}
-use mathlib.Core.List.{List}
-use lib.ListN.{length, getD}
+use lib.ListN.{getD}
 use Rattle.bits.specs.Sets.{has, setOf, count}
 use Rattle.bits.specs.Bytes.{bytes, wordFrom, word}
 use Rattle.loops.specs.Below.{every}
 use Rattle.loops.specs.Search.{leastFrom, least}
 use Rattle.sizes.specs.Sizes.{memory}
 use Rattle.handle.specs.Handles.{encoded, decoded, samePassword, validates, weakened}
-use Rattle.store.specs.declared.Store.{Store}
-use Rattle.store.specs.Records.{startingStore, clusterAt, tableAt}
+use Rattle.store.specs.Records.{startingStore, tableAt}
 use Rattle.store.specs.Sound.{inRanges, endsInside, inside, soundSegment, apart, nodeApart, zeroBytes, idle, settled, sound}
 use Rattle.store.specs.Placement.{clear, fits, newBase, placement}
 use Rattle.store.proofs.ChangeLaws.{put-other}
-use Rattle.guard.specs.Numbers.{unsound, noPlace, badMode, badSegment, badSize, badField, gappedHandle, elsewhere}
+use Rattle.guard.specs.Numbers.{noPlace, badMode, badSegment, badSize, badField, gappedHandle, elsewhere}
 use Rattle.guard.specs.Numbers.{inUse, twins, inactiveCluster, valid, violated, notPrimary, notReferenced, oldPassword}
-use Rattle.guard.specs.Numbers.{segmentPresent, segmentAbsent, short, fullNode, spentHandle, number}
+use Rattle.guard.specs.Numbers.{segmentPresent, segmentAbsent, short, fullNode, spentHandle}
 use Rattle.guard.specs.Steps.{Ran, clusterMade, clusterDeleted, segmentMade, segmentDeleted, segmentWritten}
-use Rattle.guard.specs.Steps.{passwordReplaced, left, segmentRead, given, step, run}
-use Rattle.isolation.specs.Copies.{SoundCopy, Outside, Alike, AllShut, keyed}
+use Rattle.guard.specs.Steps.{passwordReplaced, left, segmentRead, given, run}
+use Rattle.isolation.specs.Copies.{SoundCopy, Outside, Alike, keyed}
 use Rattle.isolation.specs.Statements.{Agreed}
 use Rattle.isolation.specs.Cases.{added}
 use Rattle.isolation.specs.Witness.{one, two, tries, answers, Witnessed, shown, Bites}

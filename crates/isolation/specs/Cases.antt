@@ -25,7 +25,7 @@ use Rattle.handle.specs.Handles.{Name, encoded}
 use Rattle.store.specs.declared.Place.the-variants.{Present}
 use Rattle.store.specs.declared.Store.{Store}
 use Rattle.store.specs.Records.{startingStore, started, recordOf, putRecord, withPlace}
-use Rattle.guard.specs.Calls.{Call, call, Arguments, Kind, newCluster, deleteCluster, newSegment, deleteSegment}
+use Rattle.guard.specs.Calls.{Call, call, Arguments, newCluster, deleteCluster, newSegment, deleteSegment}
 use Rattle.guard.specs.Calls.{read, write, weaken, reduce, newPassword, validate}
 use Rattle.guard.specs.Numbers.{number}
 

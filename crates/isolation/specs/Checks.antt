@@ -41,7 +41,7 @@ use Rattle.guard.specs.Calls.{handleOf, buffer, recordNamed, primaryOf}
 use Rattle.guard.specs.Numbers.{unsound, noPlace, badField, gappedHandle, elsewhere, inUse, twins, inactiveCluster}
 use Rattle.guard.specs.Numbers.{valid, violated, notPrimary, notReferenced, oldPassword, segmentPresent, segmentAbsent}
 use Rattle.guard.specs.Numbers.{short, fullNode, spentHandle, number}
-use Rattle.guard.specs.Steps.{Outcome, Reply, zeroHandle, plain, step}
+use Rattle.guard.specs.Steps.{Reply, zeroHandle, plain, step}
 
 -- ---- unused arguments
 
@@ -176,8 +176,7 @@ module _ (f : Name → List ℕ → ℕ → List ℕ) where
 
   abbrev pub ValidationJudges : Type 0
   ValidationJudges =
-      ((n : Name) (p : List ℕ) (c : ℕ) → length (f n p c) ≡ passwordBytes)
-      → (g : Arguments) (s : Store) (size : ℕ) → length (g .handle) ≡ handleBytes
+      (g : Arguments) (s : Store) (size : ℕ) → length (g .handle) ≡ handleBytes
       → length (primaryOf (clusterAt s (recordNamed (handleOf (call validate g)))) (g .mode)) ≡ passwordBytes
       → Judgeable g s size → Judged g s size
 

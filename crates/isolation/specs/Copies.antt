@@ -2,6 +2,7 @@
 --     SoundCopy c       the records and the slice's length are sound
 --     InPlace v p a     address a of the slice is a byte of the place p in the memory of node v
 --     Done f x c        the call x gets the number 0 on the copy c, by the conversion f
+--     SixteenBytes f    the conversion f gives passwords of sixteen bytes
 -- Of the cluster of a node and a local number, the one set apart:
 --     setApart          its record
 --     names h           the handle h names it: node and local number, each compared alone
@@ -24,7 +25,7 @@ use mathlib.Core.Bool.{Bool, true, false, not, _&&_}
 use mathlib.Core.List.{List, [], _∷_}
 use lib.Dec.{eqb}
 use lib.ListN.{length, getD}
-use Rattle.sizes.specs.Sizes.{segments}
+use Rattle.sizes.specs.Sizes.{segments, passwordBytes}
 use Rattle.handle.specs.declared.Handle.{Handle}
 use Rattle.handle.specs.Selectors.{gapped}
 use Rattle.handle.specs.Handles.{Name, nodeOf, widthOf}
@@ -46,6 +47,9 @@ InPlace v (Present base size) a = (address v base ≤ a) × (a < address v base 
 
 abbrev pub Done : (Name → List ℕ → ℕ → List ℕ) → Call → Copy → Type 0
 Done f x c = number f x (c .store) (length (c .memory)) ≡ 0
+
+abbrev pub SixteenBytes : (Name → List ℕ → ℕ → List ℕ) → Type 0
+SixteenBytes f = (n : Name) (p : List ℕ) (c : ℕ) → length (f n p c) ≡ passwordBytes
 
 module _ (node local : ℕ) where
   abbrev pub setApart : ℕ

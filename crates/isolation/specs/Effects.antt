@@ -1,7 +1,6 @@
 -- Document 01, "The calls", the column "Done, it gives and leaves", by what can be seen of it afterwards. For every
 -- conversion f and a call done:
 --     Shaped s           the store has all its records, and each has all its segments
---     SixteenBytes f     the conversion gives sixteen bytes
 --     MadeOpens          call 1: the two handles validate, one for reading and one for writing, on the copy left
 --     RenewedOpens       call 9: the handle validates in the mode named on the copy left, and the other password stays
 --     ReducedOpens       call 8: the handle validates in the mode named, and references the same segments
@@ -21,7 +20,6 @@ use lib.Dec.{eqb}
 use lib.ListN.{length, take, drop, replicate}
 use Rattle.bits.specs.Sets.{has}
 use Rattle.sizes.specs.Sizes as N
-use Rattle.handle.specs.declared.Handle.{Handle}
 use Rattle.handle.specs.Sizes.{handleBytes}
 use Rattle.handle.specs.Selectors.{references}
 use Rattle.handle.specs.Handles.{Name, widthOf, decoded, Bytes}
@@ -33,14 +31,11 @@ use Rattle.guard.specs.Calls.{read, write, weaken, reduce, newPassword, readMod
 use Rattle.guard.specs.Calls.{recordFor, placeFor, lengthOf, primaryOf}
 use Rattle.guard.specs.Numbers.{valid}
 use Rattle.guard.specs.Steps.{Outcome, step}
-use Rattle.isolation.specs.Copies.{SoundCopy, Done}
+use Rattle.isolation.specs.Copies.{SoundCopy, Done, SixteenBytes}
 
 pub record Shaped (s : Store) : Type 0 where
   pub records : length (s .clusters) ≡ N.records
   pub segments : (n : ℕ) → n < N.records → length (clusterAt s n .segments) ≡ N.segments
-
-abbrev pub SixteenBytes : (Name → List ℕ → ℕ → List ℕ) → Type 0
-SixteenBytes f = (n : Name) (p : List ℕ) (c : ℕ) → length (f n p c) ≡ N.passwordBytes
 
 pub record SameSegment (x y : Call) : Type 0 where
   pub node : nodeFor y ≡ nodeFor x

@@ -28,7 +28,7 @@ use Rattle.handle.specs.Handles.{Name}
 use Rattle.store.specs.Records.{Tables, startingStore, recordOf, clusterAt, tableAt, placeOn}
 use Rattle.guard.specs.Calls.{Copy, Call, Kind, newCluster, deleteCluster, newSegment, deleteSegment}
 use Rattle.guard.specs.Calls.{read, write, weaken, reduce, newPassword, validate, nodeFor, recordFor, placeFor}
-use Rattle.guard.specs.Steps.{Reply, newPlace, step, run}
+use Rattle.guard.specs.Steps.{newPlace, step, run}
 use Rattle.isolation.specs.Copies.{SoundCopy, InPlace, setApart, Alike, Held, Unaltered, AllShut, NoWriter}
 
 abbrev pub start : Copy
