@@ -8,3 +8,6 @@ pub mod ExampleLaws
 pub mod CopyLaws
 pub mod BytesNumbers
 pub mod BytesLaws
+pub mod ClearLaws
+pub mod JudgeLaws
+pub mod MakeLaws

@@ -4,3 +4,4 @@ pub mod Steps
 pub mod Entries
 pub mod Examples
 pub mod Access
+pub mod Makes

@@ -6,6 +6,7 @@ mod bytes; // bytes.rt: the calls that move the bytes of a segment
 mod change; // change.rt: the calls that change a record and no byte
 mod create; // create.rt: calls 1 and 7
 mod front; // front.rt: the refusals that the calls which open a cluster share
+mod make; // make.rt: the call that makes a segment
 mod open; // open.rt: validation and reduction, which change nothing
 
 pub use bytes::read;
@@ -15,6 +16,7 @@ pub use change::delete_segment;
 pub use change::new_password;
 pub use create::new_cluster;
 pub use create::weaken;
+pub use make::new_segment;
 pub use open::reduce;
 pub use open::validate;
 
@@ -43,9 +45,13 @@ pub const NOT_REFERENCED: u8 = 11;
 
 pub const OLD_PASSWORD: u8 = 12;
 
+pub const PRESENT: u8 = 13;
+
 pub const ABSENT: u8 = 14;
 
 pub const SHORT: u8 = 15;
+
+pub const NO_ROOM: u8 = 16;
 
 // The two modes.
 pub const READ: u8 = 1;
