@@ -1,5 +1,5 @@
--- What the data about the kinds says. A call that opens a cluster presents one handle and is about that handle's cluster;
--- a call with no row 2 is about a place that exists; one with no row 3 needs the read mode or the write mode.
+-- What the data about the kinds says. A call that opens a cluster presents one handle and is about that handle's
+-- cluster; a call with no row 2 is about a place that exists; one with no row 3 needs the read mode or the write mode.
 -- Assumes nothing.
 use mathlib.Core.Path.{_≡_, refl, sym, ap, _∙_}
 use mathlib.Core.Logic.{_≢_, _⊎_, inl, inr}

@@ -1,5 +1,5 @@
--- The computed lists. In a sound store the number is that of the rows below the first, and calls keep soundness: so only
--- these rows are computed for each call.
+-- The computed lists. In a sound store the number is that of the rows below the first, and calls keep soundness: so
+-- only these rows are computed for each call.
 -- Assumes nothing.
 use mathlib.Core.Path.{_≡_, refl, ap, _∙_}
 use Prim.Native.Nat.{ℕ}
@@ -11,7 +11,8 @@ use Rattle.loops.specs.Below.{every}
 use Rattle.loops.specs.Search.{leastFrom, least}
 use Rattle.sizes.specs.Sizes.{memory}
 use Rattle.handle.specs.Handles.{encoded, decoded, samePassword, validates, weakened, reduced}
-use Rattle.store.specs.Sound.{inRanges, endsInside, inside, soundSegment, apart, nodeApart, zeroBytes, idle, settled, sound}
+use Rattle.store.specs.Sound.{inRanges, endsInside, inside, soundSegment, apart, nodeApart, zeroBytes, idle, settled}
+use Rattle.store.specs.Sound.{sound}
 use Rattle.store.specs.Placement.{clear, fits, newBase, placement}
 use Rattle.guard.specs.Calls.{Call}
 use Rattle.guard.specs.Numbers.{unsound, noPlace, badMode, badSegment, badSize, badField, gappedHandle, elsewhere}

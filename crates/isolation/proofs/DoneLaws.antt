@@ -1,5 +1,5 @@
--- What a call done has shown: no row of the table applied to it. So its place exists, its fields are good, its cluster is
--- active and its handle validates in the mode needed; and if it is not keyed to a cluster, it is about another one.
+-- What a call done has shown: no row of the table applied to it. So its place exists, its fields are good, its cluster
+-- is active and its handle validates in the mode needed; and if it is not keyed to a cluster, it is about another one.
 -- Assumes nothing.
 use mathlib.Core.Path.{_≡_, refl, sym, ap, _∙_}
 use mathlib.Core.Logic.{_≢_, _⊎_, inl, inr}
@@ -162,7 +162,8 @@ module _ (f : Name → List ℕ → ℕ → List ℕ) where
         → recordFor (call newCluster g) ≢ n
     unfolding inUse
     new-away e n active q =
-        true≢false (sym active ∙ ap (λ (k : ℕ). tableAt s k .active) (sym q) ∙ no-row (call newCluster g) s size e .inUse)
+        true≢false
+        (sym active ∙ ap (λ (k : ℕ). tableAt s k .active) (sym q) ∙ no-row (call newCluster g) s size e .inUse)
 
     pub new-base : number f (call newSegment g) s size ≡ 0
         → newBase (tableAt s) (nodeFor (call newSegment g)) (g .size) ≡ some (newBaseFor (call newSegment g) (tableAt s))

@@ -4,6 +4,7 @@ pub mod CallLaws
 pub mod AddressLaws
 pub mod DoneLaws
 pub mod KeptLaws
+pub mod EntryLaws
 pub mod NumberLaws
 pub mod AlikeLaws
 pub mod TwoCopies

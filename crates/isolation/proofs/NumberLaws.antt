@@ -126,7 +126,8 @@ module _ (node local : ℕ) (low : local < clusters) (f : Name → List ℕ → 
             ap (λ (m : ℕ). valid f m (handleOf x) s) e
             ∙ not-keyed x o f s node local writeMode (h .1) (ungapped-is x o even) p q
 
-    cases : ((nodeOf (handleOf x) ≡ node) × (handleOf x .local ≡ local)) ⊎ (recordNamed (handleOf x) ≢ setApart node local)
+    cases : ((nodeOf (handleOf x) ≡ node) × (handleOf x .local ≡ local))
+        ⊎ (recordNamed (handleOf x) ≢ setApart node local)
     cases = named node local low (nodeOf (handleOf x)) (handleOf x .local) (handle-range x o place)
 
     same-valid : valid f (needed x) (handleOf x) (a .store) ≡ valid f (needed x) (handleOf x) (b .store)
@@ -166,7 +167,8 @@ module _ (node local : ℕ) (low : local < clusters) (f : Name → List ℕ → 
 
 module _ (node local : ℕ) (low : local < clusters) (f : Name → List ℕ → ℕ → List ℕ) (a b : Copy)
     (al : Alike node local a b) where
-  same-old : (k : Kind) (g : Arguments) → Shut node local f (call k g) (a .store) → Shut node local f (call k g) (b .store)
+  same-old : (k : Kind) (g : Arguments) → Shut node local f (call k g) (a .store)
+      → Shut node local f (call k g) (b .store)
       → noPlace (call k g) ≡ false → gappedHandle (call k g) ≡ false → badField (call k g) ≡ false
       → violated f (call k g) (a .store) ≡ false → oldPassword (call k g) (a .store) ≡ oldPassword (call k g) (b .store)
   unfolding oldPassword

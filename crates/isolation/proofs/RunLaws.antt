@@ -1,5 +1,5 @@
--- A list run from a sound copy: soundness is kept, so at each call the first row does not apply and the number is that of
--- the rows below it.
+-- A list run from a sound copy: soundness is kept, so at each call the first row does not apply and the number is that
+-- of the rows below it.
 -- Assumes nothing.
 use mathlib.Core.Path.{_≡_, refl, sym, ap, _∙_, subst}
 use Prim.Native.Nat.{ℕ}

@@ -1,11 +1,12 @@
--- Document 01, "Numbers a call may be turned down with", as computed lists. Each call carries 99 in the arguments that it
--- does not use. The conversion adds its parameter to the first byte, and gives sixteen such bytes.
+-- Document 01, "Numbers a call may be turned down with", as computed lists. Each call carries 99 in the arguments that
+-- it does not use. The conversion adds its parameter to the first byte, and gives sixteen such bytes.
 --     added                     that conversion
 --     call1 .. call9, callV     the nine calls and validation, each with what it uses
 --     sixteen b                 sixteen bytes b
 --     shown v l b ss            the bytes of the handle of node v and local number l: sixteen bytes b, the selector ss
 --     primary b, weak b         the primary handle of node 1 and local number 2; one that references segment 5 alone
---     other b, gap, far, high, idle    handles that reference segment 6 alone, are gapped, of a node above 3, of a local
+--     other b, gap, far, high, idle    handles that reference segment 6 alone, are gapped, of a node above 3, of a
+--                                      local
 --                               number above 7, of an inactive cluster
 --     room, tight               buffers of three bytes and of two
 --     bench                     a store with that cluster: passwords of sixteen 3 and sixteen 4, and three bytes at 0

@@ -2,8 +2,10 @@
 -- calls. For every conversion f:
 --     NoRow x s size       no row of the table applies to the call x, row by row
 --     DoneIsClear          a number is 0 just where no row applies
---     Refused x c          the copy and the buffer are as they were; the handles are zero bytes, the count and length zero
---     RefusalChangesNothing    condition 1: a call to which some row applies is so refused, with the number of the first
+--     Refused x c          the copy and the buffer are as they were; the handles are zero bytes, the count and length
+--                          zero
+--     RefusalChangesNothing    condition 1: a call to which some row applies is so refused, with the number of the
+--                              first
 --     MustHold k x s       the column "Must hold" for the kind k:
 --       Opener m             the handle validates in the mode m, is not gapped, and its cluster is active
 --       Primary m            so it does, and all its subselectors are flat
@@ -11,13 +13,14 @@
 --       Access m             it validates in the mode m and references the segment
 --       Fresh                the cluster is inactive, and the two passwords differ
 --     DoneHeld             a call done had what must hold
---     Judgeable g s size   validation by the arguments g gets as far as row 9: the store is sound, the place exists, the
---                          mode is one of the two, the selector is not gapped and the cluster is active
+--     Judgeable g s size   validation by the arguments g gets as far as row 9: the store is sound, the place exists,
+--                          the mode is one of the two, the selector is not gapped and the cluster is active
 --     chained g s          what the chain of conversions makes of the primary password of the mode named
---     ValidationJudges     condition 2: then a handle of 23 bytes validates if its password is what the chain gives, and is
---                          refused with 9 in every other case
+--     ValidationJudges     condition 2: then a handle of 23 bytes validates if its password is what the chain gives,
+--                          and is refused with 9 in every other case
 --     ValidationIsReduction    validation gives the number that call 8 would give
---     WeakeningIs          call 7 replies what the handle crate's weakening does, whatever the store, and leaves it alone
+--     WeakeningIs          call 7 replies what the handle crate's weakening does, whatever the store, and leaves it
+--                          alone
 --     trimmed u g          the arguments g, those not used by u blank
 --     UnusedIgnored        calls that agree in what they use have equal steps
 -- Assumes nothing.

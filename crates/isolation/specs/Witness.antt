@@ -1,8 +1,9 @@
--- Condition 3 is not empty, and it bites. The cluster set apart is local number 2 of node 0, with a segment of four bytes;
--- the conversion and the shorthands for calls are those of the computed lists.
+-- Condition 3 is not empty, and it bites. The cluster set apart is local number 2 of node 0, with a segment of four
+-- bytes; the conversion and the shorthands for calls are those of the computed lists.
 --     holding r w b       a copy in which its passwords are sixteen r and sixteen w, and its four bytes b
 --     one, two            two such copies that differ in all of these
---     tries               calls that name the cluster with wrong handles, weaken the right one, and work on another cluster
+--     tries               calls that name the cluster with wrong handles, weaken the right one, and work on another
+--                         cluster
 --     answers             what both copies answer
 --     Witnessed           the copies and the list meet each hypothesis of condition 3, and the answers are computed
 --     shown               a read with the read primary handle of the copy one
