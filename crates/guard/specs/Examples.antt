@@ -4,7 +4,7 @@
 --     Question            what is asked of a selector, of placement, or the number of a call on a store
 --     Answer              what is told
 --     Example, answer     a question and what is told; what the definitions answer
---     arguments           a call's arguments: a handle, a mask, a segment and a size; the other fields are zero
+--     arguments           a call's arguments: a handle, a mask and a size; the other fields are zero or empty
 --     shown ss            the bytes of the handle of node 0 and local number 2 with the selector ss, its password zero
 --     weakening m ss      call 7 with the mask m and a handle with the selector ss
 --     making n            call 3 for n bytes on node 0, with the write primary handle of local number 2

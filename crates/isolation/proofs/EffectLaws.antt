@@ -58,7 +58,8 @@ module _ (f : Name → List ℕ → ℕ → List ℕ) where
       Done f y (o .copy) → step f y (o .copy) .reply .buffer ≡ take n (g .bytes) ++ drop n (h .bytes))
       (sym (step-done f x c e))
       (λ z.
-      read-is h (left write x c) (nodeFor x) (placeFor x (tables c)) written z (s .node) (same-place x y (tables c) s) part)
+      read-is h (left write x c) (nodeFor x) (placeFor x (tables c)) written z (s .node)
+      (same-place x y (tables c) s) part)
     where
       x : Call
       x = call write g

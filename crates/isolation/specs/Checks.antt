@@ -2,10 +2,8 @@
 -- calls. For every conversion f:
 --     NoRow x s size       no row of the table applies to the call x, row by row
 --     DoneIsClear          a number is 0 just where no row applies
---     Refused x c          the copy and the buffer are as they were; the handles are zero bytes, the count and length
---                          zero
---     RefusalChangesNothing    condition 1: a call to which some row applies is so refused, with the number of the
---                              first
+--     Refused x c          the copy and the buffer stay; the handles are zero bytes, the count and the length zero
+--     RefusalChangesNothing    condition 1: a call to which some row applies is so refused, with the first one's number
 --     MustHold k x s       the column "Must hold" for the kind k:
 --       Opener m             the handle validates in the mode m, is not gapped, and its cluster is active
 --       Primary m            so it does, and all its subselectors are flat
@@ -19,8 +17,8 @@
 --     ValidationJudges     condition 2: then a handle of 23 bytes validates if its password is what the chain gives,
 --                          and is refused with 9 in every other case
 --     ValidationIsReduction    validation gives the number that call 8 would give
---     WeakeningIs          call 7 replies what the handle crate's weakening does, whatever the store, and leaves it
---                          alone
+--     weakenReply          the handle crate's reply to a weakening, as the guard gives it
+--     WeakeningIs          call 7 gives that reply, whatever the store, and leaves the store alone
 --     trimmed u g          the arguments g, those not used by u blank
 --     UnusedIgnored        calls that agree in what they use have equal steps
 -- Assumes nothing.
@@ -71,7 +69,6 @@ trimmed u g =
       bytes = bytesIf (u .bytes) (g .bytes);
     }
 
--- the reply of a weakening, as the guard gives it
 abbrev pub weakenReply : Weakened → Reply
 weakenReply w =
     record {

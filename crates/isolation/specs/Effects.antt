@@ -15,8 +15,7 @@
 -- And of a call done or refused:
 --     OtherSegments      the record a has become b: active or not, passwords and the other segments are as they were
 --     OtherPassword      its table and the password of the other mode are as they were
---     Entries k x a b    what a call of the kind k leaves alone in the record of its own cluster, a before it and b
---                        after
+--     Entries k x a b    what a call of the kind k leaves alone in its own cluster's record, a before it and b after
 --     EntriesStay        so does every call
 -- Assumes nothing.
 use mathlib.Core.Path.{_≡_}
