@@ -1,1 +1,5 @@
+pub mod FirstLaws
+pub mod MemoryLaws
+pub mod CallLaws
+pub mod DoneLaws
 pub mod ExampleLaws

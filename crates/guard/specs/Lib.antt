@@ -1,4 +1,5 @@
 pub mod Calls
 pub mod Numbers
+pub mod Clear
 pub mod Steps
 pub mod Examples

@@ -27,10 +27,11 @@ use Rattle.guard.specs.Steps.{clusterMade, clusterDeleted, segmentMade, segment
 use Rattle.guard.specs.Steps.{passwordReplaced}
 use Rattle.guard.specs.Steps.{left, segmentRead, given}
 use Rattle.isolation.specs.Copies.{SoundCopy, Done, InPlace, setApart, Alike, Shut}
-use Rattle.isolation.proofs.MemoryLaws.{length-overwritten, overwritten-both, part-same}
-use Rattle.isolation.proofs.CallLaws.{InRange}
+use Rattle.guard.proofs.MemoryLaws.{length-overwritten, overwritten-both, part-same}
+use Rattle.guard.proofs.CallLaws.{InRange}
 use Rattle.isolation.proofs.AddressLaws.{in-place, place-outside}
-use Rattle.isolation.proofs.DoneLaws.{done-range, shut-away, new-away}
+use Rattle.guard.proofs.DoneLaws.{done-range, new-away}
+use Rattle.isolation.proofs.AwayLaws.{shut-away}
 use Rattle.isolation.proofs.KeptLaws.{tables, facts, segment-fits, new-fits, write-fits, read-segment}
 use Rattle.isolation.proofs.NumberLaws.{alike-tables}
 

@@ -35,8 +35,8 @@ use Rattle.isolation.specs.Copies.{SixteenBytes}
 use Rattle.isolation.specs.Checks.{Refused, RefusalChangesNothing, Opener, MustHold, DoneHeld}
 use Rattle.isolation.specs.Checks.{Judgeable, ValidationJudges, ValidationIsReduction}
 use Rattle.isolation.specs.Checks.{weakenReply, WeakeningIs}
-use Rattle.isolation.proofs.CallLaws.{or-left, record-is, violated-is}
-use Rattle.isolation.proofs.DoneLaws.{no-row, done-even, done-active, done-valid}
+use Rattle.guard.proofs.CallLaws.{or-left, record-is, violated-is}
+use Rattle.guard.proofs.DoneLaws.{no-row, done-even, done-active, done-valid}
 
 module _ (f : Name → List ℕ → ℕ → List ℕ) where
   -- ---- condition 1

@@ -28,8 +28,8 @@ use Rattle.guard.specs.Steps.{clusterDeleted, segmentMade, segmentDeleted, segm
 use Rattle.guard.specs.Steps.{step}
 use Rattle.isolation.specs.Copies.{Done}
 use Rattle.isolation.specs.Effects.{SameSegment, WrittenReads, NewReads, ClusterGone, SegmentGone}
-use Rattle.isolation.proofs.MemoryLaws.{part-overwritten}
-use Rattle.isolation.proofs.DoneLaws.{done-range, done-segment, done-active}
+use Rattle.guard.proofs.MemoryLaws.{part-overwritten}
+use Rattle.guard.proofs.DoneLaws.{done-range, done-segment, done-active}
 use Rattle.isolation.proofs.KeptLaws.{tables, step-done, new-fits, write-fits, length-data}
 use Rattle.isolation.proofs.GivenLaws.{active-in}
 

@@ -23,7 +23,7 @@ use Rattle.guard.specs.Steps.{about, withPassword, newPlace, clusterMade, clust
 use Rattle.guard.specs.Steps.{segmentWritten, passwordReplaced, left}
 use Rattle.isolation.specs.Copies.{Done}
 use Rattle.isolation.specs.Effects.{otherMode, OtherSegments, OtherPassword, Entries, EntriesStay}
-use Rattle.isolation.proofs.DoneLaws.{done-mode}
+use Rattle.guard.proofs.DoneLaws.{done-mode}
 use Rattle.isolation.proofs.KeptLaws.{by-number}
 
 -- a record put, seen at some record: as it was, or the new one

@@ -31,11 +31,11 @@ use Rattle.guard.specs.Calls.{handleOf, nodeFor, localFor, recordFor, recordNam
 use Rattle.guard.specs.Numbers.{gappedHandle, spentHandle, valid}
 use Rattle.guard.specs.Steps.{about, withPassword, clusterMade, passwordReplaced, left, given}
 use Rattle.isolation.specs.Copies.{SixteenBytes}
-use Rattle.isolation.specs.Checks.{NoRow}
+use Rattle.guard.specs.Clear.{NoRow}
 use Rattle.isolation.specs.Effects.{Made, MadeOpens, otherMode, Renewed, RenewedOpens, Reduced, ReducedOpens}
 use Rattle.isolation.specs.Effects.{Weakened, WeakenedOpens}
-use Rattle.isolation.proofs.CallLaws.{or-left, InRange}
-use Rattle.isolation.proofs.DoneLaws.{no-row, done-range, done-mode, done-active, done-valid}
+use Rattle.guard.proofs.CallLaws.{or-left, InRange}
+use Rattle.guard.proofs.DoneLaws.{no-row, done-range, done-mode, done-active, done-valid}
 use Rattle.isolation.proofs.KeptLaws.{step-done}
 use Rattle.isolation.proofs.EntryLaws.{other-stays}
 

@@ -29,10 +29,10 @@ use Rattle.guard.specs.Steps.{passwordReplaced}
 use Rattle.guard.specs.Steps.{left, given, outcome, step}
 use Rattle.isolation.specs.Copies.{SoundCopy, Done, setApart, Outside, Held}
 use Rattle.isolation.specs.Statements.{start, StartSound, SoundKept, Touched, OnlyItsOwn, OthersAlone, OtherHeld}
-use Rattle.isolation.proofs.MemoryLaws.{length-overwritten, overwritten-out}
-use Rattle.isolation.proofs.CallLaws.{InRange}
+use Rattle.guard.proofs.MemoryLaws.{length-overwritten, overwritten-out}
+use Rattle.guard.proofs.CallLaws.{InRange}
 use Rattle.isolation.proofs.AddressLaws.{in-place, place-fits, place-inside, place-outside, room-outside}
-use Rattle.isolation.proofs.DoneLaws.{done-range, done-segment, done-active, new-base, write-long}
+use Rattle.guard.proofs.DoneLaws.{done-range, done-segment, done-active, new-base, write-long}
 
 abbrev pub tables : Copy → Tables
 tables c = tableAt (c .store)

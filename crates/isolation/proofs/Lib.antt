@@ -1,8 +1,5 @@
-pub mod MemoryLaws
-pub mod FirstLaws
-pub mod CallLaws
 pub mod AddressLaws
-pub mod DoneLaws
+pub mod AwayLaws
 pub mod KeptLaws
 pub mod EntryLaws
 pub mod NumberLaws

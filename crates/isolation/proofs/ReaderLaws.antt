@@ -19,7 +19,8 @@ use Rattle.guard.specs.Calls.{recordFor}
 use Rattle.guard.specs.Steps.{putCluster, about, withPassword, passwordReplaced, left, step, run}
 use Rattle.isolation.specs.Copies.{SoundCopy, Done, InPlace, setApart, Held, Unaltered, keyed, NoWriter}
 use Rattle.isolation.specs.Statements.{ReadersAlterNothing}
-use Rattle.isolation.proofs.DoneLaws.{done-mode, away, new-away}
+use Rattle.guard.proofs.DoneLaws.{done-mode, new-away}
+use Rattle.isolation.proofs.AwayLaws.{away}
 use Rattle.isolation.proofs.EntryLaws.{put-cases}
 use Rattle.isolation.proofs.KeptLaws.{tables, left-held, by-number, step-sound}
 

@@ -1,7 +1,5 @@
 -- What `step` does, in words that are not its text: conditions 1 and 2, and the column "Must hold" of document 01's
 -- calls. For every conversion f:
---     NoRow x s size       no row of the table applies to the call x, row by row
---     DoneIsClear          a number is 0 just where no row applies
 --     Refused x c          the copy and the buffer stay; the handles are zero bytes, the count and the length zero
 --     RefusalChangesNothing    condition 1: a call to which some row applies is so refused, with the first one's number
 --     MustHold k x s       the column "Must hold" for the kind k:
@@ -39,9 +37,8 @@ use Rattle.store.specs.Sound.{sound}
 use Rattle.guard.specs.Calls.{Copy, Call, call, Arguments, Kind, newCluster, deleteCluster, newSegment, deleteSegment}
 use Rattle.guard.specs.Calls.{read, write, weaken, reduce, newPassword, validate, Uses, uses, readMode, writeMode}
 use Rattle.guard.specs.Calls.{handleOf, buffer, recordNamed, primaryOf}
-use Rattle.guard.specs.Numbers.{unsound, noPlace, badField, gappedHandle, elsewhere, inUse, twins, inactiveCluster}
-use Rattle.guard.specs.Numbers.{valid, violated, notPrimary, notReferenced, oldPassword, segmentPresent, segmentAbsent}
-use Rattle.guard.specs.Numbers.{short, fullNode, spentHandle, number}
+use Rattle.guard.specs.Numbers.{valid}
+use Rattle.guard.specs.Numbers.{number}
 use Rattle.guard.specs.Steps.{Reply, zeroHandle, plain, step}
 
 -- ---- unused arguments
@@ -87,29 +84,6 @@ module _ (f : Name → List ℕ → ℕ → List ℕ) where
       → step f (call k g) c ≡ step f (call k h) c
 
   -- ---- condition 1
-
-  pub record NoRow (x : Call) (s : Store) (size : ℕ) : Type 0 where
-    pub unsound : unsound size x s ≡ false
-    pub noPlace : noPlace x ≡ false
-    pub badField : badField x ≡ false
-    pub gappedHandle : gappedHandle x ≡ false
-    pub elsewhere : elsewhere x ≡ false
-    pub inUse : inUse x (tableAt s) ≡ false
-    pub twins : twins x ≡ false
-    pub inactiveCluster : inactiveCluster x (tableAt s) ≡ false
-    pub violated : violated f x s ≡ false
-    pub notPrimary : notPrimary x ≡ false
-    pub notReferenced : notReferenced x ≡ false
-    pub oldPassword : oldPassword x s ≡ false
-    pub segmentPresent : segmentPresent x (tableAt s) ≡ false
-    pub segmentAbsent : segmentAbsent x (tableAt s) ≡ false
-    pub short : short x (tableAt s) ≡ false
-    pub fullNode : fullNode x (tableAt s) ≡ false
-    pub spentHandle : spentHandle x ≡ false
-
-  pub record DoneIsClear (x : Call) (s : Store) (size : ℕ) : Type 0 where
-    pub clear : number f x s size ≡ 0 → NoRow x s size
-    pub done : NoRow x s size → number f x s size ≡ 0
 
   pub record Refused (x : Call) (c : Copy) : Type 0 where
     pub copy : step f x c .copy ≡ c
