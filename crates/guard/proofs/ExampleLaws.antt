@@ -12,7 +12,8 @@ use Rattle.handle.specs.Handles.{Name, encoded, decoded, samePassword, validate
 use Rattle.handle.specs.Handles.{weakening}
 use Rattle.handle.specs.Examples as S
 use Rattle.store.specs.declared.Store.{Store}
-use Rattle.store.specs.Sound.{inRanges, endsInside, inside, soundSegment, apart, nodeApart, zeroBytes, idle, settled, sound}
+use Rattle.store.specs.Sound.{inRanges, endsInside, inside, soundSegment, apart, nodeApart, zeroBytes, idle, settled}
+use Rattle.store.specs.Sound.{sound}
 use Rattle.store.specs.Placement.{clear, fits, newBase, placement}
 use Rattle.store.specs.Examples as P
 use Rattle.store.specs.Examples.{twoSegments}

@@ -4,6 +4,10 @@ pub mod OpenLaws
 pub mod ChangeLaws
 pub mod PasswordLaws
 pub mod CreateLaws
+pub mod FirstLaws
+pub mod MemoryLaws
+pub mod CallLaws
+pub mod DoneLaws
 pub mod ExampleLaws
 pub mod CopyLaws
 pub mod BytesNumbers

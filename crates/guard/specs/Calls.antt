@@ -13,8 +13,8 @@
 --                             the others
 --     handleOf, presented     the handle that the bytes hold; the handles that a call presents
 --     buffer                  the buffer or data that comes with a call
---     nodeFor, localFor       the node and the local number of the cluster that a call is about: named by the call, else
---                             by its handle
+--     nodeFor, localFor       the node and the local number of the cluster that a call is about: named by the call,
+--                             else by its handle
 --     recordFor, recordNamed  its record's number; that of the cluster that a handle names
 --     placeFor                the place of the segment that a call is about
 --     baseOf, lengthOf        of a place; zero where it is absent

@@ -1,10 +1,10 @@
 -- Document 01, "Selector and placement examples": P1 to P14 as one list, for any conversion f, any passwords, and any
--- mask where document 01 names none. The rows on selectors and on placement are those of the handle and the store crate;
--- P6, P8 and P13 stand there as answers, and here once more as the numbers that whole calls get.
+-- mask where document 01 names none. The rows on selectors and on placement are those of the handle and the store
+-- crate; P6, P8 and P13 stand there as answers, and here once more as the numbers that whole calls get.
 --     Question            what is asked of a selector, of placement, or the number of a call on a store
 --     Answer              what is told
 --     Example, answer     a question and what is told; what the definitions answer
---     arguments           a call's arguments: a handle, a mask, a segment and a size; the other fields are zero
+--     arguments           a call's arguments: a handle, a mask and a size; the other fields are zero or empty
 --     shown ss            the bytes of the handle of node 0 and local number 2 with the selector ss, its password zero
 --     weakening m ss      call 7 with the mask m and a handle with the selector ss
 --     making n            call 3 for n bytes on node 0, with the write primary handle of local number 2

@@ -1,5 +1,6 @@
 pub mod Calls
 pub mod Numbers
+pub mod Clear
 pub mod Steps
 pub mod Entries
 pub mod Examples

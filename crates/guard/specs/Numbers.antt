@@ -1,7 +1,7 @@
 -- Document 01, "Numbers a call may be turned down with": the rows 1 to 17, a test for each, in the table's order.
 --     unsound              1, all but 7: the store is not sound
 --     noPlace              2: a node above 3 or a local number above 7, in a handle or in the call
---     badField             3: mode not 1 or 2; segment above 7; size 0 or above 4,096
+--     badField             3: badMode, not 1 or 2; badSegment, above 7; badSize, 0 or above 4,096
 --     gappedHandle         4: a handle's selector is gapped
 --     elsewhere            5, for 2, 3, 4: the current node is not the handle's
 --     inUse                6, for 1: the cluster is active
@@ -10,7 +10,7 @@
 --     violated             9, for 2 to 6, 8, 9: a handle does not validate in the mode needed
 --     notPrimary           10, for 2, 3, 4, 9: some subselector is not flat
 --     notReferenced        11, for 5, 6: the handle does not reference the segment
---     oldPassword          12, for 9: the new password equals either current primary password
+--     oldPassword          12, for 9: the new password isOld: it equals either current primary password
 --     segmentPresent       13, for 3: the segment is present
 --     segmentAbsent        14, for 4, 5, 6: the segment is absent
 --     short                15, for 5, 6: the buffer or the data is shorter than the segment
@@ -18,7 +18,7 @@
 --     spentHandle          17, for 7: something would be excluded and no subselector is flat
 -- A row is made from a test by what the test may see: the call alone, the call and the clusters' tables, or the whole
 -- records. None sees a byte of the memory.
---     byCall, byTables, byRecords
+--     byCall n t, byTables n t, byRecords n t    the row with the number n and the test t, at a call and a store
 --     rows f size          the rows in the table's order, for a slice of that many bytes
 --     number f x s size    the number that the call x gets: that of the first row that applies, or 0
 -- Over a conversion f, which takes a cluster's name, a password and a parameter to a password:

@@ -1,7 +1,7 @@
 -- Document 01, "The calls": what a call done gives and leaves; what a refusal gives; and "Two copies": a list of calls,
 -- each working on what the one before it left.
---     Reply               the number, two handles as 23 bytes, a count, a length, and the buffer afterwards; a handle that
---                         is not given is 23 zero bytes, a count or length that is not told is zero
+--     Reply               the number, two handles as 23 bytes, a count, a length, and the buffer afterwards; a handle
+--                         that is not given is 23 zero bytes, a count or length that is not told is zero
 --     Outcome, Ran        the copy that a call leaves, and its reply; the copy that a list leaves, and its replies
 --     zeroHandle          23 zero bytes
 --     plain n b           the reply with the number n and the buffer b alone

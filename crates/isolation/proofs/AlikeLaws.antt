@@ -15,19 +15,23 @@ use Rattle.handle.specs.Handles.{Name, nameOf, widthOf, encoded, reduced}
 use Rattle.store.specs.declared.Place.the-variants.{Absent}
 use Rattle.store.specs.declared.Cluster.{Cluster}
 use Rattle.store.specs.declared.Store.{Store}
-use Rattle.store.specs.Records.{Table, Tables, inactive, started, tableOf, clusterAt, tableAt, placeOf, putRecord, withPlace}
+use Rattle.store.specs.Records.{Table, Tables, inactive, started, tableOf, clusterAt, tableAt, placeOf, putRecord}
+use Rattle.store.specs.Records.{withPlace}
 use Rattle.store.proofs.ChangeLaws.{put-other, put-same, put-out}
 use Rattle.guard.specs.Calls.{Copy, Call, call, Arguments, Kind, newCluster, deleteCluster, newSegment, deleteSegment}
 use Rattle.guard.specs.Calls.{read, write, weaken, reduce, newPassword, validate, opens, handleOf, nodeFor, localFor}
 use Rattle.guard.specs.Calls.{recordFor, placeFor, lengthOf, startFor, primaryOf}
-use Rattle.guard.specs.Steps.{zeroHandle, handles, readReply, putCluster, putBytes, about, withPassword, newPlace, newStart}
-use Rattle.guard.specs.Steps.{clusterMade, clusterDeleted, segmentMade, segmentDeleted, segmentWritten, passwordReplaced}
+use Rattle.guard.specs.Steps.{zeroHandle, handles, readReply, putCluster, putBytes, about, withPassword, newPlace}
+use Rattle.guard.specs.Steps.{newStart}
+use Rattle.guard.specs.Steps.{clusterMade, clusterDeleted, segmentMade, segmentDeleted, segmentWritten}
+use Rattle.guard.specs.Steps.{passwordReplaced}
 use Rattle.guard.specs.Steps.{left, segmentRead, given}
 use Rattle.isolation.specs.Copies.{SoundCopy, Done, InPlace, setApart, Alike, Shut}
-use Rattle.isolation.proofs.MemoryLaws.{length-overwritten, overwritten-both, part-same}
-use Rattle.isolation.proofs.CallLaws.{InRange}
+use Rattle.guard.proofs.MemoryLaws.{length-overwritten, overwritten-both, part-same}
+use Rattle.guard.proofs.CallLaws.{InRange}
 use Rattle.isolation.proofs.AddressLaws.{in-place, place-outside}
-use Rattle.isolation.proofs.DoneLaws.{done-range, shut-away, new-away}
+use Rattle.guard.proofs.DoneLaws.{done-range, new-away}
+use Rattle.isolation.proofs.AwayLaws.{shut-away}
 use Rattle.isolation.proofs.KeptLaws.{tables, facts, segment-fits, new-fits, write-fits, read-segment}
 use Rattle.isolation.proofs.NumberLaws.{alike-tables}
 
@@ -64,7 +68,8 @@ module _ (node local : ℕ) where
           size = al .size;
           bytes = λ p out.
               al .bytes p
-              (λ i hi u. out i hi (subst (λ (t : Table). InPlace node (placeOf t i) p) (sym (put-table (a .store) n d ne)) u));
+              (λ i hi u.
+              out i hi (subst (λ (t : Table). InPlace node (placeOf t i) p) (sym (put-table (a .store) n d ne)) u));
         }
 
     alike-bytes : (at : ℕ) (bs : List ℕ) → at + length bs ≤ length (a .memory)
@@ -85,7 +90,8 @@ module _ (node local : ℕ) where
         → Alike node local (putCluster a (recordFor x) (g (about x a))) (putCluster b (recordFor x) (g (about x b)))
     change x g ne =
         subst
-        (λ (d : Cluster). Alike node local (putCluster a (recordFor x) (g (about x a))) (putCluster b (recordFor x) (g d)))
+        (λ (d : Cluster).
+        Alike node local (putCluster a (recordFor x) (g (about x a))) (putCluster b (recordFor x) (g d)))
         (al .others (recordFor x) ne) (alike-put (recordFor x) (g (about x a)) ne)
 
 -- ---- what a call done leaves and gives
@@ -113,10 +119,12 @@ module _ (node local : ℕ) (high : node < nodes) (low : local < clusters) (f : 
       subst
       (λ (ts : Tables).
       Alike node local (segmentMade x a)
-      (putBytes (putCluster b (recordFor x) (withPlace (about x b) (g .segment) (newPlace x ts))) (newStart x ts) cleared))
+      (putBytes (putCluster b (recordFor x) (withPlace (about x b) (g .segment) (newPlace x ts))) (newStart x ts)
+      cleared))
       same-tables
       (alike-bytes node local (putCluster a (recordFor x) (made (about x a)))
-      (putCluster b (recordFor x) (made (about x b))) (change node local a b al x made ne) (newStart x (tables a)) cleared
+      (putCluster b (recordFor x) (made (about x b))) (change node local a b al x made ne) (newStart x (tables a))
+      cleared
       (new-fits f g a k e))
 
   written-alike : Done f (call write g) a
@@ -158,7 +166,9 @@ module _ (node local : ℕ) (high : node < nodes) (low : local < clusters) (f : 
   unfolding segmentRead
   read-alike e ne =
       ap (λ (bs : List ℕ). readReply (size (tables a)) (bs ++ drop (size (tables a)) (g .bytes))) part
-      ∙ ap (λ (ts : Tables). readReply (size ts) (take (size ts) (drop (startFor x ts) (b .memory)) ++ drop (size ts) (g .bytes)))
+      ∙ ap
+      (λ (ts : Tables).
+      readReply (size ts) (take (size ts) (drop (startFor x ts) (b .memory)) ++ drop (size ts) (g .bytes)))
       same-tables
     where
       x : Call

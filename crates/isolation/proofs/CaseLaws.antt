@@ -1,8 +1,8 @@
--- The computed lists. In a sound store the number is that of the rows below the first, and calls keep soundness: so only
--- these rows are computed for each call.
+-- The computed lists. In a sound store the number is that of the rows below the first, and calls keep soundness: so
+-- only these rows are computed for each call.
 -- Assumes nothing.
 use mathlib.Core.Path.{_≡_, refl, ap, _∙_}
-use Prim.Native.Nat.{ℕ}
+use Prim.Native.Nat.{ℕ, _-_}
 use mathlib.Core.Bool.{true}
 use mathlib.Core.List.{List, [], _∷_, map}
 use Rattle.bits.specs.Sets.{has, setOf, count}
@@ -11,7 +11,8 @@ use Rattle.loops.specs.Below.{every}
 use Rattle.loops.specs.Search.{leastFrom, least}
 use Rattle.sizes.specs.Sizes.{memory}
 use Rattle.handle.specs.Handles.{encoded, decoded, samePassword, validates, weakened, reduced}
-use Rattle.store.specs.Sound.{inRanges, endsInside, inside, soundSegment, apart, nodeApart, zeroBytes, idle, settled, sound}
+use Rattle.store.specs.Sound.{inRanges, endsInside, inside, soundSegment, apart, nodeApart, zeroBytes, idle, settled}
+use Rattle.store.specs.Sound.{sound}
 use Rattle.store.specs.Placement.{clear, fits, newBase, placement}
 use Rattle.guard.specs.Calls.{Call}
 use Rattle.guard.specs.Numbers.{unsound, noPlace, badMode, badSegment, badSize, badField, gappedHandle, elsewhere}
@@ -20,40 +21,41 @@ use Rattle.guard.specs.Numbers.{segmentPresent, segmentAbsent, short, fullNode,
 use Rattle.guard.specs.Steps.{clusterMade, clusterDeleted, segmentMade, segmentDeleted, segmentWritten}
 use Rattle.guard.specs.Steps.{passwordReplaced, left, segmentRead, given}
 use Rattle.isolation.specs.Statements.{start}
-use Rattle.isolation.specs.Cases.{added, bench, Case, damaged, refusals, orders, NumbersGiven}
+use Rattle.isolation.specs.Cases.{added, sample, Case, damaged, refusals, orders, NumbersGiven}
 use Rattle.isolation.specs.Replies.{doneCalls, seen, EachDone}
 use Rattle.isolation.proofs.KeptLaws.{start-sound}
 use Rattle.isolation.proofs.RunLaws.{numberBelow, number-below, run-below}
 
 -- ---- the numbers
 
-bench-sound : sound bench memory ≡ true
+sample-sound : sound sample memory ≡ true
 unfolding sound every soundSegment nodeApart settled idle zeroBytes apart inside inRanges endsInside
-bench-sound = refl
+sample-sound = refl
 
-abbrev benchNumber : Call → ℕ
-benchNumber x = numberBelow added x bench memory
+abbrev sampleNumber : Call → ℕ
+sampleNumber x = numberBelow added x sample memory
 
 numbers-below : (cs : List Case)
-    → map (λ (c : Case). number added (c .call) bench memory) cs ≡ map (λ (c : Case). benchNumber (c .call)) cs
+    → map (λ (c : Case). number added (c .call) sample memory) cs ≡ map (λ (c : Case). sampleNumber (c .call)) cs
 numbers-below [] = refl
-numbers-below (c ∷ cs) = λ j. number-below added (c .call) bench memory bench-sound j ∷ numbers-below cs j
+numbers-below (c ∷ cs) = λ j. number-below added (c .call) sample memory sample-sound j ∷ numbers-below cs j
 
-refusals-below : map (λ (c : Case). benchNumber (c .call)) refusals ≡ map (λ (c : Case). c .number) refusals
+refusals-below : map (λ (c : Case). sampleNumber (c .call)) refusals ≡ map (λ (c : Case). c .number) refusals
 unfolding has setOf count bytes word wordFrom every least leastFrom encoded decoded samePassword validates
     placement newBase fits clear apart inside inRanges endsInside
     noPlace badMode badSegment badSize badField gappedHandle elsewhere inUse twins inactiveCluster
     valid violated notPrimary notReferenced oldPassword segmentPresent segmentAbsent short fullNode spentHandle
 refusals-below = refl
 
-orders-below : map (λ (c : Case). benchNumber (c .call)) orders ≡ map (λ (c : Case). c .number) orders
+orders-below : map (λ (c : Case). sampleNumber (c .call)) orders ≡ map (λ (c : Case). c .number) orders
 unfolding has setOf count bytes word wordFrom every least leastFrom encoded decoded samePassword validates
     placement newBase fits clear apart inside inRanges endsInside
     noPlace badMode badSegment badSize badField gappedHandle elsewhere inUse twins inactiveCluster
     valid violated notPrimary notReferenced oldPassword segmentPresent segmentAbsent short fullNode spentHandle
 orders-below = refl
 
-damaged-told : map (λ (c : Case). number added (c .call) bench 16383) damaged ≡ map (λ (c : Case). c .number) damaged
+damaged-told : map (λ (c : Case). number added (c .call) sample (memory - 1)) damaged
+    ≡ map (λ (c : Case). c .number) damaged
 unfolding number unsound sound has setOf count bytes word wordFrom encoded decoded noPlace badMode badSegment badSize
     badField gappedHandle elsewhere inUse twins inactiveCluster violated notPrimary notReferenced oldPassword
     segmentPresent segmentAbsent short fullNode spentHandle

@@ -1,6 +1,6 @@
--- Conditions 1 and 2 of single calls. A refusal is the second clause of `outcome`. A call done had what must hold, since
--- each row, at its kind, is the test in question. Validation and weakening meet few rows: the others compute away, and
--- what is left is compared with the chain of conversions and with the handle crate's weakening.
+-- Conditions 1 and 2 of single calls. A refusal is the second clause of `outcome`. A call done had what must hold,
+-- since each row, at its kind, is the test in question. Validation and weakening meet few rows: the others compute
+-- away, and what is left is compared with the chain of conversions and with the handle crate's weakening.
 -- Assumes nothing.
 use mathlib.Core.Path.{_≡_, refl, sym, ap, _∙_}
 use mathlib.Core.Logic.{_⊎_, inl, inr}
@@ -35,8 +35,8 @@ use Rattle.isolation.specs.Copies.{SixteenBytes}
 use Rattle.isolation.specs.Checks.{Refused, RefusalChangesNothing, Opener, MustHold, DoneHeld}
 use Rattle.isolation.specs.Checks.{Judgeable, ValidationJudges, ValidationIsReduction}
 use Rattle.isolation.specs.Checks.{weakenReply, WeakeningIs}
-use Rattle.isolation.proofs.CallLaws.{or-left, record-is, violated-is}
-use Rattle.isolation.proofs.DoneLaws.{no-row, done-even, done-active, done-valid}
+use Rattle.guard.proofs.CallLaws.{or-left, record-is, violated-is}
+use Rattle.guard.proofs.DoneLaws.{no-row, done-even, done-active, done-valid}
 
 module _ (f : Name → List ℕ → ℕ → List ℕ) where
   -- ---- condition 1

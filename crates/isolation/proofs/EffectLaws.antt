@@ -1,5 +1,6 @@
--- What a read sees of a segment written or made, and what deleting leaves. The part that was overwritten is what was put
--- there, and the read is of that very part: a write leaves the tables alone, and a new segment stands where it was made.
+-- What a read sees of a segment written or made, and what deleting leaves. The part that was overwritten is what was
+-- put there, and the read is of that very part: a write leaves the tables alone, and a new segment stands where it was
+-- made.
 -- Assumes nothing.
 use mathlib.Core.Path.{_≡_, refl, sym, ap, _∙_, subst}
 use Prim.Native.Nat.{ℕ, _+_, _<_}
@@ -23,11 +24,12 @@ use Rattle.guard.specs.Calls.{Copy, Call, call, Arguments, deleteCluster, newSe
 use Rattle.guard.specs.Calls.{nodeFor, recordFor, placeFor, baseOf, lengthOf, address, startFor}
 use Rattle.guard.specs.Numbers.{badSegment}
 use Rattle.guard.specs.Steps.{Outcome, overwritten, about, newPlace, newStart}
-use Rattle.guard.specs.Steps.{clusterDeleted, segmentMade, segmentDeleted, segmentWritten, left, segmentRead, given, step}
+use Rattle.guard.specs.Steps.{clusterDeleted, segmentMade, segmentDeleted, segmentWritten, left, segmentRead, given}
+use Rattle.guard.specs.Steps.{step}
 use Rattle.isolation.specs.Copies.{Done}
 use Rattle.isolation.specs.Effects.{SameSegment, WrittenReads, NewReads, ClusterGone, SegmentGone}
-use Rattle.isolation.proofs.MemoryLaws.{part-overwritten}
-use Rattle.isolation.proofs.DoneLaws.{done-range, done-segment, done-active}
+use Rattle.guard.proofs.MemoryLaws.{part-overwritten}
+use Rattle.guard.proofs.DoneLaws.{done-range, done-segment, done-active}
 use Rattle.isolation.proofs.KeptLaws.{tables, step-done, new-fits, write-fits, length-data}
 use Rattle.isolation.proofs.GivenLaws.{active-in}
 
@@ -55,7 +57,9 @@ module _ (f : Name → List ℕ → ℕ → List ℕ) where
       (λ (o : Outcome).
       Done f y (o .copy) → step f y (o .copy) .reply .buffer ≡ take n (g .bytes) ++ drop n (h .bytes))
       (sym (step-done f x c e))
-      (λ z. read-is h (left write x c) (nodeFor x) (placeFor x (tables c)) written z (s .node) (same-place x y (tables c) s) part)
+      (λ z.
+      read-is h (left write x c) (nodeFor x) (placeFor x (tables c)) written z (s .node)
+      (same-place x y (tables c) s) part)
     where
       x : Call
       x = call write g

@@ -1,6 +1,6 @@
--- The handles that calls 1, 7, 8 and 9 give open the cluster on the copy left. Each is written to its bytes and read back;
--- a primary handle's chain of conversions is empty, and the chains of a weakened and of a reduced handle end as the laws
--- of one handle say.
+-- The handles that calls 1, 7, 8 and 9 give open the cluster on the copy left. Each is written to its bytes and read
+-- back; a primary handle's chain of conversions is empty, and the chains of a weakened and of a reduced handle end as
+-- the laws of one handle say.
 -- Assumes nothing.
 use mathlib.Core.Path.{_≡_, refl, sym, ap, _∙_, subst}
 use mathlib.Core.Logic.{_⊎_, inl, inr}
@@ -31,12 +31,13 @@ use Rattle.guard.specs.Calls.{handleOf, nodeFor, localFor, recordFor, recordNam
 use Rattle.guard.specs.Numbers.{gappedHandle, spentHandle, valid}
 use Rattle.guard.specs.Steps.{about, withPassword, clusterMade, passwordReplaced, left, given}
 use Rattle.isolation.specs.Copies.{SixteenBytes}
-use Rattle.isolation.specs.Checks.{NoRow}
+use Rattle.guard.specs.Clear.{NoRow}
 use Rattle.isolation.specs.Effects.{Made, MadeOpens, otherMode, Renewed, RenewedOpens, Reduced, ReducedOpens}
 use Rattle.isolation.specs.Effects.{Weakened, WeakenedOpens}
-use Rattle.isolation.proofs.CallLaws.{or-left, InRange}
-use Rattle.isolation.proofs.DoneLaws.{no-row, done-range, done-mode, done-active, done-valid}
+use Rattle.guard.proofs.CallLaws.{or-left, InRange}
+use Rattle.guard.proofs.DoneLaws.{no-row, done-range, done-mode, done-active, done-valid}
 use Rattle.isolation.proofs.KeptLaws.{step-done}
+use Rattle.isolation.proofs.EntryLaws.{other-stays}
 
 -- an active record is one of the store's
 pub active-in : (s : Store) (n : ℕ) → tableAt s n .active ≡ true → n < length (s .clusters)
@@ -104,7 +105,9 @@ module _ (f : Name → List ℕ → ℕ → List ℕ) where
         opens =
             primary-valid (nameOf (handleOf x)) (g .mode) (g .first) s (v .node-low) (v .local-low) lp
             (ap (λ (d : Cluster). primaryOf d (g .mode)) here ∙ new mode);
-        other = ap (λ (d : Cluster). primaryOf d (otherMode (g .mode))) here ∙ old mode;
+        other =
+            ap (λ (d : Cluster). primaryOf d (otherMode (g .mode))) here
+            ∙ other-stays (about x c) (g .mode) (g .first) mode;
       })
     where
       x : Call
@@ -130,15 +133,6 @@ module _ (f : Name → List ℕ → ℕ → List ℕ) where
       new : (g .mode ≡ readMode) ⊎ (g .mode ≡ writeMode) → primaryOf d (g .mode) ≡ g .first
       new (inl q) = ap (λ (m : ℕ). primaryOf (withPassword (about x c) m (g .first)) m) q
       new (inr q) = ap (λ (m : ℕ). primaryOf (withPassword (about x c) m (g .first)) m) q
-
-      old : (g .mode ≡ readMode) ⊎ (g .mode ≡ writeMode)
-          → primaryOf d (otherMode (g .mode)) ≡ primaryOf (about x c) (otherMode (g .mode))
-      old (inl q) =
-          ap (λ (m : ℕ). primaryOf (withPassword (about x c) m (g .first)) (otherMode m)) q
-          ∙ ap (λ (m : ℕ). primaryOf (about x c) (otherMode m)) (sym q)
-      old (inr q) =
-          ap (λ (m : ℕ). primaryOf (withPassword (about x c) m (g .first)) (otherMode m)) q
-          ∙ ap (λ (m : ℕ). primaryOf (about x c) (otherMode m)) (sym q)
 
   -- ---- handles made from a handle
 
@@ -172,7 +166,8 @@ module _ (f : Name → List ℕ → ℕ → List ℕ) where
             ap (λ (k : Handle). valid f (g .mode) k (c .store)) back
             ∙ renamed-valid h r (g .mode) (c .store) (name-reduced segments (f (nameOf h)) h p)
             (valid-reduced segments (f (nameOf h)) h p (whole-decoded (g .handle) o)
-            (chain sixteen (g .handle) o (g .mode) (c .store) l (done-valid f x (c .store) (length (c .memory)) e refl)));
+            (chain sixteen (g .handle) o (g .mode) (c .store) l
+            (done-valid f x (c .store) (length (c .memory)) e refl)));
         refers = λ i k.
             ap (λ (z : Handle). references (z .selector) i) back
             ∙ references-reduced segments (f (nameOf h)) h p i k;

@@ -1,6 +1,6 @@
--- A call done keeps soundness, and changes only what is its own. Every change of a record is one of those that the store
--- crate shows to keep soundness; bytes are overwritten inside the slice, so that its length stays. What a call makes or
--- writes is a segment of its own cluster, and lies outside the segments of every other one.
+-- A call done keeps soundness, and changes only what is its own. Every change of a record is one of those that the
+-- store crate shows to keep soundness; bytes are overwritten inside the slice, so that its length stays. What a call
+-- makes or writes is a segment of its own cluster, and lies outside the segments of every other one.
 -- Assumes nothing.
 use mathlib.Core.Path.{_≡_, refl, sym, ap, _∙_}
 use mathlib.Core.Logic.{_≢_}
@@ -24,14 +24,15 @@ use Rattle.guard.specs.Calls.{read, write, weaken, reduce, newPassword, validat
 use Rattle.guard.specs.Calls.{placeFor, lengthOf, startFor}
 use Rattle.guard.specs.Numbers.{badSegment, number}
 use Rattle.guard.specs.Steps.{putCluster, about, withPassword, newBaseFor, newPlace, newStart}
-use Rattle.guard.specs.Steps.{clusterMade, clusterDeleted, segmentMade, segmentDeleted, segmentWritten, passwordReplaced}
+use Rattle.guard.specs.Steps.{clusterMade, clusterDeleted, segmentMade, segmentDeleted, segmentWritten}
+use Rattle.guard.specs.Steps.{passwordReplaced}
 use Rattle.guard.specs.Steps.{left, given, outcome, step}
 use Rattle.isolation.specs.Copies.{SoundCopy, Done, setApart, Outside, Held}
 use Rattle.isolation.specs.Statements.{start, StartSound, SoundKept, Touched, OnlyItsOwn, OthersAlone, OtherHeld}
-use Rattle.isolation.proofs.MemoryLaws.{length-overwritten, overwritten-out}
-use Rattle.isolation.proofs.CallLaws.{InRange}
+use Rattle.guard.proofs.MemoryLaws.{length-overwritten, overwritten-out}
+use Rattle.guard.proofs.CallLaws.{InRange}
 use Rattle.isolation.proofs.AddressLaws.{in-place, place-fits, place-inside, place-outside, room-outside}
-use Rattle.isolation.proofs.DoneLaws.{done-range, done-segment, done-active, new-base, write-long}
+use Rattle.guard.proofs.DoneLaws.{done-range, done-segment, done-active, new-base, write-long}
 
 abbrev pub tables : Copy → Tables
 tables c = tableAt (c .store)

@@ -1,9 +1,7 @@
-pub mod MemoryLaws
-pub mod FirstLaws
-pub mod CallLaws
 pub mod AddressLaws
-pub mod DoneLaws
+pub mod AwayLaws
 pub mod KeptLaws
+pub mod EntryLaws
 pub mod NumberLaws
 pub mod AlikeLaws
 pub mod TwoCopies

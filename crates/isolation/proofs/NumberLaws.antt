@@ -24,9 +24,10 @@ use Rattle.guard.specs.Numbers.{unsound, noPlace, badField, gappedHandle, inUse
 use Rattle.guard.specs.Numbers.{isOld, oldPassword, segmentPresent, segmentAbsent, short, fullNode}
 use Rattle.guard.specs.Numbers.{byTables, byRecords, rows, number}
 use Rattle.isolation.specs.Copies.{SoundCopy, setApart, Alike, Shut}
-use Rattle.isolation.proofs.FirstLaws.{Agree, first-agree}
-use Rattle.isolation.proofs.CallLaws.{handle-range, named, mode-known, record-is, ungapped-is, violated-is}
-use Rattle.isolation.proofs.CallLaws.{not-keyed}
+use Rattle.guard.proofs.FirstLaws.{Agree, first-agree}
+use Rattle.guard.proofs.CallLaws.{handle-range, mode-known, record-is, ungapped-is, violated-is}
+use Rattle.isolation.proofs.AwayLaws.{named}
+use Rattle.isolation.proofs.AwayLaws.{not-keyed}
 
 -- ---- the rows of two stores with the same tables agree, if the two rows that see passwords do
 
@@ -121,12 +122,13 @@ module _ (node local : ℕ) (low : local < clusters) (f : Name → List ℕ → 
         go : (needed x ≡ readMode) ⊎ (needed x ≡ writeMode) → valid f (needed x) (handleOf x) s ≡ false
         go (inl e) =
             ap (λ (m : ℕ). valid f m (handleOf x) s) e
-            ∙ not-keyed x o f s node local readMode (h .0) (ungapped-is x o even) p q
+            ∙ not-keyed f x s o node local readMode (h .0) (ungapped-is x o even) p q
         go (inr e) =
             ap (λ (m : ℕ). valid f m (handleOf x) s) e
-            ∙ not-keyed x o f s node local writeMode (h .1) (ungapped-is x o even) p q
+            ∙ not-keyed f x s o node local writeMode (h .1) (ungapped-is x o even) p q
 
-    cases : ((nodeOf (handleOf x) ≡ node) × (handleOf x .local ≡ local)) ⊎ (recordNamed (handleOf x) ≢ setApart node local)
+    cases : ((nodeOf (handleOf x) ≡ node) × (handleOf x .local ≡ local))
+        ⊎ (recordNamed (handleOf x) ≢ setApart node local)
     cases = named node local low (nodeOf (handleOf x)) (handleOf x .local) (handle-range x o place)
 
     same-valid : valid f (needed x) (handleOf x) (a .store) ≡ valid f (needed x) (handleOf x) (b .store)
@@ -166,7 +168,8 @@ module _ (node local : ℕ) (low : local < clusters) (f : Name → List ℕ → 
 
 module _ (node local : ℕ) (low : local < clusters) (f : Name → List ℕ → ℕ → List ℕ) (a b : Copy)
     (al : Alike node local a b) where
-  same-old : (k : Kind) (g : Arguments) → Shut node local f (call k g) (a .store) → Shut node local f (call k g) (b .store)
+  same-old : (k : Kind) (g : Arguments) → Shut node local f (call k g) (a .store)
+      → Shut node local f (call k g) (b .store)
       → noPlace (call k g) ≡ false → gappedHandle (call k g) ≡ false → badField (call k g) ≡ false
       → violated f (call k g) (a .store) ≡ false → oldPassword (call k g) (a .store) ≡ oldPassword (call k g) (b .store)
   unfolding oldPassword

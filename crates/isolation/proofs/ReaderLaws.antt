@@ -1,11 +1,10 @@
--- Readers alter nothing, by induction over the list. A call done that is not keyed for writing is about another cluster,
--- which leaves this one held, or changes nothing, or replaces the read password, which is no part of what is claimed.
+-- Readers alter nothing, by induction over the list. A call done that is not keyed for writing is about another
+-- cluster, which leaves this one held, or changes nothing, or replaces the read password, which is no part of what is
+-- claimed.
 -- Assumes nothing.
 use mathlib.Core.Path.{_≡_, refl, sym, ap, _∙_, subst}
 use mathlib.Core.Logic.{_≢_, _⊎_, inl, inr}
 use Prim.Native.Nat.{ℕ, _<_}
-use native.Mathlib.Omega.{arith}
-use native.Mathlib.Decide.{ℕ-discrete, decLt}
 use mathlib.Core.Bool.{true, false}
 use mathlib.Core.List.{List, [], _∷_}
 use lib.ListN.{length}
@@ -14,26 +13,16 @@ use Rattle.handle.specs.Handles.{Name}
 use Rattle.store.specs.declared.Cluster.{Cluster}
 use Rattle.store.specs.declared.Store.{Store}
 use Rattle.store.specs.Records.{Table, tableOf, clusterAt, placeOf, putRecord}
-use Rattle.store.proofs.ChangeLaws.{put-other, put-same, put-out}
 use Rattle.guard.specs.Calls.{Copy, Call, call, Arguments, Kind, newCluster, deleteCluster, newSegment, deleteSegment}
 use Rattle.guard.specs.Calls.{read, write, weaken, reduce, newPassword, validate, opens, readMode, writeMode, needed}
 use Rattle.guard.specs.Calls.{recordFor}
 use Rattle.guard.specs.Steps.{putCluster, about, withPassword, passwordReplaced, left, step, run}
 use Rattle.isolation.specs.Copies.{SoundCopy, Done, InPlace, setApart, Held, Unaltered, keyed, NoWriter}
 use Rattle.isolation.specs.Statements.{ReadersAlterNothing}
-use Rattle.isolation.proofs.DoneLaws.{done-mode, away, new-away}
+use Rattle.guard.proofs.DoneLaws.{done-mode, new-away}
+use Rattle.isolation.proofs.AwayLaws.{away}
+use Rattle.isolation.proofs.EntryLaws.{put-cases}
 use Rattle.isolation.proofs.KeptLaws.{tables, left-held, by-number, step-sound}
-
--- a record put, seen at some record: as it was, or the new one
-put-cases : (s : Store) (n m : ℕ) (d : Cluster)
-    → (clusterAt (putRecord s n d) m ≡ clusterAt s m) ⊎ ((m ≡ n) × (clusterAt (putRecord s n d) m ≡ d))
-put-cases s n m d = go (ℕ-discrete m n) (decLt n (length (s .clusters)))
-  where
-    go : Dec (m ≡ n) → Dec (n < length (s .clusters))
-        → (clusterAt (putRecord s n d) m ≡ clusterAt s m) ⊎ ((m ≡ n) × (clusterAt (putRecord s n d) m ≡ d))
-    go (no t) h = inl (put-other s n d m t)
-    go (yes t) (no h) = inl (ap (λ (z : Store). clusterAt z m) (put-out s n d (omega arith)))
-    go (yes t) (yes h) = inr (t, ap (clusterAt (putRecord s n d)) t ∙ put-same s n d h)
 
 module _ (node local : ℕ) (high : node < nodes) (low : local < clusters) (f : Name → List ℕ → ℕ → List ℕ) where
   from-held : (a b : Copy) → Held node local a b → Unaltered node local a b

@@ -1,5 +1,5 @@
--- A list run from a sound copy: soundness is kept, so at each call the first row does not apply and the number is that of
--- the rows below it.
+-- A list run from a sound copy: soundness is kept, so at each call the first row does not apply and the number is that
+-- of the rows below it.
 -- Assumes nothing.
 use mathlib.Core.Path.{_≡_, refl, sym, ap, _∙_, subst}
 use Prim.Native.Nat.{ℕ}
@@ -14,7 +14,7 @@ use Rattle.guard.specs.Calls.{Copy, Call, among}
 use Rattle.guard.specs.Numbers.{unsound, rows, number}
 use Rattle.guard.specs.Steps.{Outcome, Ran, followed, outcome, step, run}
 use Rattle.isolation.specs.Copies.{SoundCopy, Shut, AllShut}
-use Rattle.isolation.proofs.FirstLaws.{Line, at}
+use Rattle.guard.proofs.FirstLaws.{Line, at}
 use Rattle.isolation.proofs.KeptLaws.{step-sound}
 
 abbrev below : List Line → List Line

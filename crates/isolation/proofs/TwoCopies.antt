@@ -19,7 +19,8 @@ use Rattle.guard.specs.Steps.{Reply, plain, left, outcome, step, run}
 use Rattle.isolation.specs.Copies.{SoundCopy, Done, InPlace, setApart, Alike, Held, Shut, AllShut}
 use Rattle.isolation.specs.Statements.{TwoCopies}
 use Rattle.isolation.proofs.AddressLaws.{place-outside}
-use Rattle.isolation.proofs.DoneLaws.{shut-away, new-away}
+use Rattle.guard.proofs.DoneLaws.{new-away}
+use Rattle.isolation.proofs.AwayLaws.{shut-away}
 use Rattle.isolation.proofs.KeptLaws.{tables, facts, left-held, held-same, by-number, step-sound}
 use Rattle.isolation.proofs.NumberLaws.{same-number}
 use Rattle.isolation.proofs.AlikeLaws.{left-alike, given-alike}

@@ -1,5 +1,5 @@
--- Arguments that a call does not use are ignored: with them blank, the number, what is left, what is given and the buffer
--- are the same text, kind by kind.
+-- Arguments that a call does not use are ignored: with them blank, the number, what is left, what is given and the
+-- buffer are the same text, kind by kind.
 -- Assumes nothing.
 use mathlib.Core.Path.{_≡_, refl, sym, ap, _∙_}
 use Prim.Native.Nat.{ℕ, zero, suc}

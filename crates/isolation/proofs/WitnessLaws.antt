@@ -1,5 +1,5 @@
--- The hypotheses of condition 3 are met by two differing copies, so the theorem applies to them. All is computed, but for
--- the memory, whose bytes outside the segment are compared place by place.
+-- The hypotheses of condition 3 are met by two differing copies, so the theorem applies to them. All is computed, but
+-- for the memory, whose bytes outside the segment are compared place by place.
 -- Assumes nothing.
 use mathlib.Core.List.{List}
 use mathlib.Core.Path.{_≡_, refl, sym, ap, _∙_}
@@ -13,7 +13,8 @@ use Rattle.loops.specs.Search.{leastFrom, least}
 use Rattle.sizes.specs.Sizes.{memory}
 use Rattle.handle.specs.Handles.{Name, encoded, decoded, samePassword, validates, weakened}
 use Rattle.store.specs.Records.{startingStore, tableAt}
-use Rattle.store.specs.Sound.{inRanges, endsInside, inside, soundSegment, apart, nodeApart, zeroBytes, idle, settled, sound}
+use Rattle.store.specs.Sound.{inRanges, endsInside, inside, soundSegment, apart, nodeApart, zeroBytes, idle, settled}
+use Rattle.store.specs.Sound.{sound}
 use Rattle.store.specs.Placement.{clear, fits, newBase, placement}
 use Rattle.store.proofs.ChangeLaws.{put-other}
 use Rattle.guard.specs.Numbers.{noPlace, badMode, badSegment, badSize, badField, gappedHandle, elsewhere}

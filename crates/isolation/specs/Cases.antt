@@ -1,22 +1,23 @@
--- Document 01, "Numbers a call may be turned down with", as computed lists. Each call carries 99 in the arguments that it
--- does not use. The conversion adds its parameter to the first byte, and gives sixteen such bytes.
+-- Document 01, "Numbers a call may be turned down with", as computed lists. Each call carries 99 in the arguments that
+-- it does not use. The conversion adds its parameter to the first byte, and gives sixteen such bytes.
 --     added                     that conversion
 --     call1 .. call9, callV     the nine calls and validation, each with what it uses
 --     sixteen b                 sixteen bytes b
 --     shown v l b ss            the bytes of the handle of node v and local number l: sixteen bytes b, the selector ss
 --     primary b, weak b         the primary handle of node 1 and local number 2; one that references segment 5 alone
---     other b, gap, far, high, idle    handles that reference segment 6 alone, are gapped, of a node above 3, of a local
---                               number above 7, of an inactive cluster
+--     other b, gap, far, high, idle    handles that reference segment 6 alone, are gapped, name a node above 3, a local
+--                               number above 7, an inactive cluster
 --     room, tight               buffers of three bytes and of two
---     bench                     a store with that cluster: passwords of sixteen 3 and sixteen 4, and three bytes at 0
+--     sample                    a store with that cluster: passwords of sixteen 3 and sixteen 4, and three bytes at 0
 --     Case, gives               a number and a call that gets it
---     damaged                   a call of every kind but weakening, on a slice that lacks a byte
+--     damaged                   a call of every kind on a slice that lacks a byte: weakening alone does not get 1
 --     refusals                  for each number from 2 on, a call of each kind that its row names
 --     orders                    calls to which two rows apply, which get the upper one
+--     toldOn s size cs          the numbers that the calls of the cases cs get on a store
 --     NumbersGiven              all these numbers are given, on that store
 -- Assumes nothing.
 use mathlib.Core.Path.{_≡_}
-use Prim.Native.Nat.{ℕ, _+_}
+use Prim.Native.Nat.{ℕ, _+_, _-_}
 use mathlib.Core.List.{List, [], _∷_, map}
 use lib.ListN.{getD, replicate}
 use Rattle.sizes.specs.Sizes.{segments, memory, passwordBytes}
@@ -114,8 +115,8 @@ high = shown 1 8 3 (flats segments)
 abbrev idle : List ℕ
 idle = shown 1 3 0 (flats segments)
 
-abbrev pub bench : Store
-bench = putRecord startingStore (recordOf 1 2) (withPlace (started (sixteen 3) (sixteen 4)) 5 (Present 0 3))
+abbrev pub sample : Store
+sample = putRecord startingStore (recordOf 1 2) (withPlace (started (sixteen 3) (sixteen 4)) 5 (Present 0 3))
 
 abbrev room : List ℕ
 room = 0 ∷ 0 ∷ 0 ∷ []
@@ -245,6 +246,6 @@ abbrev named : List Case → List ℕ
 named cs = map (λ (c : Case). c .number) cs
 
 pub record NumbersGiven : Type 0 where
-  pub damaged : toldOn bench 16383 damaged ≡ named damaged
-  pub refusals : toldOn bench memory refusals ≡ named refusals
-  pub orders : toldOn bench memory orders ≡ named orders
+  pub damaged : toldOn sample (memory - 1) damaged ≡ named damaged
+  pub refusals : toldOn sample memory refusals ≡ named refusals
+  pub orders : toldOn sample memory orders ≡ named orders

@@ -1,9 +1,7 @@
 -- What `step` does, in words that are not its text: conditions 1 and 2, and the column "Must hold" of document 01's
 -- calls. For every conversion f:
---     NoRow x s size       no row of the table applies to the call x, row by row
---     DoneIsClear          a number is 0 just where no row applies
---     Refused x c          the copy and the buffer are as they were; the handles are zero bytes, the count and length zero
---     RefusalChangesNothing    condition 1: a call to which some row applies is so refused, with the number of the first
+--     Refused x c          the copy and the buffer stay; the handles are zero bytes, the count and the length zero
+--     RefusalChangesNothing    condition 1: a call to which some row applies is so refused, with the first one's number
 --     MustHold k x s       the column "Must hold" for the kind k:
 --       Opener m             the handle validates in the mode m, is not gapped, and its cluster is active
 --       Primary m            so it does, and all its subselectors are flat
@@ -11,13 +9,14 @@
 --       Access m             it validates in the mode m and references the segment
 --       Fresh                the cluster is inactive, and the two passwords differ
 --     DoneHeld             a call done had what must hold
---     Judgeable g s size   validation by the arguments g gets as far as row 9: the store is sound, the place exists, the
---                          mode is one of the two, the selector is not gapped and the cluster is active
+--     Judgeable g s size   validation by the arguments g gets as far as row 9: the store is sound, the place exists,
+--                          the mode is one of the two, the selector is not gapped and the cluster is active
 --     chained g s          what the chain of conversions makes of the primary password of the mode named
---     ValidationJudges     condition 2: then a handle of 23 bytes validates if its password is what the chain gives, and is
---                          refused with 9 in every other case
+--     ValidationJudges     condition 2: then a handle of 23 bytes validates if its password is what the chain gives,
+--                          and is refused with 9 in every other case
 --     ValidationIsReduction    validation gives the number that call 8 would give
---     WeakeningIs          call 7 replies what the handle crate's weakening does, whatever the store, and leaves it alone
+--     weakenReply          the handle crate's reply to a weakening, as the guard gives it
+--     WeakeningIs          call 7 gives that reply, whatever the store, and leaves the store alone
 --     trimmed u g          the arguments g, those not used by u blank
 --     UnusedIgnored        calls that agree in what they use have equal steps
 -- Assumes nothing.
@@ -38,9 +37,8 @@ use Rattle.store.specs.Sound.{sound}
 use Rattle.guard.specs.Calls.{Copy, Call, call, Arguments, Kind, newCluster, deleteCluster, newSegment, deleteSegment}
 use Rattle.guard.specs.Calls.{read, write, weaken, reduce, newPassword, validate, Uses, uses, readMode, writeMode}
 use Rattle.guard.specs.Calls.{handleOf, buffer, recordNamed, primaryOf}
-use Rattle.guard.specs.Numbers.{unsound, noPlace, badField, gappedHandle, elsewhere, inUse, twins, inactiveCluster}
-use Rattle.guard.specs.Numbers.{valid, violated, notPrimary, notReferenced, oldPassword, segmentPresent, segmentAbsent}
-use Rattle.guard.specs.Numbers.{short, fullNode, spentHandle, number}
+use Rattle.guard.specs.Numbers.{valid}
+use Rattle.guard.specs.Numbers.{number}
 use Rattle.guard.specs.Steps.{Reply, zeroHandle, plain, step}
 
 -- ---- unused arguments
@@ -68,7 +66,6 @@ trimmed u g =
       bytes = bytesIf (u .bytes) (g .bytes);
     }
 
--- the reply of a weakening, as the guard gives it
 abbrev pub weakenReply : Weakened → Reply
 weakenReply w =
     record {
@@ -87,29 +84,6 @@ module _ (f : Name → List ℕ → ℕ → List ℕ) where
       → step f (call k g) c ≡ step f (call k h) c
 
   -- ---- condition 1
-
-  pub record NoRow (x : Call) (s : Store) (size : ℕ) : Type 0 where
-    pub unsound : unsound size x s ≡ false
-    pub noPlace : noPlace x ≡ false
-    pub badField : badField x ≡ false
-    pub gappedHandle : gappedHandle x ≡ false
-    pub elsewhere : elsewhere x ≡ false
-    pub inUse : inUse x (tableAt s) ≡ false
-    pub twins : twins x ≡ false
-    pub inactiveCluster : inactiveCluster x (tableAt s) ≡ false
-    pub violated : violated f x s ≡ false
-    pub notPrimary : notPrimary x ≡ false
-    pub notReferenced : notReferenced x ≡ false
-    pub oldPassword : oldPassword x s ≡ false
-    pub segmentPresent : segmentPresent x (tableAt s) ≡ false
-    pub segmentAbsent : segmentAbsent x (tableAt s) ≡ false
-    pub short : short x (tableAt s) ≡ false
-    pub fullNode : fullNode x (tableAt s) ≡ false
-    pub spentHandle : spentHandle x ≡ false
-
-  pub record DoneIsClear (x : Call) (s : Store) (size : ℕ) : Type 0 where
-    pub clear : number f x s size ≡ 0 → NoRow x s size
-    pub done : NoRow x s size → number f x s size ≡ 0
 
   pub record Refused (x : Call) (c : Copy) : Type 0 where
     pub copy : step f x c .copy ≡ c

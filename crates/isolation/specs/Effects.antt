@@ -4,15 +4,22 @@
 --     MadeOpens          call 1: the two handles validate, one for reading and one for writing, on the copy left
 --     RenewedOpens       call 9: the handle validates in the mode named on the copy left, and the other password stays
 --     ReducedOpens       call 8: the handle validates in the mode named, and references the same segments
---     WeakenedOpens      call 7: the handle validates in each mode in which the old one does, and references those segments
---                        of the old one that the mask keeps
+--     WeakenedOpens      call 7: the handle validates in each mode in which the old one does, and references those
+--                        segments of the old one that the mask keeps
+--     otherMode m        the mode that m is not
 --     SameSegment x y    two calls are about the same segment
 --     WrittenReads       call 6 and then 5: the buffer begins with what was written
 --     NewReads           call 3 and then 5: the buffer begins with zeros
 --     ClusterGone        call 2: the record is that of the starting store
 --     SegmentGone        call 4: the segment is absent
+-- And of a call done or refused:
+--     OtherSegments      the record a has become b: active or not, passwords and the other segments are as they were
+--     OtherPassword      its table and the password of the other mode are as they were
+--     Entries k x a b    what a call of the kind k leaves alone in its own cluster's record, a before it and b after
+--     EntriesStay        so does every call
 -- Assumes nothing.
 use mathlib.Core.Path.{_≡_}
+use mathlib.Core.Logic.{_≢_}
 use Prim.Native.Nat.{ℕ, _<_}
 use mathlib.Core.Bool.{true, false, _&&_}
 use mathlib.Core.List.{List, _++_}
@@ -24,11 +31,12 @@ use Rattle.handle.specs.Sizes.{handleBytes}
 use Rattle.handle.specs.Selectors.{references}
 use Rattle.handle.specs.Handles.{Name, widthOf, decoded, Bytes}
 use Rattle.store.specs.declared.Place.the-variants.{Absent}
+use Rattle.store.specs.declared.Cluster.{Cluster}
 use Rattle.store.specs.declared.Store.{Store}
-use Rattle.store.specs.Records.{inactive, clusterAt, tableAt}
-use Rattle.guard.specs.Calls.{Copy, Call, call, Arguments, newCluster, deleteCluster, newSegment, deleteSegment}
-use Rattle.guard.specs.Calls.{read, write, weaken, reduce, newPassword, readMode, writeMode, handleOf, nodeFor, localFor}
-use Rattle.guard.specs.Calls.{recordFor, placeFor, lengthOf, primaryOf}
+use Rattle.store.specs.Records.{inactive, tableOf, clusterAt, tableAt, segmentOf}
+use Rattle.guard.specs.Calls.{Copy, Call, call, Arguments, Kind, newCluster, deleteCluster, newSegment, deleteSegment}
+use Rattle.guard.specs.Calls.{read, write, weaken, reduce, newPassword, validate, readMode, writeMode}
+use Rattle.guard.specs.Calls.{handleOf, nodeFor, localFor, recordFor, placeFor, lengthOf, primaryOf}
 use Rattle.guard.specs.Numbers.{valid}
 use Rattle.guard.specs.Steps.{Outcome, step}
 use Rattle.isolation.specs.Copies.{SoundCopy, Done, SixteenBytes}
@@ -121,3 +129,32 @@ module _ (f : Name → List ℕ → ℕ → List ℕ) where
   SegmentGone =
       (g : Arguments) (c : Copy) → let x = call deleteSegment g in
       Done f x c → placeFor x (tableAt (step f x c .copy .store)) ≡ Absent
+
+-- ---- the record of the cluster that a call is about
+
+pub record OtherSegments (x : Call) (a b : Cluster) : Type 0 where
+  pub active : b .active ≡ a .active
+  pub read : b .read ≡ a .read
+  pub write : b .write ≡ a .write
+  pub segments : (j : ℕ) → j ≢ x .args .segment → segmentOf (tableOf b) j ≡ segmentOf (tableOf a) j
+
+pub record OtherPassword (x : Call) (a b : Cluster) : Type 0 where
+  pub table : tableOf b ≡ tableOf a
+  pub password : primaryOf b (otherMode (x .args .mode)) ≡ primaryOf a (otherMode (x .args .mode))
+
+abbrev pub Entries : Kind → Call → Cluster → Cluster → Type 0
+Entries newCluster x a b = Unit {0}
+Entries deleteCluster x a b = Unit {0}
+Entries newSegment x a b = OtherSegments x a b
+Entries deleteSegment x a b = OtherSegments x a b
+Entries read x a b = b ≡ a
+Entries write x a b = b ≡ a
+Entries weaken x a b = b ≡ a
+Entries reduce x a b = b ≡ a
+Entries newPassword x a b = OtherPassword x a b
+Entries validate x a b = b ≡ a
+
+abbrev pub EntriesStay : (Name → List ℕ → ℕ → List ℕ) → Type 0
+EntriesStay f =
+    (x : Call) (c : Copy)
+    → Entries (x .kind) x (clusterAt (c .store) (recordFor x)) (clusterAt (step f x c .copy .store) (recordFor x))

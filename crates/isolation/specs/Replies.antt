@@ -1,5 +1,5 @@
--- Document 01, "The calls", the column "Done, it gives and leaves", as a computed list: every kind done, from the starting
--- store, by the conversion and the shorthands of the numbers' lists.
+-- Document 01, "The calls", the column "Done, it gives and leaves", as a computed list: every kind done, from the
+-- starting store, by the conversion and the shorthands of the numbers' lists.
 --     doneCalls, doneReplies    the calls and their whole replies
 --     seen                      what is looked at in the end: the replies, the records, three bytes of the memory
 --     EachDone                  they are the replies; the records are as at the start, and the bytes written stay

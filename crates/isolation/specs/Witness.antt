@@ -2,7 +2,7 @@
 -- the shorthands for calls are those of the computed lists.
 --     holding r w b       a copy in which its passwords are sixteen r and sixteen w, and its four bytes b
 --     one, two            two such copies that differ in all of these
---     tries               calls that name the cluster with wrong handles, weaken the right one, and work on another cluster
+--     tries               calls that name the cluster with wrong handles, weaken its handle, or are about another one
 --     answers             what both copies answer
 --     shown               a read with the read primary handle of the copy one
 -- For every conversion f, since no handle shown here is converted:
@@ -10,7 +10,7 @@
 --     Bites               that read is done on the copy one and refused with 9 on the other
 -- Assumes nothing.
 use mathlib.Core.Path.{_≡_}
-use Prim.Native.Nat.{ℕ}
+use Prim.Native.Nat.{ℕ, _-_}
 use mathlib.Core.Bool.{true}
 use mathlib.Core.List.{List, [], _∷_}
 use lib.ListN.{replicate}
@@ -29,7 +29,7 @@ abbrev holding : ℕ → ℕ → ℕ → Copy
 holding r w b =
     record {
       store = putRecord startingStore (recordOf 0 2) (withPlace (started (C.sixteen r) (C.sixteen w)) 5 (Present 0 4));
-      memory = b ∷ b ∷ b ∷ b ∷ replicate 16380 0;
+      memory = b ∷ b ∷ b ∷ b ∷ replicate (memory - 4) 0;
     }
 
 abbrev pub one : Copy

@@ -1,9 +1,9 @@
--- What a call done has shown: no row of the table applied to it. So its place exists, its fields are good, its cluster is
--- active and its handle validates in the mode needed; and if it is not keyed to a cluster, it is about another one.
+-- What a call done has shown: no row of the table applied to it. So its place exists, its fields are good, its cluster
+-- is active and its handle is not gapped and validates in the mode needed.
 -- Assumes nothing.
 use mathlib.Core.Path.{_≡_, refl, sym, ap, _∙_}
-use mathlib.Core.Logic.{_≢_, _⊎_, inl, inr}
-use Prim.Native.Nat.{ℕ, _≤_, _<_}
+use mathlib.Core.Logic.{_≢_, _⊎_}
+use Prim.Native.Nat.{ℕ, _≤_}
 use native.Mathlib.Omega.{arith}
 use mathlib.Core.Bool.{true, false, _||_, true≢false}
 use mathlib.Core.List.{List}
@@ -11,23 +11,22 @@ use mathlib.Core.Option.{Option, none, some}
 use lib.Dec.{eqb}
 use lib.ListN.{length}
 use borrow.Author.Tests.{ltb-false, not-false}
-use Rattle.sizes.specs.Sizes.{clusters}
 use Rattle.handle.specs.Selectors.{gapped}
-use Rattle.handle.specs.Handles.{Name, nodeOf, widthOf}
+use Rattle.handle.specs.Handles.{Name, widthOf}
 use Rattle.store.specs.declared.Store.{Store}
 use Rattle.store.specs.Records.{tableAt}
 use Rattle.store.specs.Placement.{noRoomNumber, answered, newBase, placement}
 use Rattle.guard.specs.Calls.{Call, call, Arguments, newCluster, newSegment, write, opens, readMode, writeMode}
 use Rattle.guard.specs.Calls.{needed, handleOf, nodeFor, localFor, recordFor, recordNamed, placeFor, lengthOf}
 use Rattle.guard.specs.Numbers.{unsound, noPlace, badMode, badSegment, badSize, badField, gappedHandle, elsewhere}
-use Rattle.guard.specs.Numbers.{inUse, twins, inactiveCluster, valid, violated, notPrimary, notReferenced, oldPassword}
+use Rattle.guard.specs.Numbers.{inUse, twins, inactiveCluster, valid, violated, notPrimary, notReferenced}
+use Rattle.guard.specs.Numbers.{oldPassword}
 use Rattle.guard.specs.Numbers.{segmentPresent, segmentAbsent, short, fullNode, spentHandle, rows, number}
 use Rattle.guard.specs.Steps.{newBaseFor}
-use Rattle.isolation.specs.Copies.{setApart, keyed, Shut}
-use Rattle.isolation.specs.Checks.{NoRow, DoneIsClear}
-use Rattle.isolation.proofs.FirstLaws.{at, Clear, first-clear, clear-first}
-use Rattle.isolation.proofs.CallLaws.{or-left, or-right, InRange, in-range, handle-range, named, mode-known}
-use Rattle.isolation.proofs.CallLaws.{record-is, ungapped-is, inactive-is, violated-is, not-keyed}
+use Rattle.guard.specs.Clear.{NoRow, DoneIsClear}
+use Rattle.guard.proofs.FirstLaws.{at, Clear, first-clear, clear-first}
+use Rattle.guard.proofs.CallLaws.{or-left, or-right, InRange, in-range, mode-known}
+use Rattle.guard.proofs.CallLaws.{record-is, ungapped-is, inactive-is, violated-is}
 
 -- what placement tells, where it does not tell that there is no room
 placed : (o : Option ℕ) → eqb (answered o .number) noRoomNumber ≡ false → o ≡ some (answered o .base)
@@ -135,25 +134,6 @@ module _ (f : Name → List ℕ → ℕ → List ℕ) where
       pub done-valid : valid f (needed x) (handleOf x) s ≡ true
       done-valid = not-false (valid f (needed x) (handleOf x) s) (sym (violated-is x o f s) ∙ r .violated)
 
-      -- a call done that is not keyed in the mode needed is about another cluster
-      module _ (node local : ℕ) (low : local < clusters) where
-        pub away : keyed node local f (needed x) x s ≡ false → recordFor x ≢ setApart node local
-        away k = go (named node local low (nodeOf (handleOf x)) (handleOf x .local) (handle-range x o (r .noPlace)))
-          where
-            go : ((nodeOf (handleOf x) ≡ node) × (handleOf x .local ≡ local))
-                ⊎ (recordNamed (handleOf x) ≢ setApart node local) → recordFor x ≢ setApart node local
-            go (inr n) = λ t. n (sym (record-is x o) ∙ t)
-            go (inl n) =
-                absurd (true≢false
-                (sym done-valid ∙ not-keyed x o f s node local (needed x) k done-even (n .0) (n .1)))
-
-        pub shut-away : Shut node local f x s → recordFor x ≢ setApart node local
-        shut-away h = away (go done-mode)
-          where
-            go : (needed x ≡ readMode) ⊎ (needed x ≡ writeMode) → keyed node local f (needed x) x s ≡ false
-            go (inl q) = ap (λ (m : ℕ). keyed node local f m x s) q ∙ h .0
-            go (inr q) = ap (λ (m : ℕ). keyed node local f m x s) q ∙ h .1
-
   -- ---- by kind
 
   module _ (g : Arguments) (s : Store) (size : ℕ) where
@@ -162,7 +142,8 @@ module _ (f : Name → List ℕ → ℕ → List ℕ) where
         → recordFor (call newCluster g) ≢ n
     unfolding inUse
     new-away e n active q =
-        true≢false (sym active ∙ ap (λ (k : ℕ). tableAt s k .active) (sym q) ∙ no-row (call newCluster g) s size e .inUse)
+        true≢false
+        (sym active ∙ ap (λ (k : ℕ). tableAt s k .active) (sym q) ∙ no-row (call newCluster g) s size e .inUse)
 
     pub new-base : number f (call newSegment g) s size ≡ 0
         → newBase (tableAt s) (nodeFor (call newSegment g)) (g .size) ≡ some (newBaseFor (call newSegment g) (tableAt s))

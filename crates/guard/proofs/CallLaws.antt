@@ -1,29 +1,26 @@
--- What the data about the kinds says. A call that opens a cluster presents one handle and is about that handle's cluster;
--- a call with no row 2 is about a place that exists; one with no row 3 needs the read mode or the write mode.
+-- What the data about the kinds says. A call that opens a cluster presents one handle and is about that handle's
+-- cluster; a call with no row 2 is about a place that exists; one with no row 3 needs the read mode or the write mode.
 -- Assumes nothing.
 use mathlib.Core.Path.{_≡_, refl, sym, ap, _∙_}
 use mathlib.Core.Logic.{_≢_, _⊎_, inl, inr}
 use Prim.Native.Nat.{ℕ, _<_}
-use native.Mathlib.Omega.{arith}
-use native.Mathlib.Decide.{ℕ-discrete}
 use mathlib.Core.Bool.{Bool, true, false, not, _&&_, _||_, true≢false, false≢true}
 use mathlib.Core.List.{List, [], _∷_}
 use lib.Dec.{leb, eqb}
-use borrow.Author.Tests.{leb-false, eqb-true, eq-eqb, not-false}
-use Rattle.loops.proofs.BelowLaws.{and-both}
+use borrow.Author.Tests.{leb-false, eqb-true, not-false}
 use Rattle.sizes.specs.Sizes.{nodes, clusters}
 use Rattle.handle.specs.declared.Handle.{Handle}
 use Rattle.handle.specs.Selectors.{gapped}
 use Rattle.handle.specs.Handles.{Name, nodeOf, widthOf, noSuchPlace}
 use Rattle.store.specs.declared.Store.{Store}
 use Rattle.store.specs.Records.{Tables, recordOf}
 use Rattle.guard.specs.Calls.{Call, call, Arguments, Kind, newCluster, deleteCluster, newSegment, deleteSegment}
 use Rattle.guard.specs.Calls.{read, write, weaken, reduce, newPassword, validate, among, opens, uses}
-use Rattle.guard.specs.Calls.{readMode, writeMode, needed, handleOf, presented, anyOf, nodeFor, localFor, recordFor}
+use Rattle.guard.specs.Calls.{readMode, writeMode, needed, handleOf, presented, anyOf, nodeFor, localFor}
+use Rattle.guard.specs.Calls.{recordFor}
 use Rattle.guard.specs.Calls.{recordNamed}
 use Rattle.guard.specs.Numbers.{noPlace, badMode, badSegment, badSize, badField, gappedHandle, inactiveCluster}
 use Rattle.guard.specs.Numbers.{valid, violated}
-use Rattle.isolation.specs.Copies.{setApart, names, keyed}
 
 pub or-left : (a b : Bool) → (a || b) ≡ false → a ≡ false
 or-left true b e = e
@@ -99,16 +96,6 @@ pub handle-range : (x : Call) → opens (x .kind) ≡ true → noPlace x ≡ fal
     → InRange (nodeOf (handleOf x)) (handleOf x .local)
 handle-range x o e = let r = opened x o in rw (← r .node, ← r .local) (in-range x e)
 
--- a place in range is the cluster set apart, or has another record
-pub named : (node local : ℕ) → local < clusters → (n l : ℕ) → InRange n l
-    → ((n ≡ node) × (l ≡ local)) ⊎ (recordOf n l ≢ setApart node local)
-named node local low n l r = go (ℕ-discrete n node) (ℕ-discrete l local)
-  where
-    go : Dec (n ≡ node) → Dec (l ≡ local) → ((n ≡ node) × (l ≡ local)) ⊎ (recordOf n l ≢ setApart node local)
-    go (yes p) (yes q) = inl (p, q)
-    go (yes p) (no q) = inr (λ e. let hr = r .local-low in absurd (omega arith))
-    go (no p) d = inr (λ e. let hr = r .local-low in absurd (omega arith))
-
 -- ---- the mode needed
 
 pub mode-known : (x : Call) → badField x ≡ false → (needed x ≡ readMode) ⊎ (needed x ≡ writeMode)
@@ -139,12 +126,12 @@ or-none : (b : Bool) → (b || false) ≡ b
 or-none true = refl
 or-none false = refl
 
-only : (o : Bool) (p : Handle → Bool) (hs : List Handle) (h : Handle) → o ≡ true → hs ≡ h ∷ []
+pub only : (o : Bool) (p : Handle → Bool) (hs : List Handle) (h : Handle) → o ≡ true → hs ≡ h ∷ []
     → (o && anyOf p hs) ≡ p h
 only true p hs h e q = ap (anyOf p) q ∙ or-none (p h)
 only false p hs h e q = absurd (false≢true e)
 
-guarded : (g t : Bool) → g ≡ true → (g && t) ≡ false → t ≡ false
+pub guarded : (g t : Bool) → g ≡ true → (g && t) ≡ false → t ≡ false
 guarded true t p e = e
 guarded false t p e = absurd (false≢true p)
 
@@ -168,25 +155,3 @@ module _ (x : Call) (o : opens (x .kind) ≡ true) where
     unfolding violated
     violated-is =
         only (opens (x .kind)) (λ h. not (valid f (needed x) h s)) (presented x) (handleOf x) o (opened x o .one)
-
-    -- the handle of a call that is not keyed in a mode does not validate in it, if it names the cluster
-    pub not-keyed : (node local m : ℕ) → keyed node local f m x s ≡ false
-        → gapped (widthOf (handleOf x)) (handleOf x .selector) ≡ false
-        → nodeOf (handleOf x) ≡ node → handleOf x .local ≡ local → valid f m (handleOf x) s ≡ false
-    unfolding keyed
-    not-keyed node local m e g p q =
-        guarded (names node local h && even) (valid f m h s)
-        (and-both (names node local h) even
-        (and-both (eqb (nodeOf h) node) (eqb (h .local) local) (eq-eqb (nodeOf h) node p) (eq-eqb (h .local) local q))
-        (ap not g))
-        (sym
-        (only (opens (x .kind))
-        (λ h. names node local h && not (gapped (widthOf h) (h .selector)) && valid f m h s) (presented x) h o
-        (opened x o .one))
-        ∙ e)
-      where
-        h : Handle
-        h = handleOf x
-
-        even : Bool
-        even = not (gapped (widthOf h) (h .selector))

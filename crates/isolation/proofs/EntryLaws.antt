@@ -1,0 +1,113 @@
+-- What a call leaves alone in the record of its own cluster. The record put is made from the old one, and a store that
+-- lacks the record stays as it is.
+-- Assumes nothing.
+use mathlib.Core.Path.{_≡_, refl, sym, ap, _∙_, subst}
+use mathlib.Core.Logic.{_⊎_, inl, inr}
+use Prim.Native.Nat.{ℕ, _<_}
+use native.Mathlib.Omega.{arith}
+use native.Mathlib.Decide.{ℕ-discrete, decLt}
+use mathlib.Core.List.{List}
+use lib.ListN.{length}
+use lib.Seq.{getD-set-other}
+use Rattle.handle.specs.Handles.{Name}
+use Rattle.store.specs.declared.Place.{Place}
+use Rattle.store.specs.declared.Place.the-variants.{Absent}
+use Rattle.store.specs.declared.Cluster.{Cluster}
+use Rattle.store.specs.declared.Store.{Store}
+use Rattle.store.specs.Records.{absentSegment, clusterAt, tableAt, putRecord, withPlace}
+use Rattle.store.proofs.ChangeLaws.{put-other, put-same, put-out}
+use Rattle.guard.specs.Calls.{Copy, Call, call, Arguments, Kind, newCluster, deleteCluster, newSegment, deleteSegment}
+use Rattle.guard.specs.Calls.{read, write, weaken, reduce, newPassword, validate, readMode, writeMode, recordFor}
+use Rattle.guard.specs.Calls.{primaryOf}
+use Rattle.guard.specs.Steps.{about, withPassword, newPlace, clusterMade, clusterDeleted, segmentMade, segmentDeleted}
+use Rattle.guard.specs.Steps.{segmentWritten, passwordReplaced, left}
+use Rattle.isolation.specs.Copies.{Done}
+use Rattle.isolation.specs.Effects.{otherMode, OtherSegments, OtherPassword, Entries, EntriesStay}
+use Rattle.guard.proofs.DoneLaws.{done-mode}
+use Rattle.isolation.proofs.KeptLaws.{by-number}
+
+-- a record put, seen at some record: as it was, or the new one
+pub put-cases : (s : Store) (n m : ℕ) (d : Cluster)
+    → (clusterAt (putRecord s n d) m ≡ clusterAt s m) ⊎ ((m ≡ n) × (clusterAt (putRecord s n d) m ≡ d))
+put-cases s n m d = go (ℕ-discrete m n) (decLt n (length (s .clusters)))
+  where
+    go : Dec (m ≡ n) → Dec (n < length (s .clusters))
+        → (clusterAt (putRecord s n d) m ≡ clusterAt s m) ⊎ ((m ≡ n) × (clusterAt (putRecord s n d) m ≡ d))
+    go (no t) h = inl (put-other s n d m t)
+    go (yes t) (no h) = inl (ap (λ (z : Store). clusterAt z m) (put-out s n d (omega arith)))
+    go (yes t) (yes h) = inr (t, ap (clusterAt (putRecord s n d)) t ∙ put-same s n d h)
+
+-- so a law of the old record and of the new one is a law of what is found there
+by-cases : (P : Cluster → Type 0) (s : Store) (n : ℕ) (d : Cluster) → P (clusterAt s n) → P d
+    → P (clusterAt (putRecord s n d) n)
+by-cases P s n d old new = go (put-cases s n n d)
+  where
+    go : (clusterAt (putRecord s n d) n ≡ clusterAt s n) ⊎ ((n ≡ n) × (clusterAt (putRecord s n d) n ≡ d))
+        → P (clusterAt (putRecord s n d) n)
+    go (inl q) = subst P (sym q) old
+    go (inr q) = subst P (sym (q .1)) new
+
+entries-same : (k : Kind) (x : Call) (a : Cluster) → Entries k x a a
+entries-same newCluster x a = tt
+entries-same deleteCluster x a = tt
+entries-same newSegment x a = record { active = refl; read = refl; write = refl; segments = λ j ne. refl }
+entries-same deleteSegment x a = record { active = refl; read = refl; write = refl; segments = λ j ne. refl }
+entries-same read x a = refl
+entries-same write x a = refl
+entries-same weaken x a = refl
+entries-same reduce x a = refl
+entries-same newPassword x a = record { table = refl; password = refl }
+entries-same validate x a = refl
+
+-- a segment replaced leaves the others
+placed : (x : Call) (a : Cluster) (p : Place) → OtherSegments x a (withPlace a (x .args .segment) p)
+placed x a p =
+    record {
+      active = refl;
+      read = refl;
+      write = refl;
+      segments = λ j ne. getD-set-other (a .segments) (x .args .segment) j (record { place = p }) absentSegment ne;
+    }
+
+-- a password replaced leaves the other one, in either mode
+pub other-stays : (a : Cluster) (m : ℕ) (p : List ℕ) → (m ≡ readMode) ⊎ (m ≡ writeMode)
+    → primaryOf (withPassword a m p) (otherMode m) ≡ primaryOf a (otherMode m)
+other-stays a m p (inl q) =
+    ap (λ (m : ℕ). primaryOf (withPassword a m p) (otherMode m)) q ∙ ap (λ (m : ℕ). primaryOf a (otherMode m)) (sym q)
+other-stays a m p (inr q) =
+    ap (λ (m : ℕ). primaryOf (withPassword a m p) (otherMode m)) q ∙ ap (λ (m : ℕ). primaryOf a (otherMode m)) (sym q)
+
+module _ (f : Name → List ℕ → ℕ → List ℕ) (g : Arguments) (c : Copy) where
+  left-entries : (k : Kind) → Done f (call k g) c
+      → Entries k (call k g) (about (call k g) c) (clusterAt (left k (call k g) c .store) (recordFor (call k g)))
+  unfolding left clusterMade clusterDeleted segmentMade segmentDeleted segmentWritten passwordReplaced
+  left-entries newCluster e = tt
+  left-entries deleteCluster e = tt
+  left-entries newSegment e =
+      let x : Call = call newSegment g in
+      let p : Place = newPlace x (tableAt (c .store)) in
+      by-cases (OtherSegments x (about x c)) (c .store) (recordFor x) (withPlace (about x c) (g .segment) p)
+      (entries-same newSegment x (about x c)) (placed x (about x c) p)
+  left-entries deleteSegment e =
+      let x : Call = call deleteSegment g in
+      by-cases (OtherSegments x (about x c)) (c .store) (recordFor x) (withPlace (about x c) (g .segment) Absent)
+      (entries-same deleteSegment x (about x c)) (placed x (about x c) Absent)
+  left-entries read e = refl
+  left-entries write e = refl
+  left-entries weaken e = refl
+  left-entries reduce e = refl
+  left-entries newPassword e =
+      let x : Call = call newPassword g in
+      by-cases (OtherPassword x (about x c)) (c .store) (recordFor x) (withPassword (about x c) (g .mode) (g .first))
+      (entries-same newPassword x (about x c))
+      (record {
+        table = refl;
+        password =
+            other-stays (about x c) (g .mode) (g .first) (done-mode f x (c .store) (length (c .memory)) e);
+      })
+  left-entries validate e = refl
+
+pub entries-stay : (f : Name → List ℕ → ℕ → List ℕ) → EntriesStay f
+entries-stay f x c =
+    by-number f (λ d. Entries (x .kind) x (about x c) (clusterAt (d .store) (recordFor x))) x c
+    (entries-same (x .kind) x (about x c)) (left-entries f (x .args) c (x .kind))
