@@ -7,18 +7,18 @@ use mathlib.Core.Logic.{_⊎_, inl, inr}
 use Prim.Native.Nat.{ℕ, _<_}
 use native.Mathlib.Omega.{arith}
 use native.Mathlib.Decide.{decLt}
-use mathlib.Core.Bool.{true, false, true≢false}
+use mathlib.Core.Bool.{Bool, true, false, true≢false}
 use mathlib.Core.List.{List}
 use lib.ListN.{length, List·getD-eq-default}
 use Rattle.sizes.specs.Sizes.{nodes, clusters, segments, passwordBytes}
 use Rattle.handle.specs.declared.Handle.{Handle}
 use Rattle.handle.specs.Sizes.{handleBytes}
-use Rattle.handle.specs.Selectors.{references, gapped, flats}
+use Rattle.handle.specs.Selectors.{gapped, flats}
 use Rattle.handle.specs.Handles.{Name, nameOf, encoded, decoded, Bytes, through, validates}
 use Rattle.handle.specs.Handles.{weakened, reduced}
 use Rattle.handle.specs.Opens.{primaryHandle}
-use Rattle.handle.proofs.HandleLaws.{name-weakened, valid-weakened, references-weakened}
-use Rattle.handle.proofs.HandleLaws.{name-reduced, valid-reduced, references-reduced}
+use Rattle.handle.proofs.HandleLaws.{name-weakened, gapped-weakened, valid-weakened, references-weakened}
+use Rattle.handle.proofs.HandleLaws.{name-reduced, gapped-reduced, valid-reduced, references-reduced}
 use Rattle.handle.proofs.OpensLaws.{opens-primary}
 use Rattle.handle.proofs.PasswordLaws.{equal-validates, validates-equal}
 use Rattle.handle.proofs.CodecLaws.{decode-encode, holdable-decoded, whole-decoded, holdable-weakened, holdable-reduced}
@@ -33,9 +33,9 @@ use Rattle.guard.specs.Steps.{about, withPassword, clusterMade, passwordReplace
 use Rattle.isolation.specs.Copies.{SixteenBytes}
 use Rattle.guard.specs.Clear.{NoRow}
 use Rattle.isolation.specs.Effects.{Made, MadeOpens, otherMode, Renewed, RenewedOpens, Reduced, ReducedOpens}
-use Rattle.isolation.specs.Effects.{Weakened, WeakenedOpens}
+use Rattle.isolation.specs.Effects.{Weakened, WeakenedOpens, Refers}
 use Rattle.guard.proofs.CallLaws.{or-left, InRange}
-use Rattle.guard.proofs.DoneLaws.{no-row, done-range, done-mode, done-active, done-valid}
+use Rattle.guard.proofs.DoneLaws.{no-row, done-range, done-mode, done-even, done-active, done-valid}
 use Rattle.isolation.proofs.KeptLaws.{step-done}
 use Rattle.isolation.proofs.EntryLaws.{other-stays}
 
@@ -49,20 +49,40 @@ active-in s n e = go (decLt n (length (s .clusters)))
         absurd (true≢false
         (sym e ∙ ap (λ (c : Cluster). c .active) (List·getD-eq-default (s .clusters) noCluster (omega arith))))
 
+-- what a handle's bytes are read back as
+back-refers : {n : Name} {r : ℕ → Bool} (h : Handle) → decoded (encoded h) ≡ h → Refers n r h
+    → Refers n r (decoded (encoded h))
+back-refers {n} {r} h e o = subst (Refers n r) (sym e) o
+
 module _ (f : Name → List ℕ → ℕ → List ℕ) where
   -- ---- primary handles
+
+  primary-back : (n : Name) (p : List ℕ) → n .node < nodes → n .local < clusters → length p ≡ passwordBytes
+      → decoded (encoded (primaryHandle segments n p)) ≡ primaryHandle segments n p
+  primary-back n p hn hl hp =
+      decode-encode (primaryHandle segments n p) (record {
+        node = omega arith;
+        local = omega arith;
+        password = hp;
+        selector = refl;
+      })
+
+  primary-refers : (n : Name) (p : List ℕ) → n .node < nodes → n .local < clusters → length p ≡ passwordBytes
+      → Refers n (λ i. true) (decoded (encoded (primaryHandle segments n p)))
+  primary-refers n p hn hl hp =
+      let o = opens-primary segments (f n) n p in
+      back-refers (primaryHandle segments n p) (primary-back n p hn hl hp) (record {
+        named = o .named;
+        ungapped = o .ungapped;
+        refers = o .refers;
+      })
 
   primary-valid : (n : Name) (mode : ℕ) (p : List ℕ) (s : Store) → n .node < nodes → n .local < clusters
       → length p ≡ passwordBytes → primaryOf (clusterAt s (recordOf (n .node) (n .local))) mode ≡ p
       → valid f mode (decoded (encoded (primaryHandle segments n p))) s ≡ true
   unfolding valid
   primary-valid n mode p s hn hl hp e =
-      ap (λ (h : Handle). valid f mode h s) (decode-encode h (record {
-        node = omega arith;
-        local = omega arith;
-        password = hp;
-        selector = refl;
-      }))
+      ap (λ (h : Handle). valid f mode h s) (primary-back n p hn hl hp)
       ∙ equal-validates segments (f n) h _
       (ap (through segments (f n) (flats segments)) e ∙ opens-primary segments (f n) n p .valid)
     where
@@ -72,7 +92,9 @@ module _ (f : Name → List ℕ → ℕ → List ℕ) where
   pub made-opens : MadeOpens f
   unfolding left given clusterMade
   made-opens g c shape lp lq e =
-      subst (Made f) (sym (step-done f x c e)) (record {
+      subst (Made f x) (sym (step-done f x c e)) (record {
+        reader = primary-refers n (g .first) (v .node-low) (v .local-low) lp;
+        writer = primary-refers n (g .second) (v .node-low) (v .local-low) lq;
         reading =
             primary-valid n readMode (g .first) s (v .node-low) (v .local-low) lp
             (ap (λ (d : Cluster). d .read) here);
@@ -102,6 +124,7 @@ module _ (f : Name → List ℕ → ℕ → List ℕ) where
   unfolding left given passwordReplaced
   renewed-opens g c lp e =
       subst (Renewed f x c) (sym (step-done f x c e)) (record {
+        handle = primary-refers (nameOf (handleOf x)) (g .first) (v .node-low) (v .local-low) lp;
         opens =
             primary-valid (nameOf (handleOf x)) (g .mode) (g .first) s (v .node-low) (v .local-low) lp
             (ap (λ (d : Cluster). primaryOf d (g .mode)) here ∙ new mode);
@@ -168,9 +191,14 @@ module _ (f : Name → List ℕ → ℕ → List ℕ) where
             (valid-reduced segments (f (nameOf h)) h p (whole-decoded (g .handle) o)
             (chain sixteen (g .handle) o (g .mode) (c .store) l
             (done-valid f x (c .store) (length (c .memory)) e refl)));
-        refers = λ i k.
-            ap (λ (z : Handle). references (z .selector) i) back
-            ∙ references-reduced segments (f (nameOf h)) h p i k;
+        handle =
+            back-refers r back (record {
+              named = name-reduced segments (f (nameOf h)) h p;
+              ungapped =
+                  gapped-reduced segments (f (nameOf h)) h p (whole-decoded (g .handle) o)
+                  (done-even f x (c .store) (length (c .memory)) e refl);
+              refers = references-reduced segments (f (nameOf h)) h p;
+            });
       })
     where
       x : Call
@@ -201,9 +229,14 @@ module _ (f : Name → List ℕ → ℕ → List ℕ) where
             (primaryOf (clusterAt (c .store) (recordNamed h)) m)
             (or-left (gapped segments (h .selector)) false (row .gappedHandle))
             (chain sixteen (g .handle) o m (c .store) l v));
-        refers = λ i k.
-            ap (λ (z : Handle). references (z .selector) i) back
-            ∙ references-weakened segments (f (nameOf h)) h (g .mask) (row .spentHandle) i k;
+        handle =
+            back-refers r back (record {
+              named = name-weakened segments (f (nameOf h)) h (g .mask);
+              ungapped =
+                  gapped-weakened segments (f (nameOf h)) h (g .mask)
+                  (or-left (gapped segments (h .selector)) false (row .gappedHandle));
+              refers = references-weakened segments (f (nameOf h)) h (g .mask) (row .spentHandle);
+            });
       })
     where
       x : Call

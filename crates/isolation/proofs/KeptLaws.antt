@@ -3,7 +3,7 @@
 -- makes or writes is a segment of its own cluster, and lies outside the segments of every other one.
 -- Assumes nothing.
 use mathlib.Core.Path.{_≡_, refl, sym, ap, _∙_}
-use mathlib.Core.Logic.{_≢_}
+use mathlib.Core.Logic.{_≢_, _⊎_, inl, inr}
 use Prim.Native.Nat.{ℕ, zero, suc, _+_, _≤_, _<_}
 use native.Mathlib.Omega.{arith}
 use mathlib.Core.List.{List, [], _∷_}
@@ -32,6 +32,7 @@ use Rattle.isolation.specs.Statements.{start, StartSound, SoundKept, Tou
 use Rattle.guard.proofs.MemoryLaws.{length-overwritten, overwritten-out}
 use Rattle.guard.proofs.CallLaws.{InRange}
 use Rattle.isolation.proofs.AddressLaws.{in-place, place-fits, place-inside, place-outside, room-outside}
+use Rattle.isolation.proofs.AwayLaws.{named}
 use Rattle.guard.proofs.DoneLaws.{done-range, done-segment, done-active, new-base, write-long}
 
 abbrev pub tables : Copy → Tables
@@ -128,10 +129,10 @@ module _ (f : Name → List ℕ → ℕ → List ℕ) where
     -- ---- only its own is changed
 
     put-own : (x : Call) (d : Cluster) → OnlyItsOwn x c (putCluster c (recordFor x) d)
-    put-own x d = record { records = put-other (c .store) (recordFor x) d; bytes = λ p u. refl }
+    put-own x d = record { records = put-other (c .store) (recordFor x) d; size = refl; bytes = λ p u. refl }
 
     same-own : (x : Call) → OnlyItsOwn x c c
-    same-own x = record { records = λ n ne. refl; bytes = λ p u. refl }
+    same-own x = record { records = λ n ne. refl; size = refl; bytes = λ p u. refl }
 
     left-own : (kind : Kind) → Done f (call kind g) c → OnlyItsOwn (call kind g) c (left kind (call kind g) c)
     unfolding left clusterMade clusterDeleted segmentMade segmentDeleted segmentWritten passwordReplaced
@@ -141,6 +142,7 @@ module _ (f : Name → List ℕ → ℕ → List ℕ) where
         let x : Call = call newSegment g in
         record {
           records = put-own x (withPlace (about x c) (g .segment) (newPlace x (tables c))) .records;
+          size = length-overwritten (c .memory) (newStart x (tables c)) cleared (new-fits e);
           bytes = λ p u.
               overwritten-out (c .memory) (newStart x (tables c)) cleared (new-fits e) p
               (λ lo hi. u (lo, rw (length-replicate {A = ℕ} (g .size) 0) at hi));
@@ -151,6 +153,7 @@ module _ (f : Name → List ℕ → ℕ → List ℕ) where
         let x : Call = call write g in
         record {
           records = λ n ne. refl;
+          size = length-overwritten (c .memory) (startFor x (tables c)) data-written (write-fits e);
           bytes = λ p u.
               overwritten-out (c .memory) (startFor x (tables c)) data-written (write-fits e) p
               (λ lo hi. u (in-place (nodeFor x) (placeFor x (tables c)) p lo (rw (length-data e) at hi)));
@@ -220,9 +223,15 @@ module _ (f : Name → List ℕ → ℕ → List ℕ) where
   held-same node local c = record { cluster = refl; bytes = λ p i hi u. refl }
 
   pub other-held : (node local : ℕ) → OtherHeld node local f
-  other-held node local high low x c k ne =
+  other-held node local high low x c k away =
       by-number (Held node local c) x c (held-same node local c)
-      (λ e. left-held (x .args) c k node local high low (x .kind) e ne)
+      (λ e. left-held (x .args) c k node local high low (x .kind) e
+      (go (named node local low (nodeFor x) (localFor x) (done-range f x (c .store) (length (c .memory)) e))))
+    where
+      go : ((nodeFor x ≡ node) × (localFor x ≡ local)) ⊎ (recordFor x ≢ setApart node local)
+          → recordFor x ≢ setApart node local
+      go (inl q) = absurd (away q)
+      go (inr ne) = ne
 
 pub start-sound : StartSound
 start-sound = ap (sound (start .store)) (length-replicate {A = ℕ} memory 0) ∙ sound-starting

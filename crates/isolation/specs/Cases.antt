@@ -143,6 +143,9 @@ damaged =
     ∷ gives 1 (call8 1 (primary 3))
     ∷ gives 1 (call9 1 (primary 3) (sixteen 8))
     ∷ gives 1 (callV 1 (primary 3))
+    ∷ gives 1 (call5 far 5 room)
+    ∷ gives 1 (call8 3 (primary 9))
+    ∷ gives 1 (call1 4 3 (sixteen 1) (sixteen 1))
     ∷ []
 
 abbrev pub refusals : List Case
@@ -223,6 +226,9 @@ refusals =
 abbrev pub orders : List Case
 orders =
     gives 2 (call8 3 far)
+    ∷ gives 2 (call1 4 3 (sixteen 1) (sixteen 1))
+    ∷ gives 2 (call1 0 10 (sixteen 1) (sixteen 2))
+    ∷ gives 2 (call7 (shown 4 2 3 (254 ∷ 253 ∷ 251 ∷ 247 ∷ [])) 239)
     ∷ gives 3 (call8 3 gap)
     ∷ gives 4 (call2 0 gap)
     ∷ gives 5 (call2 0 idle)

@@ -1,8 +1,11 @@
 -- Document 01, "The calls", the column "Done, it gives and leaves", by what can be seen of it afterwards. For every
 -- conversion f and a call done:
 --     Shaped s           the store has all its records, and each has all its segments
---     MadeOpens          call 1: the two handles validate, one for reading and one for writing, on the copy left
---     RenewedOpens       call 9: the handle validates in the mode named on the copy left, and the other password stays
+--     nameFor x          the name of the cluster that a call is about
+--     Refers n r h       the handle h names n, is not gapped, and references exactly the segments that r gives
+--     MadeOpens          call 1: the two handles name the cluster, reference every segment, and validate, one for
+--                        reading and one for writing, on the copy left
+--     RenewedOpens       call 9: so does the handle, in the mode named, and the other password stays
 --     ReducedOpens       call 8: the handle validates in the mode named, and references the same segments
 --     WeakenedOpens      call 7: the handle validates in each mode in which the old one does, and references those
 --                        segments of the old one that the mask keeps
@@ -21,15 +24,16 @@
 use mathlib.Core.Path.{_≡_}
 use mathlib.Core.Logic.{_≢_}
 use Prim.Native.Nat.{ℕ, _<_}
-use mathlib.Core.Bool.{true, false, _&&_}
+use mathlib.Core.Bool.{Bool, true, false, _&&_}
 use mathlib.Core.List.{List, _++_}
 use lib.Dec.{eqb}
 use lib.ListN.{length, take, drop, replicate}
 use Rattle.bits.specs.Sets.{has}
 use Rattle.sizes.specs.Sizes as N
+use Rattle.handle.specs.declared.Handle.{Handle}
 use Rattle.handle.specs.Sizes.{handleBytes}
-use Rattle.handle.specs.Selectors.{references}
-use Rattle.handle.specs.Handles.{Name, widthOf, decoded, Bytes}
+use Rattle.handle.specs.Selectors.{references, gapped}
+use Rattle.handle.specs.Handles.{Name, nameOf, widthOf, decoded, Bytes}
 use Rattle.store.specs.declared.Place.the-variants.{Absent}
 use Rattle.store.specs.declared.Cluster.{Cluster}
 use Rattle.store.specs.declared.Store.{Store}
@@ -53,19 +57,31 @@ pub record SameSegment (x y : Call) : Type 0 where
 abbrev pub otherMode : ℕ → ℕ
 otherMode m = elim (eqb m readMode) [ true ↦ writeMode | false ↦ readMode ]
 
+abbrev pub nameFor : Call → Name
+nameFor x = record { node = nodeFor x; local = localFor x }
+
+pub record Refers (n : Name) (r : ℕ → Bool) (h : Handle) : Type 0 where
+  pub named : nameOf h ≡ n
+  pub ungapped : gapped (widthOf h) (h .selector) ≡ false
+  pub refers : (i : ℕ) → i < widthOf h → references (h .selector) i ≡ r i
+
 module _ (f : Name → List ℕ → ℕ → List ℕ) where
   -- ---- the handles
 
-  pub record Made (o : Outcome) : Type 0 where
+  pub record Made (x : Call) (o : Outcome) : Type 0 where
+    pub reader : Refers (nameFor x) (λ i. true) (decoded (o .reply .first))
+    pub writer : Refers (nameFor x) (λ i. true) (decoded (o .reply .second))
     pub reading : valid f readMode (decoded (o .reply .first)) (o .copy .store) ≡ true
     pub writing : valid f writeMode (decoded (o .reply .second)) (o .copy .store) ≡ true
 
   abbrev pub MadeOpens : Type 0
   MadeOpens =
-      (g : Arguments) (c : Copy) → Shaped (c .store) → length (g .first) ≡ N.passwordBytes
-      → length (g .second) ≡ N.passwordBytes → Done f (call newCluster g) c → Made (step f (call newCluster g) c)
+      (g : Arguments) (c : Copy) → let x = call newCluster g in
+      Shaped (c .store) → length (g .first) ≡ N.passwordBytes → length (g .second) ≡ N.passwordBytes
+      → Done f x c → Made x (step f x c)
 
   pub record Renewed (x : Call) (c : Copy) (o : Outcome) : Type 0 where
+    pub handle : Refers (nameFor x) (λ i. true) (decoded (o .reply .first))
     pub opens : valid f (x .args .mode) (decoded (o .reply .first)) (o .copy .store) ≡ true
     pub other : primaryOf (clusterAt (o .copy .store) (recordFor x)) (otherMode (x .args .mode))
         ≡ primaryOf (clusterAt (c .store) (recordFor x)) (otherMode (x .args .mode))
@@ -77,8 +93,7 @@ module _ (f : Name → List ℕ → ℕ → List ℕ) where
 
   pub record Reduced (x : Call) (o : Outcome) : Type 0 where
     pub opens : valid f (x .args .mode) (decoded (o .reply .first)) (o .copy .store) ≡ true
-    pub refers : (i : ℕ) → i < widthOf (handleOf x)
-        → references (decoded (o .reply .first) .selector) i ≡ references (handleOf x .selector) i
+    pub handle : Refers (nameFor x) (references (handleOf x .selector)) (decoded (o .reply .first))
 
   abbrev pub ReducedOpens : Type 0
   ReducedOpens =
@@ -90,9 +105,8 @@ module _ (f : Name → List ℕ → ℕ → List ℕ) where
   pub record Weakened (x : Call) (c : Copy) (o : Outcome) : Type 0 where
     pub opens : (m : ℕ) → length (primaryOf (clusterAt (c .store) (recordFor x)) m) ≡ N.passwordBytes
         → valid f m (handleOf x) (c .store) ≡ true → valid f m (decoded (o .reply .first)) (c .store) ≡ true
-    pub refers : (i : ℕ) → i < widthOf (handleOf x)
-        → references (decoded (o .reply .first) .selector) i
-        ≡ references (handleOf x .selector) i && has i (x .args .mask)
+    pub handle : Refers (nameFor x) (λ i. references (handleOf x .selector) i && has i (x .args .mask))
+        (decoded (o .reply .first))
 
   abbrev pub WeakenedOpens : Type 0
   WeakenedOpens =

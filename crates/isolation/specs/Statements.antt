@@ -22,12 +22,13 @@ use mathlib.Core.Logic.{_≢_}
 use Prim.Native.Nat.{ℕ, _<_}
 use mathlib.Core.Bool.{true}
 use mathlib.Core.List.{List}
-use lib.ListN.{getD, replicate}
+use lib.ListN.{length, getD, replicate}
 use Rattle.sizes.specs.Sizes.{nodes, clusters, segments, memory}
 use Rattle.handle.specs.Handles.{Name}
 use Rattle.store.specs.Records.{Tables, startingStore, recordOf, clusterAt, tableAt, placeOn}
 use Rattle.guard.specs.Calls.{Copy, Call, Kind, newCluster, deleteCluster, newSegment, deleteSegment}
-use Rattle.guard.specs.Calls.{read, write, weaken, reduce, newPassword, validate, nodeFor, recordFor, placeFor}
+use Rattle.guard.specs.Calls.{read, write, weaken, reduce, newPassword, validate, nodeFor, localFor, recordFor}
+use Rattle.guard.specs.Calls.{placeFor}
 use Rattle.guard.specs.Steps.{newPlace, step, run}
 use Rattle.isolation.specs.Copies.{SoundCopy, InPlace, setApart, Alike, Held, Unaltered, AllShut, NoWriter}
 
@@ -52,6 +53,7 @@ Touched validate x ts p = ⊥
 -- the copy d is c but for what a call may change
 pub record OnlyItsOwn (x : Call) (c d : Copy) : Type 0 where
   pub records : (n : ℕ) → n ≢ recordFor x → clusterAt (d .store) n ≡ clusterAt (c .store) n
+  pub size : length (d .memory) ≡ length (c .memory)
   pub bytes : (p : ℕ) → (Touched (x .kind) x (tableAt (c .store)) p → ⊥) → getD (d .memory) p 0 ≡ getD (c .memory) p 0
 
 module _ (f : Name → List ℕ → ℕ → List ℕ) where
@@ -64,8 +66,8 @@ module _ (f : Name → List ℕ → ℕ → List ℕ) where
 module _ (node local : ℕ) (f : Name → List ℕ → ℕ → List ℕ) where
   abbrev pub OtherHeld : Type 0
   OtherHeld =
-      node < nodes → local < clusters → (x : Call) (c : Copy) → SoundCopy c → recordFor x ≢ setApart node local
-      → Held node local c (step f x c .copy)
+      node < nodes → local < clusters → (x : Call) (c : Copy) → SoundCopy c
+      → ((nodeFor x ≡ node) × (localFor x ≡ local) → ⊥) → Held node local c (step f x c .copy)
 
   pub record Agreed (xs : List Call) (a b : Copy) : Type 0 where
     pub replies : run f xs a .replies ≡ run f xs b .replies
