@@ -5,7 +5,7 @@ use mathlib.Core.Path.{_≡_, refl, ap, _∙_}
 use Prim.Native.Nat.{_<_}
 use native.Mathlib.Omega.{arith}
 use mathlib.Core.Bool.{Bool, true, false, cond}
-use mathlib.Core.List.{List, [], _∷_, _++_, map}
+use mathlib.Core.List.{List, [], _∷_, map}
 use Rattle.handle.specs.Handles.{Row, firstOf}
 use Rattle.store.specs.declared.Store.{Store}
 use Rattle.guard.specs.Calls.{Call}
@@ -54,14 +54,3 @@ first-clear (r ∷ rs) n e = go (r .applies) refl (first-clear rs (n .1)) e
 pub clear-first : (rs : List Row) → Clear rs → firstOf rs ≡ 0
 clear-first [] c = refl
 clear-first (r ∷ rs) c = ap (λ (t : Bool). cond t (r .number) (firstOf rs)) (c .0) ∙ clear-first rs (c .1)
-
--- rows that do not apply are passed; the first that applies gives its number, whatever stands below it
-pub first-past : (front back : List Row) → Clear front → firstOf (front ++ back) ≡ firstOf back
-first-past [] back c = refl
-first-past (r ∷ front) back c =
-    ap (λ (t : Bool). cond t (r .number) (firstOf (front ++ back))) (c .0) ∙ first-past front back (c .1)
-
-pub first-here : (front : List Row) (r : Row) (back : List Row) → Clear front → r .applies ≡ true
-    → firstOf (front ++ (r ∷ back)) ≡ r .number
-first-here front r back c e =
-    first-past front (r ∷ back) c ∙ ap (λ (t : Bool). cond t (r .number) (firstOf back)) e

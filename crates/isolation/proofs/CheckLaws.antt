@@ -7,7 +7,7 @@ use mathlib.Core.Logic.{_⊎_, inl, inr}
 use Prim.Native.Nat.{ℕ, zero, suc}
 use native.Mathlib.Omega.{arith}
 use mathlib.Core.Bool.{Bool, true, false, not, _||_, cond}
-use mathlib.Core.List.{List, []}
+use mathlib.Core.List.{List, [], _∷_, _++_}
 use lib.Dec.{eqb}
 use lib.ListN.{length, drop, length-drop}
 use lib.Seq.{length-take-le}
@@ -17,7 +17,7 @@ use Rattle.sizes.specs.Sizes.{passwordBytes}
 use Rattle.handle.specs.declared.Handle.{Handle}
 use Rattle.handle.specs.Sizes.{passwordAt, handleBytes}
 use Rattle.handle.specs.Selectors.{references, allFlat, gapped, spent, referenced}
-use Rattle.handle.specs.Handles.{Name, nameOf, nodeOf, widthOf, decoded, noSuchPlace, reply}
+use Rattle.handle.specs.Handles.{Name, nameOf, nodeOf, widthOf, decoded, noSuchPlace, firstOf, reply}
 use Rattle.handle.specs.Handles.{weakenNumber, validates, weakened, weakening}
 use Rattle.handle.proofs.PasswordLaws.{equal-validates, validates-equal}
 use Rattle.handle.proofs.CodecLaws.{encoded-none}
@@ -32,9 +32,10 @@ use Rattle.guard.specs.Numbers.{inUse, twins, inactiveCluster, valid, violated,
 use Rattle.guard.specs.Numbers.{segmentPresent, segmentAbsent, short, fullNode, spentHandle, number}
 use Rattle.guard.specs.Steps.{zeroHandle, plain, left, given, outcome, step}
 use Rattle.isolation.specs.Copies.{SixteenBytes}
-use Rattle.isolation.specs.Checks.{Refused, RefusalChangesNothing, Opener, MustHold, DoneHeld}
+use Rattle.isolation.specs.Checks.{Refused, RefusalChangesNothing, NoneApplies, FirstTold, Opener, MustHold, DoneHeld}
 use Rattle.isolation.specs.Checks.{Judgeable, ValidationJudges, ValidationIsReduction}
 use Rattle.isolation.specs.Checks.{weakenReply, WeakeningIs}
+use Rattle.guard.proofs.FirstLaws.{Line, at}
 use Rattle.guard.proofs.CallLaws.{or-left, record-is, violated-is}
 use Rattle.guard.proofs.DoneLaws.{no-row, done-even, done-active, done-valid}
 
@@ -52,6 +53,18 @@ module _ (f : Name → List ℕ → ℕ → List ℕ) where
             copy = ap (λ (k : ℕ). outcome f k x c .copy) e;
             reply = ap (λ (k : ℕ). outcome f k x c .reply) e ∙ ap (λ (k : ℕ). plain k (buffer x)) (sym e);
           }
+
+  first-from : (x : Call) (s : Store) (above below : List Line) (r : Line) → NoneApplies f x s above → r x s .applies ≡ true
+      → firstOf (at x s (above ++ (r ∷ below))) ≡ r x s .number
+  first-from x s [] below r n e = ap (λ (t : Bool). cond t (r x s .number) (firstOf (at x s below))) e
+  first-from x s (l ∷ ls) below r n e =
+      ap (λ (t : Bool). cond t (l x s .number) (firstOf (at x s (ls ++ (r ∷ below))))) (n .0)
+      ∙ first-from x s ls below r (n .1) e
+
+  pub first-told : FirstTold f
+  unfolding number
+  first-told x s size above below r q n e =
+      ap (λ (ls : List Line). firstOf (at x s ls)) q ∙ first-from x s above below r n e
 
   -- ---- the column "Must hold"
 

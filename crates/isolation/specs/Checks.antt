@@ -1,7 +1,9 @@
 -- What `step` does, in words that are not its text: conditions 1 and 2, and the column "Must hold" of document 01's
 -- calls. For every conversion f:
 --     Refused x c          the copy and the buffer stay; the handles are zero bytes, the count and the length zero
---     RefusalChangesNothing    condition 1: a call to which some row applies is so refused, with the first one's number
+--     RefusalChangesNothing    condition 1: a call whose number is not 0 is so refused, with that number
+--     NoneApplies ls       no row of the list ls applies
+--     FirstTold            condition 1: the number is that of a row which applies and above which none applies
 --     MustHold k x s       the column "Must hold" for the kind k:
 --       Opener m             the handle validates in the mode m, is not gapped, and its cluster is active
 --       Primary m            so it does, and all its subselectors are flat
@@ -24,12 +26,13 @@ use mathlib.Core.Path.{_≡_}
 use mathlib.Core.Logic.{_≢_, _⊎_}
 use Prim.Native.Nat.{ℕ}
 use mathlib.Core.Bool.{Bool, true, false}
-use mathlib.Core.List.{List, []}
+use mathlib.Core.List.{List, [], _∷_, _++_}
 use lib.ListN.{length}
 use Rattle.sizes.specs.Sizes.{passwordBytes}
 use Rattle.handle.specs.declared.Weakened.{Weakened}
 use Rattle.handle.specs.Sizes.{handleBytes}
 use Rattle.handle.specs.Selectors.{references, allFlat, gapped}
+use Rattle.handle.specs.Handles.{Row}
 use Rattle.handle.specs.Handles.{Name, nameOf, nodeOf, widthOf, encoded, samePassword, noSuchPlace, through, weakening}
 use Rattle.store.specs.declared.Store.{Store}
 use Rattle.store.specs.Records.{recordOf, clusterAt, tableAt}
@@ -37,8 +40,7 @@ use Rattle.store.specs.Sound.{sound}
 use Rattle.guard.specs.Calls.{Copy, Call, call, Arguments, Kind, newCluster, deleteCluster, newSegment, deleteSegment}
 use Rattle.guard.specs.Calls.{read, write, weaken, reduce, newPassword, validate, Uses, uses, readMode, writeMode}
 use Rattle.guard.specs.Calls.{handleOf, buffer, recordNamed, primaryOf}
-use Rattle.guard.specs.Numbers.{valid}
-use Rattle.guard.specs.Numbers.{number}
+use Rattle.guard.specs.Numbers.{valid, rows, number}
 use Rattle.guard.specs.Steps.{Reply, zeroHandle, plain, step}
 
 -- ---- unused arguments
@@ -91,6 +93,16 @@ module _ (f : Name → List ℕ → ℕ → List ℕ) where
 
   abbrev pub RefusalChangesNothing : Type 0
   RefusalChangesNothing = (x : Call) (c : Copy) → number f x (c .store) (length (c .memory)) ≢ 0 → Refused x c
+
+  abbrev pub NoneApplies : Call → Store → List (Call → Store → Row) → Type 0
+  NoneApplies x s [] = Unit {0}
+  NoneApplies x s (r ∷ rs) = (r x s .applies ≡ false) × NoneApplies x s rs
+
+  abbrev pub FirstTold : Type 0
+  FirstTold =
+      (x : Call) (s : Store) (size : ℕ) (above below : List (Call → Store → Row)) (r : Call → Store → Row)
+      → rows f size ≡ above ++ (r ∷ below) → NoneApplies x s above → r x s .applies ≡ true
+      → number f x s size ≡ r x s .number
 
   -- ---- the column "Must hold"
 
