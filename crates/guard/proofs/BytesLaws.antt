@@ -70,7 +70,7 @@ module _ (s : Store) (m b d : List ℕ) (i : ℕ) (h : Handle) (eh : h ≡ decod
 
     pub read-refused : (n ≡ 0 → ⊥) → (a : Answer) → a ≡ numberAlone n → ended s m a d ≡ aesStep reading (copyOf s m)
     read-refused t a e =
-        ap (λ (x : Answer). ended s m x d) e ∙ sym (step-refused reading (copyOf s m) n told-read t)
+        ap (λ (x : Answer). ended s m x d) e ∙ sym (step-refused (λ k. conversion) reading (copyOf s m) n told-read t)
 
     module _ (z : n ≡ 0) (from : ℕ) (ef : from ≡ address (h .node) (baseOf p)) (size : ℕ) (el : size ≡ lengthOf p) where
       pub read-done : (buffer : List ℕ) → buffer ≡ take size (drop from m) ++ drop size d → (a : Answer) → a ≡ lengthTold size
@@ -80,7 +80,7 @@ module _ (s : Store) (m b d : List ℕ) (i : ℕ) (h : Handle) (eh : h ≡ decod
           ap₂ (λ (x : Answer) (y : List ℕ). ended s m x y) e eb
           ∙ ap₂ (λ (j k : ℕ). ended s m (lengthTold k) (take k (drop j m) ++ drop k d))
           (ef ∙ start readMode en z) (el ∙ ap lengthOf (there readMode en z))
-          ∙ sym (step-done reading (copyOf s m) (told-read ∙ z))
+          ∙ sym (step-done (λ k. conversion) reading (copyOf s m) (told-read ∙ z))
 
   module _ (en : n ≡ accessed sd h (clusterAt s at) p i (length d) writeMode) where
     told-write : number (λ k. conversion) writing s (length m) ≡ n
@@ -88,7 +88,7 @@ module _ (s : Store) (m b d : List ℕ) (i : ℕ) (h : Handle) (eh : h ≡ decod
 
     pub write-refused : (n ≡ 0 → ⊥) → (a : Answer) → a ≡ numberAlone n → ended s m a d ≡ aesStep writing (copyOf s m)
     write-refused t a e =
-        ap (λ (x : Answer). ended s m x d) e ∙ sym (step-refused writing (copyOf s m) n told-write t)
+        ap (λ (x : Answer). ended s m x d) e ∙ sym (step-refused (λ k. conversion) writing (copyOf s m) n told-write t)
 
     module _ (z : n ≡ 0) (from : ℕ) (ef : from ≡ address (h .node) (baseOf p)) (size : ℕ) (el : size ≡ lengthOf p) where
       pub write-done : (after : List ℕ) → after ≡ overwritten m from (take size d) → (a : Answer) → a ≡ numberAlone 0
@@ -98,4 +98,4 @@ module _ (s : Store) (m b d : List ℕ) (i : ℕ) (h : Handle) (eh : h ≡ decod
           ap₂ (λ (x : Answer) (y : List ℕ). ended s y x d) e em
           ∙ ap₂ (λ (j k : ℕ). ended s (overwritten m j (take k d)) (numberAlone 0) d)
           (ef ∙ start writeMode en z) (el ∙ ap lengthOf (there writeMode en z))
-          ∙ sym (step-done writing (copyOf s m) (told-write ∙ z))
+          ∙ sym (step-done (λ k. conversion) writing (copyOf s m) (told-write ∙ z))

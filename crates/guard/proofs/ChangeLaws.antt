@@ -20,11 +20,11 @@ use Rattle.store.specs.declared.Store.{Store}
 use Rattle.store.specs.Records.{tableOf, clusterAt, placeOf, inactive, putRecord, withPlace}
 use Rattle.store.specs.Sound.{isAbsent, sound}
 use Rattle.guard.specs.declared.Done.{Done}
-use Rattle.guard.specs.Calls.{Copy, Call, call, deleteCluster, deleteSegment, writeMode, recordNamed, buffer}
+use Rattle.guard.specs.Calls.{Call, call, deleteCluster, deleteSegment, writeMode, recordNamed, buffer}
 use Rattle.guard.specs.Numbers.{number}
 use Rattle.guard.specs.Steps.{Outcome, plain, aesStep, left, given, clusterDeleted, segmentDeleted}
 use Rattle.guard.specs.Entries.{copyOf, asked, ended, leftAlone, recordAt, frontRows, after}
-use Rattle.guard.proofs.FrontLaws.{at-record, Passed, front-passed}
+use Rattle.guard.proofs.FrontLaws.{at-record, front-passed}
 use Rattle.guard.proofs.NumberLaws.{step-refused, step-done, front-record, number-delete-cluster, number-delete-segment}
 
 -- what is left and given by a call that ended so
@@ -41,7 +41,7 @@ module _ (x : Call) (s : Store) (m : List ℕ) (nothing : buffer x ≡ []) where
       → endedWith m r ≡ aesStep x (copyOf s m)
   left-refused n t e r er =
       ap (endedWith m) er ∙ ap (λ (b : List ℕ). record { copy = copyOf s m; reply = plain n b }) (sym nothing)
-      ∙ sym (step-refused x (copyOf s m) n e t)
+      ∙ sym (step-refused (λ k. conversion) x (copyOf s m) n e t)
 
 -- ---- the shared rows
 
@@ -106,7 +106,7 @@ module _ (s : Store) (m b : List ℕ) (current : ℕ) (h : Handle) (eh : h ≡ d
         ap (endedWith m) er
         ∙ ap₂ (λ (i : ℕ) (d : Cluster). record { copy = copyOf (putRecord s i d) m; reply = plain 0 [] })
         (front-there s m b h eh at ea sd es (leb nodes current) false away writeMode n en z) ec
-        ∙ sym (step-done deleting (copyOf s m) (own ∙ ap (λ (q : Bool). cond q 10 0) t))
+        ∙ sym (step-done (λ k. conversion) deleting (copyOf s m) (own ∙ ap (λ (q : Bool). cond q 10 0) t))
 
 -- ---- call 4
 
@@ -173,4 +173,4 @@ module _ (s : Store) (m b : List ℕ) (current segment : ℕ) (h : Handle) (eh :
           ap (endedWith m) er
           ∙ ap (λ (d : Cluster). record { copy = copyOf (putRecord s at d) m; reply = plain 0 [] }) ec
           ∙ ap (λ (i : ℕ). record { copy = copyOf (putRecord s i (withPlace (clusterAt s i) segment Absent)) m; reply = plain 0 [] }) there
-          ∙ sym (step-done removing (copyOf s m) (mine ∙ ap (λ (u : Bool). cond u 14 0) t))
+          ∙ sym (step-done (λ k. conversion) removing (copyOf s m) (mine ∙ ap (λ (u : Bool). cond u 14 0) t))

@@ -1,7 +1,7 @@
 -- Clearing the new segment's part of the memory: its first i bytes are zero after i turns, and once the part is back in
 -- the memory, the memory is overwritten with zeros there and nowhere else.
 -- Assumes nothing.
-use mathlib.Core.Path.{_≡_, refl, sym, ap, _∙_}
+use mathlib.Core.Path.{_≡_, refl, ap, _∙_}
 use mathlib.Core.List.{List, _++_, append-nil}
 use Prim.Native.Nat.{ℕ, _+_, _*_, _-_, _≤_, _<_}
 use native.Mathlib.Omega.{arith}

@@ -24,7 +24,7 @@ use Rattle.guard.specs.Calls.{Call, call, newCluster, weaken}
 use Rattle.guard.specs.Numbers.{noPlace, badMode, badSegment, badSize, badField, gappedHandle, elsewhere, twins}
 use Rattle.guard.specs.Numbers.{notPrimary, notReferenced, spentHandle, inUse, inactiveCluster, segmentPresent}
 use Rattle.guard.specs.Numbers.{segmentAbsent, short, fullNode, unsound, oldPassword, valid, violated, number}
-use Rattle.guard.specs.Steps.{Outcome, handles, plain, zeroHandle, outcome, step, aesStep, left, given, clusterMade}
+use Rattle.guard.specs.Steps.{handles, zeroHandle, outcome, step, aesStep, left, given, clusterMade}
 use Rattle.guard.specs.Entries.{handlesAlone, primaryBytes, copyOf, asked, ended, leftAlone}
 use Rattle.guard.proofs.NumberLaws.{step-done}
 use Rattle.guard.proofs.ChangeLaws.{endedWith, above, left-refused}
@@ -86,7 +86,7 @@ module _ (s : Store) (m : List ℕ) (current local : ℕ) (r w : List ℕ) where
                 ∙ ap₂
                 (λ (p q : List ℕ). record { copy = copyOf (putRecord s (current * clusters + local) (started r w)) m; reply = handles p q 0 })
                 ex ey
-                ∙ sym (step-done making (copyOf s m) (only ∙ ap (λ (b : Bool). cond b 7 0) t))
+                ∙ sym (step-done (λ k. conversion) making (copyOf s m) (only ∙ ap (λ (b : Bool). cond b 7 0) t))
 
 -- ---- call 7
 

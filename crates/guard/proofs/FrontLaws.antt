@@ -3,13 +3,13 @@
 use mathlib.Core.Path.{_≡_, refl, sym, ap, _∙_}
 use mathlib.Core.Bool.{Bool, true, false, not, _||_, cond, false≢true}
 use mathlib.Core.List.{List, map}
-use Prim.Native.Nat.{ℕ, zero, suc, _+_, _*_, _≤_, _<_}
+use Prim.Native.Nat.{ℕ, _+_, _*_, _≤_, _<_}
 use native.Mathlib.Omega.{arith}
 use borrow.Author.Tests.{le-leb, lt-leb, eq-eqb, ne-eqb, leb-false}
-use lib.Dec.{eqb, leb}
+use lib.Dec.{leb}
 use lib.ListN.{length, length-map, List·getD-eq-default}
 use lib.Seq.{set-out}
-use Rattle.sizes.specs.Sizes.{nodes, clusters, records, segments}
+use Rattle.sizes.specs.Sizes.{nodes, clusters, segments}
 use Rattle.handle.specs.declared.Handle.{Handle}
 use Rattle.handle.specs.Selectors.{gapped}
 use Rattle.handle.specs.Handles.{widthOf, firstOf, validates}
@@ -18,7 +18,7 @@ use Rattle.store.specs.declared.Place.{Place}
 use Rattle.store.specs.declared.Place.the-variants.{Absent}
 use Rattle.store.specs.declared.Segment.{Segment}
 use Rattle.store.specs.declared.Cluster.{Cluster}
-use Rattle.store.specs.Records.{absentSegment, tableOf, recordOf, placeOf, withPlace}
+use Rattle.store.specs.Records.{absentSegment, tableOf, placeOf, withPlace}
 use Rattle.guard.specs.Calls.{readMode, primaryOf}
 use Rattle.guard.specs.Entries.{recordAt, frontRows}
 

@@ -163,7 +163,7 @@ module _ (s : Store) (m b : List ℕ) (current segment size : ℕ) (h : Handle) 
           (w .placed) (w .cleared)
           ∙ ap₂ (made h) there (ap (λ (a : Answer). a .base) found)
           ∙ ap (λ (g : Handle). made g (recordNamed g) (placement (tableAt s) (g .node) size .base)) eh
-          ∙ sym (step-done making (copyOf s m) (last (At base) eb))
+          ∙ sym (step-done (λ k. conversion) making (copyOf s m) (last (At base) eb))
         where
           facts : Judged sd h (clusterAt s at) current segment size
           facts = judged-out sd h (clusterAt s at) current segment size (sym en ∙ z)

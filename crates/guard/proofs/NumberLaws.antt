@@ -2,9 +2,9 @@
 -- not the call's compute away; the record of the cluster may be looked up before its place is judged, since a bad place
 -- is refused by row 2 whatever the record is.
 -- Assumes nothing.
-use mathlib.Core.Path.{_≡_, refl, sym, ap, _∙_}
+use mathlib.Core.Path.{_≡_, refl, ap}
 use mathlib.Core.Bool.{Bool, true, false, not, _||_, cond, or-false}
-use mathlib.Core.List.{List, [], _∷_}
+use mathlib.Core.List.{List, []}
 use Prim.Native.Nat.{ℕ, zero, suc}
 use lib.Dec.{eqb, leb}
 use lib.ListN.{length}
@@ -21,22 +21,22 @@ use Rattle.guard.specs.Calls.{Copy, Call, Arguments, call, deleteCluster
 use Rattle.guard.specs.Numbers.{noPlace, badMode, badSegment, badSize, badField, gappedHandle, elsewhere, twins}
 use Rattle.guard.specs.Numbers.{notPrimary, notReferenced, spentHandle, inUse, inactiveCluster, segmentPresent}
 use Rattle.guard.specs.Numbers.{segmentAbsent, short, fullNode, unsound, isOld, oldPassword, valid, violated, number}
-use Rattle.guard.specs.Steps.{Outcome, plain, left, given, outcome, step, aesStep}
+use Rattle.guard.specs.Steps.{plain, left, given, outcome, step}
 use Rattle.guard.specs.Entries.{badModes, asked, recordAt, frontRows, after}
 
 -- ---- a call refused, and a call done
 
-module _ (x : Call) (c : Copy) where
-  pub step-refused : (n : ℕ) → number (λ m. conversion) x (c .store) (length (c .memory)) ≡ n → (n ≡ 0 → ⊥)
-      → aesStep x c ≡ record { copy = c; reply = plain n (buffer x) }
+module _ (f : Name → List ℕ → ℕ → List ℕ) (x : Call) (c : Copy) where
+  pub step-refused : (n : ℕ) → number f x (c .store) (length (c .memory)) ≡ n → (n ≡ 0 → ⊥)
+      → step f x c ≡ record { copy = c; reply = plain n (buffer x) }
   unfolding step
   step-refused zero e h = absurd (h refl)
-  step-refused (suc n) e h = ap (λ (k : ℕ). outcome (λ m. conversion) k x c) e
+  step-refused (suc n) e h = ap (λ (k : ℕ). outcome f k x c) e
 
-  pub step-done : number (λ m. conversion) x (c .store) (length (c .memory)) ≡ 0
-      → aesStep x c ≡ record { copy = left (x .kind) x c; reply = given (λ m. conversion) (x .kind) x c }
+  pub step-done : number f x (c .store) (length (c .memory)) ≡ 0
+      → step f x c ≡ record { copy = left (x .kind) x c; reply = given f (x .kind) x c }
   unfolding step
-  step-done e = ap (λ (k : ℕ). outcome (λ m. conversion) k x c) e
+  step-done e = ap (λ (k : ℕ). outcome f k x c) e
 
 -- ---- the record looked up first
 

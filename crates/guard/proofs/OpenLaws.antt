@@ -1,23 +1,21 @@
 -- Validation and reduction: the shared rows are all that they have, and a call done changes nothing.
 -- Assumes nothing.
-use mathlib.Core.Path.{_≡_, refl, sym, ap, ap₂, _∙_}
-use mathlib.Core.Bool.{Bool, false, not, _||_}
+use mathlib.Core.Path.{_≡_, sym, ap, ap₂, _∙_}
+use mathlib.Core.Bool.{Bool, false}
 use mathlib.Core.List.{List, []}
 use Prim.Native.Nat.{ℕ, zero, suc}
-use lib.Dec.{eqb}
 use lib.ListN.{length}
 use Rattle.handle.specs.declared.Handle.{Handle}
-use Rattle.handle.specs.Handles.{nameOf, widthOf, firstOf, decoded, encoded, reduced}
+use Rattle.handle.specs.Handles.{widthOf, firstOf, decoded, encoded, reduced}
 use Rattle.handle.specs.Conversion.{conversion}
-use Rattle.store.specs.declared.Cluster.{Cluster}
 use Rattle.store.specs.declared.Store.{Store}
 use Rattle.store.specs.Records.{clusterAt}
 use Rattle.store.specs.Sound.{sound}
 use Rattle.guard.specs.declared.Answer.{Answer}
-use Rattle.guard.specs.Calls.{Call, call, reduce, validate, readMode, writeMode, primaryOf, recordNamed}
+use Rattle.guard.specs.Calls.{call, reduce, validate, primaryOf, recordNamed}
 use Rattle.guard.specs.Numbers.{number}
-use Rattle.guard.specs.Steps.{Reply, handles, zeroHandle, outcome, step, aesStep, left, given}
-use Rattle.guard.specs.Entries.{badModes, handlesAlone, copyOf, asked, ended, replied, numberAlone, recordAt, frontRows}
+use Rattle.guard.specs.Steps.{handles, zeroHandle, outcome, step, aesStep, left, given}
+use Rattle.guard.specs.Entries.{badModes, handlesAlone, copyOf, asked, ended, numberAlone, recordAt, frontRows}
 use Rattle.guard.proofs.FrontLaws.{at-record, Passed, front-passed}
 use Rattle.guard.proofs.NumberLaws.{step-refused, step-done, front-record, number-validate, number-reduce}
 
@@ -43,7 +41,7 @@ module _ (s : Store) (m b : List ℕ) (mode : ℕ) (h : Handle) (eh : h ≡ deco
       → ended s m a [] ≡ aesStep (call reduce (asked 0 0 mode 0 0 0 b [] [] [])) (copyOf s m)
   reduce-refused t a e =
       ap (λ (x : Answer). ended s m x []) e
-      ∙ sym (step-refused (call reduce (asked 0 0 mode 0 0 0 b [] [] [])) (copyOf s m) n (sym told) t)
+      ∙ sym (step-refused (λ k. conversion) (call reduce (asked 0 0 mode 0 0 0 b [] [] [])) (copyOf s m) n (sym told) t)
 
   pub reduce-done : (n ≡ 0) → (p : List ℕ) → p ≡ primaryOf (clusterAt s at) mode → (r : Handle)
       → r ≡ reduced (widthOf h) conversion h p → (e : List ℕ) → e ≡ encoded r → (a : Answer)
@@ -54,7 +52,7 @@ module _ (s : Store) (m b : List ℕ) (mode : ℕ) (h : Handle) (eh : h ≡ deco
   reduce-done z p ep r er e ee a aa =
       ap (λ (x : Answer). ended s m x []) aa
       ∙ ap (λ (x : List ℕ). record { copy = copyOf s m; reply = handles x zeroHandle 0 }) (ee ∙ ap encoded (er ∙ same))
-      ∙ sym (step-done (call reduce (asked 0 0 mode 0 0 0 b [] [] [])) (copyOf s m) (sym told ∙ z))
+      ∙ sym (step-done (λ k. conversion) (call reduce (asked 0 0 mode 0 0 0 b [] [] [])) (copyOf s m) (sym told ∙ z))
     where
       passed : Passed h false bad false
       passed = front-passed sd h (clusterAt s at) false bad false mode (sym en ∙ z)

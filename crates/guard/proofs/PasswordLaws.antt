@@ -5,7 +5,6 @@ use mathlib.Core.Bool.{Bool, true, false, not, _||_, cond}
 use mathlib.Core.List.{List, []}
 use Prim.Native.Nat.{ℕ}
 use borrow.Author.Tests.{eq-eqb, ne-eqb}
-use lib.Dec.{eqb}
 use lib.ListN.{length, set}
 use Rattle.handle.specs.declared.Handle.{Handle}
 use Rattle.handle.specs.Selectors.{allFlat}
@@ -122,4 +121,4 @@ module _ (s : Store) (m b pw : List ℕ) (mode : ℕ) (h : Handle) (eh : h ≡ d
             ap₂ (λ (d : Cluster) (x : Answer). ended (putRecord s at d) m x []) ec aa
             ∙ ap₂ (λ (i : ℕ) (x : List ℕ). record { copy = copyOf (putRecord s i (withPassword (clusterAt s i) mode pw)) m; reply = handles x zeroHandle 0 })
             there (ee ∙ ap (λ (g : Handle). primaryBytes (g .node) (g .local) pw) eh)
-            ∙ sym (step-done renewing (copyOf s m) (only ∙ ap (λ (x : Bool). cond x 12 0) t))
+            ∙ sym (step-done (λ k. conversion) renewing (copyOf s m) (only ∙ ap (λ (x : Bool). cond x 12 0) t))

@@ -20,10 +20,7 @@ use Rattle.store.specs.Sound.{isAbsent}
 use Rattle.guard.specs.declared.Answer.{Answer}
 use Rattle.guard.specs.Calls.{lengthOf}
 use Rattle.guard.specs.Steps.{zeroHandle}
-use Rattle.guard.specs.Entries.{frontRows, after}
-
-abbrev row : ℕ → Bool → Row
-row n t = record { number = n; applies = t }
+use Rattle.guard.specs.Entries.{row, frontRows, after}
 
 abbrev pub accessRows : Handle → Place → ℕ → ℕ → List Row
 accessRows h p i room =

@@ -9,12 +9,13 @@
 --     badModes mode          the mode is neither of the two
 --     leftAlone s n          the records s, and the number n alone
 --     recordAt node local    the record of a cluster; the first where there is no such place
+--     row n t                the row with the number n, whose test gave t
 --     frontRows ..           rows 1 to 5, 8 and 9, from their tests: the store is sound; the handle; the record of its
 --                            cluster; whether some other place, some field, the current node is bad; the mode needed
 --     after n m              n, or m where n is 0
 -- Assumes nothing.
 use Prim.Native.Nat.{ℕ, zero, suc}
-use mathlib.Core.Bool.{Bool, true, false, not, _||_, cond}
+use mathlib.Core.Bool.{Bool, not, _||_, cond}
 use mathlib.Core.List.{List, [], _∷_}
 use lib.Dec.{leb, eqb}
 use Rattle.sizes.specs.Sizes.{nodes, clusters, segments}
@@ -81,7 +82,7 @@ leftAlone s n = record { store = s; answer = numberAlone n }
 abbrev pub recordAt : ℕ → ℕ → ℕ
 recordAt node local = cond (leb nodes node || leb clusters local) 0 (recordOf node local)
 
-abbrev row : ℕ → Bool → Row
+abbrev pub row : ℕ → Bool → Row
 row n t = record { number = n; applies = t }
 
 abbrev pub frontRows : Bool → Handle → Cluster → Bool → Bool → Bool → ℕ → List Row

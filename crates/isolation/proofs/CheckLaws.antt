@@ -36,6 +36,7 @@ use Rattle.isolation.specs.Checks.{Refused, RefusalChangesNothing, NoneA
 use Rattle.isolation.specs.Checks.{Judgeable, ValidationJudges, ValidationIsReduction}
 use Rattle.isolation.specs.Checks.{weakenReply, WeakeningIs}
 use Rattle.guard.proofs.FirstLaws.{Line, at}
+use Rattle.guard.proofs.NumberLaws.{number-validate}
 use Rattle.guard.proofs.CallLaws.{or-left, record-is, violated-is}
 use Rattle.guard.proofs.DoneLaws.{no-row, done-even, done-active, done-valid}
 
@@ -138,9 +139,7 @@ module _ (f : Name → List ℕ → ℕ → List ℕ) where
   -- ---- condition 2
 
   pub validation-is-reduction : ValidationIsReduction f
-  unfolding number unsound noPlace badField badMode badSegment badSize gappedHandle elsewhere inUse twins inactiveCluster
-      violated notPrimary notReferenced oldPassword segmentPresent segmentAbsent short fullNode spentHandle
-  validation-is-reduction g s size = refl
+  validation-is-reduction = number-validate f
 
   module _ (g : Arguments) (s : Store) (size : ℕ) where
     abbrev x : Call

@@ -30,7 +30,8 @@ use Rattle.isolation.specs.Copies.{Done}
 use Rattle.isolation.specs.Effects.{SameSegment, WrittenReads, NewReads, ClusterGone, SegmentGone}
 use Rattle.guard.proofs.MemoryLaws.{part-overwritten}
 use Rattle.guard.proofs.DoneLaws.{done-range, done-segment, done-active}
-use Rattle.isolation.proofs.KeptLaws.{tables, step-done, new-fits, write-fits, length-data}
+use Rattle.guard.proofs.NumberLaws.{step-done}
+use Rattle.isolation.proofs.KeptLaws.{tables, new-fits, write-fits, length-data}
 use Rattle.isolation.proofs.GivenLaws.{active-in}
 
 same-place : (x y : Call) (ts : Tables) → SameSegment x y → placeFor y ts ≡ placeFor x ts

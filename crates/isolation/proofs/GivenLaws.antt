@@ -36,7 +36,7 @@ use Rattle.isolation.specs.Effects.{Made, MadeOpens, otherMode, Renewed,
 use Rattle.isolation.specs.Effects.{Weakened, WeakenedOpens, Refers}
 use Rattle.guard.proofs.CallLaws.{or-left, InRange}
 use Rattle.guard.proofs.DoneLaws.{no-row, done-range, done-mode, done-even, done-active, done-valid}
-use Rattle.isolation.proofs.KeptLaws.{step-done}
+use Rattle.guard.proofs.NumberLaws.{step-done}
 use Rattle.isolation.proofs.EntryLaws.{other-stays}
 
 -- an active record is one of the store's

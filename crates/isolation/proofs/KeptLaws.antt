@@ -26,7 +26,7 @@ use Rattle.guard.specs.Numbers.{badSegment, number}
 use Rattle.guard.specs.Steps.{putCluster, about, withPassword, newBaseFor, newPlace, newStart}
 use Rattle.guard.specs.Steps.{clusterMade, clusterDeleted, segmentMade, segmentDeleted, segmentWritten}
 use Rattle.guard.specs.Steps.{passwordReplaced}
-use Rattle.guard.specs.Steps.{left, given, outcome, step}
+use Rattle.guard.specs.Steps.{left, outcome, step}
 use Rattle.isolation.specs.Copies.{SoundCopy, Done, setApart, Outside, Held}
 use Rattle.isolation.specs.Statements.{start, StartSound, SoundKept, Touched, OnlyItsOwn, OthersAlone, OtherHeld}
 use Rattle.guard.proofs.MemoryLaws.{length-overwritten, overwritten-out}
@@ -192,11 +192,6 @@ module _ (f : Name → List ℕ → ℕ → List ℕ) where
           }
 
   -- ---- any call, and any list of calls
-
-  pub step-done : (x : Call) (c : Copy) → Done f x c
-      → step f x c ≡ record { copy = left (x .kind) x c; reply = given f (x .kind) x c }
-  unfolding step
-  step-done x c e = ap (λ (n : ℕ). outcome f n x c) e
 
   -- what holds of a copy and of what a call done leaves of it holds of what any call leaves of it
   pub by-number : (P : Copy → Type 0) (x : Call) (c : Copy) → P c → (Done f x c → P (left (x .kind) x c))

@@ -3,16 +3,14 @@
 use mathlib.Core.Path.{_≡_, sym, ap}
 use mathlib.Core.Bool.{Bool, true, false}
 use mathlib.Core.List.{List}
-use Prim.Native.Nat.{ℕ, _+_, _*_}
+use Prim.Native.Nat.{ℕ}
 use borrow.Author.Tests.{eq-eqb, ne-eqb}
-use lib.Dec.{eqb}
-use lib.ListN.{getD, replicate}
+use lib.ListN.{replicate}
 use Rattle.loops.specs.Tabulate.{tabulate}
 use Rattle.sizes.specs.Sizes.{segments, passwordBytes}
 use Rattle.store.specs.declared.Place.{Place}
 use Rattle.store.specs.declared.Place.the-variants.{Absent, Present}
 use Rattle.store.specs.declared.Segment.{Segment}
-use Rattle.store.specs.declared.Cluster.{Cluster}
 use Rattle.measured.specs.Stores.{placeFrom, segmentFrom, clusterFrom}
 
 abbrev chosen : ℕ → ℕ → Bool → Place

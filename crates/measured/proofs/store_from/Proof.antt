@@ -6,7 +6,6 @@ use Prim.Native.Nat.{_-_}
 use borrow.Author.Needs.{needs}
 use Rattle.sizes.specs.Sizes.{records}
 use Rattle.store.specs.declared.Cluster.{Cluster}
-use Rattle.store.specs.declared.Store.{Store}
 use Rattle.store.specs.Records.{noCluster}
 use Rattle.loops.proofs.TabulateLaws.{Filled, filled-none, filled-more, filled-all}
 use Rattle.measured.specs.Stores.{clusterFrom, storeFrom}

@@ -1,9 +1,6 @@
 -- The number alone, beside the records.
 -- Assumes nothing.
-use mathlib.Core.Path.{ap}
 use borrow.Author.Needs.{needs}
-use Rattle.guard.specs.declared.Answer.{Answer}
-use Rattle.guard.specs.declared.Done.{Done}
 use Rattle.guard.proofs.front.unchanged.Statement.{statement}
 use Rattle.guard.proofs.front.unchanged.Tie as tie
 
