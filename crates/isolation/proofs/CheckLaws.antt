@@ -55,7 +55,7 @@ module _ (f : Name → List ℕ → ℕ → List ℕ) where
             reply = ap (λ (k : ℕ). outcome f k x c .reply) e ∙ ap (λ (k : ℕ). plain k (buffer x)) (sym e);
           }
 
-  first-from : (x : Call) (s : Store) (above below : List Line) (r : Line) → NoneApplies f x s above → r x s .applies ≡ true
+  first-from : (x : Call) (s : Store) (above below : List Line) (r : Line) → NoneApplies x s above → r x s .applies ≡ true
       → firstOf (at x s (above ++ (r ∷ below))) ≡ r x s .number
   first-from x s [] below r n e = ap (λ (t : Bool). cond t (r x s .number) (firstOf (at x s below))) e
   first-from x s (l ∷ ls) below r n e =

@@ -2,7 +2,7 @@
 -- calls. For every conversion f:
 --     Refused x c          the copy and the buffer stay; the handles are zero bytes, the count and the length zero
 --     RefusalChangesNothing    condition 1: a call whose number is not 0 is so refused, with that number
---     NoneApplies ls       no row of the list ls applies
+--     NoneApplies x s ls   no row of the list ls applies to the call x on the store s
 --     FirstTold            condition 1: the number is that of a row which applies and above which none applies
 --     MustHold k x s       the column "Must hold" for the kind k:
 --       Opener m             the handle validates in the mode m, is not gapped, and its cluster is active
@@ -32,8 +32,8 @@ use Rattle.sizes.specs.Sizes.{passwordBytes}
 use Rattle.handle.specs.declared.Weakened.{Weakened}
 use Rattle.handle.specs.Sizes.{handleBytes}
 use Rattle.handle.specs.Selectors.{references, allFlat, gapped}
-use Rattle.handle.specs.Handles.{Row}
-use Rattle.handle.specs.Handles.{Name, nameOf, nodeOf, widthOf, encoded, samePassword, noSuchPlace, through, weakening}
+use Rattle.handle.specs.Handles.{Name, nameOf, nodeOf, widthOf, encoded, samePassword, Row, noSuchPlace, through}
+use Rattle.handle.specs.Handles.{weakening}
 use Rattle.store.specs.declared.Store.{Store}
 use Rattle.store.specs.Records.{recordOf, clusterAt, tableAt}
 use Rattle.store.specs.Sound.{sound}
@@ -79,6 +79,10 @@ weakenReply w =
       buffer = [];
     }
 
+abbrev pub NoneApplies : Call → Store → List (Call → Store → Row) → Type 0
+NoneApplies x s [] = Unit {0}
+NoneApplies x s (r ∷ rs) = (r x s .applies ≡ false) × NoneApplies x s rs
+
 module _ (f : Name → List ℕ → ℕ → List ℕ) where
   abbrev pub UnusedIgnored : Type 0
   UnusedIgnored =
@@ -93,10 +97,6 @@ module _ (f : Name → List ℕ → ℕ → List ℕ) where
 
   abbrev pub RefusalChangesNothing : Type 0
   RefusalChangesNothing = (x : Call) (c : Copy) → number f x (c .store) (length (c .memory)) ≢ 0 → Refused x c
-
-  abbrev pub NoneApplies : Call → Store → List (Call → Store → Row) → Type 0
-  NoneApplies x s [] = Unit {0}
-  NoneApplies x s (r ∷ rs) = (r x s .applies ≡ false) × NoneApplies x s rs
 
   abbrev pub FirstTold : Type 0
   FirstTold =
