@@ -15,13 +15,13 @@ use Rattle.store.specs.declared.Place.the-variants.{Absent, Present}
 use Rattle.store.specs.declared.Store.{Store}
 use Rattle.store.specs.Records.{tableOf, clusterAt, tableAt, placeOf}
 use Rattle.store.specs.Sound.{sound}
-use Rattle.guard.specs.declared.Answer.{Answer}
-use Rattle.guard.specs.Calls.{Call, call, read, write, readMode, writeMode, recordNamed, baseOf, lengthOf, address}
-use Rattle.guard.specs.Numbers.{number}
-use Rattle.guard.specs.Steps.{overwritten, aesStep, left, given, segmentRead, segmentWritten}
-use Rattle.guard.specs.Entries.{copyOf, asked, ended, numberAlone, recordAt}
+use Rattle.front.specs.declared.Answer.{Answer}
+use Rattle.calls.specs.Calls.{Call, call, read, write, readMode, writeMode, recordNamed, baseOf, lengthOf, address}
+use Rattle.calls.specs.Numbers.{number}
+use Rattle.calls.specs.Steps.{overwritten, aesStep, left, given, segmentRead, segmentWritten}
+use Rattle.front.specs.Entries.{copyOf, asked, ended, numberAlone, recordAt}
 use Rattle.guard.specs.Access.{accessed, lengthTold}
-use Rattle.guard.proofs.NumberLaws.{step-refused, step-done}
+use Rattle.calls.proofs.StepLaws.{step-refused, step-done}
 use Rattle.guard.proofs.BytesNumbers.{accessedAt, number-read, number-write, access-record, access-there}
 
 -- ---- where a place begins

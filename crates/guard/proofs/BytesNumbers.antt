@@ -23,13 +23,13 @@ use Rattle.store.specs.Records.{tableOf, clusterAt, tableAt, placeOf}
 use Rattle.store.specs.Sound.{isAbsent, inside, soundSegment, sound}
 use Rattle.store.proofs.PlaceLaws.{inside-out}
 use Rattle.store.proofs.SoundLaws.{Sound, sound-out}
-use Rattle.guard.specs.Calls.{call, read, write, readMode, writeMode, recordNamed, primaryOf, baseOf, lengthOf, address}
-use Rattle.guard.specs.Numbers.{noPlace, badMode, badSegment, badSize, badField, gappedHandle, elsewhere, twins}
-use Rattle.guard.specs.Numbers.{notPrimary, notReferenced, spentHandle, inUse, inactiveCluster, segmentPresent}
-use Rattle.guard.specs.Numbers.{segmentAbsent, short, fullNode, unsound, oldPassword, valid, violated, number}
-use Rattle.guard.specs.Entries.{asked, recordAt, frontRows, after}
+use Rattle.calls.specs.Calls.{call, read, write, readMode, writeMode, recordNamed, primaryOf, baseOf, lengthOf, address}
+use Rattle.calls.specs.Numbers.{noPlace, badMode, badSegment, badSize, badField, gappedHandle, elsewhere, twins}
+use Rattle.calls.specs.Numbers.{notPrimary, notReferenced, spentHandle, inUse, inactiveCluster, segmentPresent}
+use Rattle.calls.specs.Numbers.{segmentAbsent, short, fullNode, unsound, oldPassword, valid, violated, number}
+use Rattle.front.specs.Entries.{asked, recordAt, frontRows, after}
 use Rattle.guard.specs.Access.{accessRows, accessed, Reaches}
-use Rattle.guard.proofs.FrontLaws.{at-record, Passed, front-passed}
+use Rattle.front.proofs.FrontLaws.{at-record, Passed, front-passed}
 use Rattle.guard.proofs.NumberLaws.{front-then}
 
 -- ---- the numbers of the two calls

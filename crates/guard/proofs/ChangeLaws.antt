@@ -19,13 +19,14 @@ use Rattle.store.specs.declared.Cluster.{Cluster}
 use Rattle.store.specs.declared.Store.{Store}
 use Rattle.store.specs.Records.{tableOf, clusterAt, placeOf, inactive, putRecord, withPlace}
 use Rattle.store.specs.Sound.{isAbsent, sound}
-use Rattle.guard.specs.declared.Done.{Done}
-use Rattle.guard.specs.Calls.{Call, call, deleteCluster, deleteSegment, writeMode, recordNamed, buffer}
-use Rattle.guard.specs.Numbers.{number}
-use Rattle.guard.specs.Steps.{Outcome, plain, aesStep, left, given, clusterDeleted, segmentDeleted}
-use Rattle.guard.specs.Entries.{copyOf, asked, ended, leftAlone, recordAt, frontRows, after}
-use Rattle.guard.proofs.FrontLaws.{at-record, front-passed}
-use Rattle.guard.proofs.NumberLaws.{step-refused, step-done, front-record, number-delete-cluster, number-delete-segment}
+use Rattle.front.specs.declared.Done.{Done}
+use Rattle.calls.specs.Calls.{Call, call, deleteCluster, deleteSegment, writeMode, recordNamed, buffer}
+use Rattle.calls.specs.Numbers.{number}
+use Rattle.calls.specs.Steps.{Outcome, plain, aesStep, left, given, clusterDeleted, segmentDeleted}
+use Rattle.front.specs.Entries.{copyOf, asked, ended, leftAlone, recordAt, frontRows, after}
+use Rattle.front.proofs.FrontLaws.{at-record, front-passed}
+use Rattle.calls.proofs.StepLaws.{step-refused, step-done}
+use Rattle.guard.proofs.NumberLaws.{front-record, number-delete-cluster, number-delete-segment}
 
 -- what is left and given by a call that ended so
 abbrev pub endedWith : List ℕ → Done → Outcome

@@ -12,7 +12,7 @@ use Rattle.sizes.specs.Sizes.{nodeMemory}
 use Rattle.store.specs.declared.Place.the-variants.{Present}
 use Rattle.store.specs.declared.Cluster.{Cluster}
 use Rattle.store.specs.Records.{withPlace}
-use Rattle.guard.specs.Steps.{overwritten}
+use Rattle.calls.specs.Steps.{overwritten}
 use Rattle.guard.specs.Makes.{CanMake, Made}
 use Rattle.guard.proofs.CopyLaws.{put-is}
 

@@ -9,7 +9,7 @@ use lib.ListN.{length, getD, set, take, drop, length-set, length-drop}
 use lib.Seq.{getD-set-same, getD-set-other, ext-getD, length-take-le}
 use borrow.Author.Count.{below-none, below-more}
 use borrow.Rule.Slice.PartMut.{putMid, post-is}
-use Rattle.guard.specs.Steps.{overwritten}
+use Rattle.calls.specs.Steps.{overwritten}
 use Rattle.guard.specs.Access.{Reaches}
 
 -- ---- the loop

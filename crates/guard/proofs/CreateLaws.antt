@@ -18,15 +18,15 @@ use Rattle.store.specs.declared.Cluster.{Cluster}
 use Rattle.store.specs.declared.Store.{Store}
 use Rattle.store.specs.Records.{clusterAt, started, putRecord}
 use Rattle.store.specs.Sound.{sound}
-use Rattle.guard.specs.declared.Answer.{Answer}
-use Rattle.guard.specs.declared.Done.{Done}
-use Rattle.guard.specs.Calls.{Call, call, newCluster, weaken}
-use Rattle.guard.specs.Numbers.{noPlace, badMode, badSegment, badSize, badField, gappedHandle, elsewhere, twins}
-use Rattle.guard.specs.Numbers.{notPrimary, notReferenced, spentHandle, inUse, inactiveCluster, segmentPresent}
-use Rattle.guard.specs.Numbers.{segmentAbsent, short, fullNode, unsound, oldPassword, valid, violated, number}
-use Rattle.guard.specs.Steps.{handles, zeroHandle, outcome, step, aesStep, left, given, clusterMade}
-use Rattle.guard.specs.Entries.{handlesAlone, primaryBytes, copyOf, asked, ended, leftAlone}
-use Rattle.guard.proofs.NumberLaws.{step-done}
+use Rattle.front.specs.declared.Answer.{Answer}
+use Rattle.front.specs.declared.Done.{Done}
+use Rattle.calls.specs.Calls.{Call, call, newCluster, weaken}
+use Rattle.calls.specs.Numbers.{noPlace, badMode, badSegment, badSize, badField, gappedHandle, elsewhere, twins}
+use Rattle.calls.specs.Numbers.{notPrimary, notReferenced, spentHandle, inUse, inactiveCluster, segmentPresent}
+use Rattle.calls.specs.Numbers.{segmentAbsent, short, fullNode, unsound, oldPassword, valid, violated, number}
+use Rattle.calls.specs.Steps.{handles, zeroHandle, outcome, step, aesStep, left, given, clusterMade}
+use Rattle.front.specs.Entries.{handlesAlone, primaryBytes, copyOf, asked, ended, leftAlone}
+use Rattle.calls.proofs.StepLaws.{step-done}
 use Rattle.guard.proofs.ChangeLaws.{endedWith, above, left-refused}
 
 -- ---- call 1

@@ -15,10 +15,10 @@ use Rattle.store.specs.declared.Cluster.{Cluster}
 use Rattle.store.specs.declared.Store.{Store}
 use Rattle.store.specs.Records.{tableOf, clusterAt, placeOf}
 use Rattle.store.specs.Sound.{isAbsent}
-use Rattle.guard.specs.Calls.{writeMode, recordNamed}
-use Rattle.guard.specs.Entries.{recordAt, frontRows, after}
+use Rattle.calls.specs.Calls.{writeMode, recordNamed}
+use Rattle.front.specs.Entries.{recordAt, frontRows, after}
 use Rattle.guard.specs.Makes.{badFields, judged}
-use Rattle.guard.proofs.FrontLaws.{Passed, front-passed}
+use Rattle.front.proofs.FrontLaws.{Passed, front-passed}
 use Rattle.guard.proofs.ChangeLaws.{after-front}
 
 -- ---- the returns

@@ -1,14 +1,8 @@
-pub mod FrontLaws
 pub mod NumberLaws
 pub mod OpenLaws
 pub mod ChangeLaws
 pub mod PasswordLaws
 pub mod CreateLaws
-pub mod FirstLaws
-pub mod MemoryLaws
-pub mod CallLaws
-pub mod DoneLaws
-pub mod ExampleLaws
 pub mod CopyLaws
 pub mod BytesNumbers
 pub mod BytesLaws

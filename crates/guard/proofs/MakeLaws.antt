@@ -24,16 +24,17 @@ use Rattle.store.specs.Placement.{Answer, roomAt, noRoomNumber, answered, answe
 use Rattle.store.proofs.PlaceLaws.{Inside, inside-out}
 use Rattle.store.proofs.PlacementLaws.{Fits, newBase-fits}
 use Rattle.store.proofs.SoundLaws.{sound-out}
-use Rattle.guard.specs.declared.Done.{Done}
-use Rattle.guard.specs.Calls.{Call, call, newSegment, writeMode, recordNamed, address}
-use Rattle.guard.specs.Numbers.{noPlace, badMode, badSegment, badSize, badField, gappedHandle, elsewhere, twins}
-use Rattle.guard.specs.Numbers.{notPrimary, notReferenced, spentHandle, inUse, inactiveCluster, segmentPresent}
-use Rattle.guard.specs.Numbers.{segmentAbsent, short, fullNode, unsound, oldPassword, valid, violated, number}
-use Rattle.guard.specs.Steps.{Outcome, overwritten, plain, aesStep, left, given, segmentMade}
-use Rattle.guard.specs.Entries.{copyOf, asked, leftAlone, recordAt, frontRows, after}
+use Rattle.front.specs.declared.Done.{Done}
+use Rattle.calls.specs.Calls.{Call, call, newSegment, writeMode, recordNamed, address}
+use Rattle.calls.specs.Numbers.{noPlace, badMode, badSegment, badSize, badField, gappedHandle, elsewhere, twins}
+use Rattle.calls.specs.Numbers.{notPrimary, notReferenced, spentHandle, inUse, inactiveCluster, segmentPresent}
+use Rattle.calls.specs.Numbers.{segmentAbsent, short, fullNode, unsound, oldPassword, valid, violated, number}
+use Rattle.calls.specs.Steps.{Outcome, overwritten, plain, aesStep, left, given, segmentMade}
+use Rattle.front.specs.Entries.{copyOf, asked, leftAlone, recordAt, frontRows, after}
 use Rattle.guard.specs.Makes.{badFields, judged, CanMake, Made}
-use Rattle.guard.proofs.FrontLaws.{at-record}
-use Rattle.guard.proofs.NumberLaws.{step-done, front-then}
+use Rattle.front.proofs.FrontLaws.{at-record}
+use Rattle.calls.proofs.StepLaws.{step-done}
+use Rattle.guard.proofs.NumberLaws.{front-then}
 use Rattle.guard.proofs.ChangeLaws.{endedWith, after-front, above, left-refused}
 use Rattle.guard.proofs.JudgeLaws.{Judged, judged-out, judged-record}
 

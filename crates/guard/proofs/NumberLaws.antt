@@ -5,11 +5,10 @@
 use mathlib.Core.Path.{_≡_, refl, ap}
 use mathlib.Core.Bool.{Bool, true, false, not, _||_, cond, or-false}
 use mathlib.Core.List.{List, []}
-use Prim.Native.Nat.{ℕ, zero, suc}
+use Prim.Native.Nat.{ℕ}
 use lib.Dec.{eqb, leb}
-use lib.ListN.{length}
 use Rattle.handle.specs.declared.Handle.{Handle}
-use Rattle.handle.specs.Handles.{Name, widthOf, noSuchPlace, firstOf, decoded, validates}
+use Rattle.handle.specs.Handles.{widthOf, noSuchPlace, firstOf, decoded, validates}
 use Rattle.handle.specs.Selectors.{allFlat, gapped}
 use Rattle.sizes.specs.Sizes.{nodes, segments}
 use Rattle.handle.specs.Conversion.{conversion}
@@ -17,26 +16,11 @@ use Rattle.store.specs.declared.Cluster.{Cluster}
 use Rattle.store.specs.declared.Store.{Store}
 use Rattle.store.specs.Records.{tableOf, clusterAt, placeOf}
 use Rattle.store.specs.Sound.{isAbsent, sound}
-use Rattle.guard.specs.Calls.{Copy, Call, Arguments, call, deleteCluster, deleteSegment, newPassword, reduce, validate, readMode, writeMode, recordNamed, buffer, primaryOf}
-use Rattle.guard.specs.Numbers.{noPlace, badMode, badSegment, badSize, badField, gappedHandle, elsewhere, twins}
-use Rattle.guard.specs.Numbers.{notPrimary, notReferenced, spentHandle, inUse, inactiveCluster, segmentPresent}
-use Rattle.guard.specs.Numbers.{segmentAbsent, short, fullNode, unsound, isOld, oldPassword, valid, violated, number}
-use Rattle.guard.specs.Steps.{plain, left, given, outcome, step}
-use Rattle.guard.specs.Entries.{badModes, asked, recordAt, frontRows, after}
-
--- ---- a call refused, and a call done
-
-module _ (f : Name → List ℕ → ℕ → List ℕ) (x : Call) (c : Copy) where
-  pub step-refused : (n : ℕ) → number f x (c .store) (length (c .memory)) ≡ n → (n ≡ 0 → ⊥)
-      → step f x c ≡ record { copy = c; reply = plain n (buffer x) }
-  unfolding step
-  step-refused zero e h = absurd (h refl)
-  step-refused (suc n) e h = ap (λ (k : ℕ). outcome f k x c) e
-
-  pub step-done : number f x (c .store) (length (c .memory)) ≡ 0
-      → step f x c ≡ record { copy = left (x .kind) x c; reply = given f (x .kind) x c }
-  unfolding step
-  step-done e = ap (λ (k : ℕ). outcome f k x c) e
+use Rattle.calls.specs.Calls.{call, deleteCluster, deleteSegment, newPassword, reduce, readMode, writeMode, recordNamed, primaryOf}
+use Rattle.calls.specs.Numbers.{noPlace, badMode, badSegment, badSize, badField, gappedHandle, elsewhere, twins}
+use Rattle.calls.specs.Numbers.{notPrimary, notReferenced, spentHandle, inUse, inactiveCluster, segmentPresent}
+use Rattle.calls.specs.Numbers.{segmentAbsent, short, fullNode, unsound, isOld, oldPassword, valid, violated, number}
+use Rattle.front.specs.Entries.{badModes, asked, recordAt, frontRows, after}
 
 -- ---- the record looked up first
 
@@ -78,12 +62,6 @@ front-then sd h c far field away mode rest =
     (not (validates (widthOf h) conversion (primaryOf c mode) h)) rest
 
 -- ---- the numbers, call by call
-
--- validation's number is reduction's
-pub number-validate : (f : Name → List ℕ → ℕ → List ℕ) (g : Arguments) (s : Store) (size : ℕ)
-    → number f (call validate g) s size ≡ number f (call reduce g) s size
-unfolding number noPlace badField badMode badSegment badSize gappedHandle elsewhere twins notPrimary notReferenced spentHandle inUse inactiveCluster segmentPresent segmentAbsent short fullNode unsound oldPassword valid violated
-number-validate f g s size = refl
 
 module _ (s : Store) (size : ℕ) (b : List ℕ) where
   abbrev h : Handle

@@ -11,13 +11,14 @@ use Rattle.handle.specs.Conversion.{conversion}
 use Rattle.store.specs.declared.Store.{Store}
 use Rattle.store.specs.Records.{clusterAt}
 use Rattle.store.specs.Sound.{sound}
-use Rattle.guard.specs.declared.Answer.{Answer}
-use Rattle.guard.specs.Calls.{call, reduce, validate, primaryOf, recordNamed}
-use Rattle.guard.specs.Numbers.{number}
-use Rattle.guard.specs.Steps.{handles, zeroHandle, outcome, step, aesStep, left, given}
-use Rattle.guard.specs.Entries.{badModes, handlesAlone, copyOf, asked, ended, numberAlone, recordAt, frontRows}
-use Rattle.guard.proofs.FrontLaws.{at-record, Passed, front-passed}
-use Rattle.guard.proofs.NumberLaws.{step-refused, step-done, front-record, number-validate, number-reduce}
+use Rattle.front.specs.declared.Answer.{Answer}
+use Rattle.calls.specs.Calls.{call, reduce, validate, primaryOf, recordNamed}
+use Rattle.calls.specs.Numbers.{number}
+use Rattle.calls.specs.Steps.{handles, zeroHandle, outcome, step, aesStep, left, given}
+use Rattle.front.specs.Entries.{badModes, handlesAlone, copyOf, asked, ended, numberAlone, recordAt, frontRows}
+use Rattle.front.proofs.FrontLaws.{at-record, Passed, front-passed}
+use Rattle.calls.proofs.StepLaws.{step-refused, step-done, number-validate}
+use Rattle.guard.proofs.NumberLaws.{front-record, number-reduce}
 
 module _ (s : Store) (m b : List ℕ) (mode : ℕ) (h : Handle) (eh : h ≡ decoded b) (at : ℕ) (ea : at ≡ recordAt (h .node) (h .local))
     (sd : Bool) (es : sd ≡ sound s (length m)) (bad : Bool) (eb : bad ≡ badModes mode) (n : ℕ)

@@ -14,14 +14,15 @@ use Rattle.store.specs.declared.Cluster.{Cluster}
 use Rattle.store.specs.declared.Store.{Store}
 use Rattle.store.specs.Records.{clusterAt, putRecord}
 use Rattle.store.specs.Sound.{sound}
-use Rattle.guard.specs.declared.Answer.{Answer}
-use Rattle.guard.specs.declared.Done.{Done}
-use Rattle.guard.specs.Calls.{Call, call, newPassword, readMode, recordNamed}
-use Rattle.guard.specs.Numbers.{isOld, number}
-use Rattle.guard.specs.Steps.{handles, zeroHandle, aesStep, left, given, withPassword, passwordReplaced}
-use Rattle.guard.specs.Entries.{badModes, handlesAlone, primaryBytes, copyOf, asked, ended, leftAlone, recordAt}
-use Rattle.guard.specs.Entries.{frontRows, after}
-use Rattle.guard.proofs.NumberLaws.{step-done, number-new-password}
+use Rattle.front.specs.declared.Answer.{Answer}
+use Rattle.front.specs.declared.Done.{Done}
+use Rattle.calls.specs.Calls.{Call, call, newPassword, readMode, recordNamed}
+use Rattle.calls.specs.Numbers.{isOld, number}
+use Rattle.calls.specs.Steps.{handles, zeroHandle, aesStep, left, given, withPassword, passwordReplaced}
+use Rattle.front.specs.Entries.{badModes, handlesAlone, primaryBytes, copyOf, asked, ended, leftAlone, recordAt}
+use Rattle.front.specs.Entries.{frontRows, after}
+use Rattle.calls.proofs.StepLaws.{step-done}
+use Rattle.guard.proofs.NumberLaws.{number-new-password}
 use Rattle.guard.proofs.ChangeLaws.{endedWith, after-front, above, left-refused, front-told, front-there}
 
 -- ---- the record with a password replaced

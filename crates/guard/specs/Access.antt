@@ -17,10 +17,10 @@ use Rattle.handle.specs.Handles.{Row, firstOf}
 use Rattle.store.specs.declared.Place.{Place}
 use Rattle.store.specs.declared.Cluster.{Cluster}
 use Rattle.store.specs.Sound.{isAbsent}
-use Rattle.guard.specs.declared.Answer.{Answer}
-use Rattle.guard.specs.Calls.{lengthOf}
-use Rattle.guard.specs.Steps.{zeroHandle}
-use Rattle.guard.specs.Entries.{row, frontRows, after}
+use Rattle.front.specs.declared.Answer.{Answer}
+use Rattle.calls.specs.Calls.{lengthOf}
+use Rattle.calls.specs.Steps.{zeroHandle}
+use Rattle.front.specs.Entries.{row, frontRows, after}
 
 abbrev pub accessRows : Handle → Place → ℕ → ℕ → List Row
 accessRows h p i room =

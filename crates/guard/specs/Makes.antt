@@ -21,9 +21,9 @@ use Rattle.store.specs.declared.Place.the-variants.{Present}
 use Rattle.store.specs.declared.Cluster.{Cluster}
 use Rattle.store.specs.Records.{tableOf, placeOf, withPlace}
 use Rattle.store.specs.Sound.{isAbsent}
-use Rattle.guard.specs.Calls.{writeMode, address}
-use Rattle.guard.specs.Steps.{overwritten}
-use Rattle.guard.specs.Entries.{frontRows, after}
+use Rattle.calls.specs.Calls.{writeMode, address}
+use Rattle.calls.specs.Steps.{overwritten}
+use Rattle.front.specs.Entries.{frontRows, after}
 
 abbrev pub badFields : ℕ → ℕ → Bool
 badFields segment size = leb segments segment || (eqb size 0 || ltb nodeMemory size)

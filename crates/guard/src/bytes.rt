@@ -1,14 +1,14 @@
 // Reading and writing: the calls that move the bytes of a segment and change no record.
-use crate::ABSENT;
-use crate::Answer;
-use crate::NOT_REFERENCED;
-use crate::READ;
-use crate::SHORT;
-use crate::WRITE;
-use crate::front::front;
-use crate::front::number_alone;
-use crate::front::place_of;
-use crate::front::record_at;
+use front::ABSENT;
+use front::Answer;
+use front::NOT_REFERENCED;
+use front::READ;
+use front::SHORT;
+use front::WRITE;
+use front::front;
+use front::number_alone;
+use front::place_of;
+use front::record_at;
 use handle::Handle;
 use store::Cluster;
 use store::NODE_MEMORY;
@@ -18,9 +18,9 @@ use store::Store;
 ghost use mathlib.Core.Path.{_≡_};
 ghost use mathlib.Core.List.{[], _++_};
 ghost use lib.ListN.{length, take, drop};
-ghost use Rattle.guard.specs.Calls as calls;
-ghost use Rattle.guard.specs.Steps.{aesStep, overwritten};
-ghost use Rattle.guard.specs.Entries.{copyOf, asked, ended};
+ghost use Rattle.calls.specs.Calls as calls;
+ghost use Rattle.calls.specs.Steps.{aesStep, overwritten};
+ghost use Rattle.front.specs.Entries.{copyOf, asked, ended};
 ghost use Rattle.guard.specs.Access.{accessed, lengthTold, Reaches};
 
 // Where a place of a node's memory begins in the slice.

@@ -1,19 +1,19 @@
 // The calls that change a cluster's record and no byte of the memory.
-use crate::ABSENT;
-use crate::Done;
-use crate::NOT_PRIMARY;
-use crate::OLD_PASSWORD;
-use crate::READ;
-use crate::WRITE;
-use crate::front::absent;
-use crate::front::bad_mode;
-use crate::front::front;
-use crate::front::handle_alone;
-use crate::front::place_of;
-use crate::front::primary_handle;
-use crate::front::record_at;
-use crate::front::unchanged;
-use crate::front::with_place;
+use front::ABSENT;
+use front::Done;
+use front::NOT_PRIMARY;
+use front::OLD_PASSWORD;
+use front::READ;
+use front::WRITE;
+use front::absent;
+use front::bad_mode;
+use front::front;
+use front::handle_alone;
+use front::place_of;
+use front::primary_handle;
+use front::record_at;
+use front::unchanged;
+use front::with_place;
 use handle::Handle;
 use store::Cluster;
 use store::NODES;
@@ -22,9 +22,9 @@ use store::SEGMENTS;
 use store::Store;
 ghost use mathlib.Core.Path.{_≡_};
 ghost use mathlib.Core.List.{[]};
-ghost use Rattle.guard.specs.Calls as calls;
-ghost use Rattle.guard.specs.Steps.{aesStep, withPassword};
-ghost use Rattle.guard.specs.Entries.{copyOf, asked, ended};
+ghost use Rattle.calls.specs.Calls as calls;
+ghost use Rattle.calls.specs.Steps.{aesStep, withPassword};
+ghost use Rattle.front.specs.Entries.{copyOf, asked, ended};
 
 // The record with the primary password of a mode replaced.
 fn with_password(cluster: Cluster, mode: u8, password: [u8; 16]) -> Cluster

@@ -1,13 +1,13 @@
 // Call 1, which makes a cluster, and call 7, which never looks at the store.
-use crate::Answer;
-use crate::Done;
-use crate::IN_USE;
-use crate::NO_SUCH_PLACE;
-use crate::TWINS;
-use crate::UNSOUND;
-use crate::front::number_alone;
-use crate::front::primary_handle;
-use crate::front::unchanged;
+use front::Answer;
+use front::Done;
+use front::IN_USE;
+use front::NO_SUCH_PLACE;
+use front::TWINS;
+use front::UNSOUND;
+use front::number_alone;
+use front::primary_handle;
+use front::unchanged;
 use handle::Handle;
 use store::CLUSTERS;
 use store::Cluster;
@@ -18,9 +18,9 @@ ghost use mathlib.Core.List.{List, []};
 ghost use Prim.Native.Nat.{ℕ};
 ghost use Rattle.store.specs.Records as records;
 ghost use Rattle.store.specs.declared.Store as declared;
-ghost use Rattle.guard.specs.Calls as calls;
-ghost use Rattle.guard.specs.Steps.{aesStep, zeroHandle};
-ghost use Rattle.guard.specs.Entries.{copyOf, asked, ended, handlesAlone};
+ghost use Rattle.calls.specs.Calls as calls;
+ghost use Rattle.calls.specs.Steps.{aesStep, zeroHandle};
+ghost use Rattle.front.specs.Entries.{copyOf, asked, ended, handlesAlone};
 
 // The record of a new cluster.
 fn started(read: [u8; 16], write: [u8; 16]) -> Cluster

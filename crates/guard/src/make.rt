@@ -1,15 +1,15 @@
 // The call that makes a segment: it changes a record, and clears the segment's part of the memory.
-use crate::Done;
-use crate::NO_ROOM;
-use crate::NOT_PRIMARY;
-use crate::PRESENT;
-use crate::WRITE;
-use crate::front::absent;
-use crate::front::front;
-use crate::front::place_of;
-use crate::front::record_at;
-use crate::front::unchanged;
-use crate::front::with_place;
+use front::Done;
+use front::NO_ROOM;
+use front::NOT_PRIMARY;
+use front::PRESENT;
+use front::WRITE;
+use front::absent;
+use front::front;
+use front::place_of;
+use front::record_at;
+use front::unchanged;
+use front::with_place;
 use handle::Handle;
 use store::Cluster;
 use store::Found;
@@ -21,9 +21,9 @@ use store::Store;
 ghost use mathlib.Core.Path.{_≡_};
 ghost use mathlib.Core.List.{[]};
 ghost use lib.ListN.{length, replicate};
-ghost use Rattle.guard.specs.Calls as calls;
-ghost use Rattle.guard.specs.Steps.{aesStep};
-ghost use Rattle.guard.specs.Entries.{copyOf, asked, ended};
+ghost use Rattle.calls.specs.Calls as calls;
+ghost use Rattle.calls.specs.Steps.{aesStep};
+ghost use Rattle.front.specs.Entries.{copyOf, asked, ended};
 ghost use Rattle.guard.specs.Makes.{judged, CanMake, Made};
 
 // Sets every byte of the part to zero.

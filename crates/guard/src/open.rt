@@ -1,18 +1,18 @@
 // Validation and reduction: they open a cluster and change nothing.
-use crate::Answer;
-use crate::front::bad_mode;
-use crate::front::front;
-use crate::front::handle_alone;
-use crate::front::number_alone;
-use crate::front::primary;
-use crate::front::record_at;
+use front::Answer;
+use front::bad_mode;
+use front::front;
+use front::handle_alone;
+use front::number_alone;
+use front::primary;
+use front::record_at;
 use handle::Handle;
 use store::Store;
 ghost use mathlib.Core.Path.{_≡_};
 ghost use mathlib.Core.List.{[]};
-ghost use Rattle.guard.specs.Calls as calls;
-ghost use Rattle.guard.specs.Steps.{aesStep};
-ghost use Rattle.guard.specs.Entries.{copyOf, asked, ended};
+ghost use Rattle.calls.specs.Calls as calls;
+ghost use Rattle.calls.specs.Steps.{aesStep};
+ghost use Rattle.front.specs.Entries.{copyOf, asked, ended};
 
 // Validation asked for by itself: the number that reduction would give.
 pub fn validate(store: Store, memory: &[u8], mode: u8, bytes: [u8; 23]) -> u8

@@ -18,7 +18,7 @@ use Rattle.store.specs.Placement.{newBase}
 use Rattle.store.proofs.PlaceLaws.{inside-out, apart-off}
 use Rattle.store.proofs.PlacementLaws.{newBase-fits}
 use Rattle.store.proofs.SoundLaws.{Sound}
-use Rattle.guard.specs.Calls.{baseOf, lengthOf, address}
+use Rattle.calls.specs.Calls.{baseOf, lengthOf, address}
 use Rattle.isolation.specs.Copies.{InPlace, setApart, Outside}
 
 pub in-place : (v : ℕ) (p : Place) (a : ℕ) → address v (baseOf p) ≤ a → a < address v (baseOf p) + lengthOf p

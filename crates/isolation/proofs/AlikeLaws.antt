@@ -18,19 +18,19 @@ use Rattle.store.specs.declared.Store.{Store}
 use Rattle.store.specs.Records.{Table, Tables, inactive, started, tableOf, clusterAt, tableAt, placeOf, putRecord}
 use Rattle.store.specs.Records.{withPlace}
 use Rattle.store.proofs.ChangeLaws.{put-other, put-same, put-out}
-use Rattle.guard.specs.Calls.{Copy, Call, call, Arguments, Kind, newCluster, deleteCluster, newSegment, deleteSegment}
-use Rattle.guard.specs.Calls.{read, write, weaken, reduce, newPassword, validate, opens, handleOf, nodeFor, localFor}
-use Rattle.guard.specs.Calls.{recordFor, placeFor, lengthOf, startFor, primaryOf}
-use Rattle.guard.specs.Steps.{zeroHandle, handles, readReply, putCluster, putBytes, about, withPassword, newPlace}
-use Rattle.guard.specs.Steps.{newStart}
-use Rattle.guard.specs.Steps.{clusterMade, clusterDeleted, segmentMade, segmentDeleted, segmentWritten}
-use Rattle.guard.specs.Steps.{passwordReplaced}
-use Rattle.guard.specs.Steps.{left, segmentRead, given}
+use Rattle.calls.specs.Calls.{Copy, Call, call, Arguments, Kind, newCluster, deleteCluster, newSegment, deleteSegment}
+use Rattle.calls.specs.Calls.{read, write, weaken, reduce, newPassword, validate, opens, handleOf, nodeFor, localFor}
+use Rattle.calls.specs.Calls.{recordFor, placeFor, lengthOf, startFor, primaryOf}
+use Rattle.calls.specs.Steps.{zeroHandle, handles, readReply, putCluster, putBytes, about, withPassword, newPlace}
+use Rattle.calls.specs.Steps.{newStart}
+use Rattle.calls.specs.Steps.{clusterMade, clusterDeleted, segmentMade, segmentDeleted, segmentWritten}
+use Rattle.calls.specs.Steps.{passwordReplaced}
+use Rattle.calls.specs.Steps.{left, segmentRead, given}
 use Rattle.isolation.specs.Copies.{SoundCopy, Done, InPlace, setApart, Alike, Shut}
-use Rattle.guard.proofs.MemoryLaws.{length-overwritten, overwritten-both, part-same}
-use Rattle.guard.proofs.CallLaws.{InRange}
+use Rattle.calls.proofs.MemoryLaws.{length-overwritten, overwritten-both, part-same}
+use Rattle.calls.proofs.CallLaws.{InRange}
 use Rattle.isolation.proofs.AddressLaws.{in-place, place-outside}
-use Rattle.guard.proofs.DoneLaws.{done-range, new-away}
+use Rattle.calls.proofs.DoneLaws.{done-range, new-away}
 use Rattle.isolation.proofs.AwayLaws.{shut-away}
 use Rattle.isolation.proofs.KeptLaws.{tables, facts, segment-fits, new-fits, write-fits, read-segment}
 use Rattle.isolation.proofs.NumberLaws.{alike-tables}

@@ -17,10 +17,10 @@ use Rattle.handle.specs.Selectors.{gapped}
 use Rattle.handle.specs.Handles.{Name, nodeOf, widthOf}
 use Rattle.store.specs.declared.Store.{Store}
 use Rattle.store.specs.Records.{recordOf}
-use Rattle.guard.specs.Calls.{Call, opens, readMode, writeMode, needed, handleOf, presented, recordFor, recordNamed}
-use Rattle.guard.specs.Numbers.{valid, number}
-use Rattle.guard.proofs.CallLaws.{opened, InRange, handle-range, only, guarded, record-is}
-use Rattle.guard.proofs.DoneLaws.{no-row, done-mode, done-even, done-valid}
+use Rattle.calls.specs.Calls.{Call, opens, readMode, writeMode, needed, handleOf, presented, recordFor, recordNamed}
+use Rattle.calls.specs.Numbers.{valid, number}
+use Rattle.calls.proofs.CallLaws.{opened, InRange, handle-range, only, guarded, record-is}
+use Rattle.calls.proofs.DoneLaws.{no-row, done-mode, done-even, done-valid}
 use Rattle.isolation.specs.Copies.{setApart, names, keyed, Shut}
 
 -- a place in range is the cluster set apart, or has another record

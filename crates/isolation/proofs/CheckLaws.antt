@@ -24,21 +24,21 @@ use Rattle.handle.proofs.CodecLaws.{encoded-none}
 use Rattle.store.specs.declared.Store.{Store}
 use Rattle.store.specs.Records.{clusterAt, tableAt}
 use Rattle.store.specs.Sound.{sound}
-use Rattle.guard.specs.Calls.{Copy, Call, call, Arguments, Kind, newCluster, deleteCluster, newSegment, deleteSegment}
-use Rattle.guard.specs.Calls.{read, write, weaken, reduce, newPassword, validate, opens, readMode, writeMode, needed}
-use Rattle.guard.specs.Calls.{handleOf, buffer, recordNamed, primaryOf}
-use Rattle.guard.specs.Numbers.{unsound, noPlace, badMode, badSegment, badSize, badField, gappedHandle, elsewhere}
-use Rattle.guard.specs.Numbers.{inUse, twins, inactiveCluster, valid, violated, notPrimary, notReferenced, oldPassword}
-use Rattle.guard.specs.Numbers.{segmentPresent, segmentAbsent, short, fullNode, spentHandle, number}
-use Rattle.guard.specs.Steps.{zeroHandle, plain, left, given, outcome, step}
+use Rattle.calls.specs.Calls.{Copy, Call, call, Arguments, Kind, newCluster, deleteCluster, newSegment, deleteSegment}
+use Rattle.calls.specs.Calls.{read, write, weaken, reduce, newPassword, validate, opens, readMode, writeMode, needed}
+use Rattle.calls.specs.Calls.{handleOf, buffer, recordNamed, primaryOf}
+use Rattle.calls.specs.Numbers.{unsound, noPlace, badMode, badSegment, badSize, badField, gappedHandle, elsewhere}
+use Rattle.calls.specs.Numbers.{inUse, twins, inactiveCluster, valid, violated, notPrimary, notReferenced, oldPassword}
+use Rattle.calls.specs.Numbers.{segmentPresent, segmentAbsent, short, fullNode, spentHandle, number}
+use Rattle.calls.specs.Steps.{zeroHandle, plain, left, given, outcome, step}
 use Rattle.isolation.specs.Copies.{SixteenBytes}
 use Rattle.isolation.specs.Checks.{Refused, RefusalChangesNothing, NoneApplies, FirstTold, Opener, MustHold, DoneHeld}
 use Rattle.isolation.specs.Checks.{Judgeable, ValidationJudges, ValidationIsReduction}
 use Rattle.isolation.specs.Checks.{weakenReply, WeakeningIs}
-use Rattle.guard.proofs.FirstLaws.{Line, at}
-use Rattle.guard.proofs.NumberLaws.{number-validate}
-use Rattle.guard.proofs.CallLaws.{or-left, record-is, violated-is}
-use Rattle.guard.proofs.DoneLaws.{no-row, done-even, done-active, done-valid}
+use Rattle.calls.proofs.FirstLaws.{Line, at}
+use Rattle.calls.proofs.StepLaws.{number-validate}
+use Rattle.calls.proofs.CallLaws.{or-left, record-is, violated-is}
+use Rattle.calls.proofs.DoneLaws.{no-row, done-even, done-active, done-valid}
 
 module _ (f : Name → List ℕ → ℕ → List ℕ) where
   -- ---- condition 1

@@ -20,17 +20,17 @@ use Rattle.store.specs.declared.Cluster.{Cluster}
 use Rattle.store.specs.Records.{Tables, absentSegment, inactive, tableOf, recordOf, clusterAt, placeOf, placeAt}
 use Rattle.store.specs.Records.{withPlace}
 use Rattle.store.proofs.ChangeLaws.{put-same}
-use Rattle.guard.specs.Calls.{Copy, Call, call, Arguments, deleteCluster, newSegment, deleteSegment, read, write}
-use Rattle.guard.specs.Calls.{nodeFor, recordFor, placeFor, baseOf, lengthOf, address, startFor}
-use Rattle.guard.specs.Numbers.{badSegment}
-use Rattle.guard.specs.Steps.{Outcome, overwritten, about, newPlace, newStart}
-use Rattle.guard.specs.Steps.{clusterDeleted, segmentMade, segmentDeleted, segmentWritten, left, segmentRead, given}
-use Rattle.guard.specs.Steps.{step}
+use Rattle.calls.specs.Calls.{Copy, Call, call, Arguments, deleteCluster, newSegment, deleteSegment, read, write}
+use Rattle.calls.specs.Calls.{nodeFor, recordFor, placeFor, baseOf, lengthOf, address, startFor}
+use Rattle.calls.specs.Numbers.{badSegment}
+use Rattle.calls.specs.Steps.{Outcome, overwritten, about, newPlace, newStart}
+use Rattle.calls.specs.Steps.{clusterDeleted, segmentMade, segmentDeleted, segmentWritten, left, segmentRead, given}
+use Rattle.calls.specs.Steps.{step}
 use Rattle.isolation.specs.Copies.{Done}
 use Rattle.isolation.specs.Effects.{SameSegment, WrittenReads, NewReads, ClusterGone, SegmentGone}
-use Rattle.guard.proofs.MemoryLaws.{part-overwritten}
-use Rattle.guard.proofs.DoneLaws.{done-range, done-segment, done-active}
-use Rattle.guard.proofs.NumberLaws.{step-done}
+use Rattle.calls.proofs.MemoryLaws.{part-overwritten}
+use Rattle.calls.proofs.DoneLaws.{done-range, done-segment, done-active}
+use Rattle.calls.proofs.StepLaws.{step-done}
 use Rattle.isolation.proofs.KeptLaws.{tables, new-fits, write-fits, length-data}
 use Rattle.isolation.proofs.GivenLaws.{active-in}
 

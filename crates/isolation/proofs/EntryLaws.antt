@@ -16,14 +16,14 @@ use Rattle.store.specs.declared.Cluster.{Cluster}
 use Rattle.store.specs.declared.Store.{Store}
 use Rattle.store.specs.Records.{absentSegment, clusterAt, tableAt, putRecord, withPlace}
 use Rattle.store.proofs.ChangeLaws.{put-other, put-same, put-out}
-use Rattle.guard.specs.Calls.{Copy, Call, call, Arguments, Kind, newCluster, deleteCluster, newSegment, deleteSegment}
-use Rattle.guard.specs.Calls.{read, write, weaken, reduce, newPassword, validate, readMode, writeMode, recordFor}
-use Rattle.guard.specs.Calls.{primaryOf}
-use Rattle.guard.specs.Steps.{about, withPassword, newPlace, clusterMade, clusterDeleted, segmentMade, segmentDeleted}
-use Rattle.guard.specs.Steps.{segmentWritten, passwordReplaced, left}
+use Rattle.calls.specs.Calls.{Copy, Call, call, Arguments, Kind, newCluster, deleteCluster, newSegment, deleteSegment}
+use Rattle.calls.specs.Calls.{read, write, weaken, reduce, newPassword, validate, readMode, writeMode, recordFor}
+use Rattle.calls.specs.Calls.{primaryOf}
+use Rattle.calls.specs.Steps.{about, withPassword, newPlace, clusterMade, clusterDeleted, segmentMade, segmentDeleted}
+use Rattle.calls.specs.Steps.{segmentWritten, passwordReplaced, left}
 use Rattle.isolation.specs.Copies.{Done}
 use Rattle.isolation.specs.Effects.{otherMode, OtherSegments, OtherPassword, Entries, EntriesStay}
-use Rattle.guard.proofs.DoneLaws.{done-mode}
+use Rattle.calls.proofs.DoneLaws.{done-mode}
 use Rattle.isolation.proofs.KeptLaws.{by-number}
 
 -- a record put, seen at some record: as it was, or the new one

@@ -26,17 +26,17 @@ use Rattle.store.specs.declared.Cluster.{Cluster}
 use Rattle.store.specs.declared.Store.{Store}
 use Rattle.store.specs.Records.{started, recordOf, noCluster, clusterAt, tableAt, putRecord}
 use Rattle.store.proofs.ChangeLaws.{put-same}
-use Rattle.guard.specs.Calls.{Call, call, newCluster, weaken, reduce, newPassword, readMode, writeMode}
-use Rattle.guard.specs.Calls.{handleOf, nodeFor, localFor, recordFor, recordNamed, primaryOf}
-use Rattle.guard.specs.Numbers.{gappedHandle, spentHandle, valid}
-use Rattle.guard.specs.Steps.{about, withPassword, clusterMade, passwordReplaced, left, given}
+use Rattle.calls.specs.Calls.{Call, call, newCluster, weaken, reduce, newPassword, readMode, writeMode}
+use Rattle.calls.specs.Calls.{handleOf, nodeFor, localFor, recordFor, recordNamed, primaryOf}
+use Rattle.calls.specs.Numbers.{gappedHandle, spentHandle, valid}
+use Rattle.calls.specs.Steps.{about, withPassword, clusterMade, passwordReplaced, left, given}
 use Rattle.isolation.specs.Copies.{SixteenBytes}
-use Rattle.guard.specs.Clear.{NoRow}
+use Rattle.calls.specs.Clear.{NoRow}
 use Rattle.isolation.specs.Effects.{Made, MadeOpens, otherMode, Renewed, RenewedOpens, Reduced, ReducedOpens}
 use Rattle.isolation.specs.Effects.{Weakened, WeakenedOpens, Refers}
-use Rattle.guard.proofs.CallLaws.{or-left, InRange}
-use Rattle.guard.proofs.DoneLaws.{no-row, done-range, done-mode, done-even, done-active, done-valid}
-use Rattle.guard.proofs.NumberLaws.{step-done}
+use Rattle.calls.proofs.CallLaws.{or-left, InRange}
+use Rattle.calls.proofs.DoneLaws.{no-row, done-range, done-mode, done-even, done-active, done-valid}
+use Rattle.calls.proofs.StepLaws.{step-done}
 use Rattle.isolation.proofs.EntryLaws.{other-stays}
 
 -- an active record is one of the store's

@@ -19,21 +19,21 @@ use Rattle.store.proofs.PlaceLaws.{inside-out}
 use Rattle.store.proofs.PlacementLaws.{newBase-fits}
 use Rattle.store.proofs.SoundLaws.{Sound, sound-out, settled-active, sound-starting}
 use Rattle.store.proofs.ChangeLaws.{put-other, sound-same, sound-inactive, sound-started, sound-made, sound-removed}
-use Rattle.guard.specs.Calls.{Copy, Call, call, Arguments, Kind, newCluster, deleteCluster, newSegment, deleteSegment}
-use Rattle.guard.specs.Calls.{read, write, weaken, reduce, newPassword, validate, nodeFor, localFor, recordFor}
-use Rattle.guard.specs.Calls.{placeFor, lengthOf, startFor}
-use Rattle.guard.specs.Numbers.{badSegment, number}
-use Rattle.guard.specs.Steps.{putCluster, about, withPassword, newBaseFor, newPlace, newStart}
-use Rattle.guard.specs.Steps.{clusterMade, clusterDeleted, segmentMade, segmentDeleted, segmentWritten}
-use Rattle.guard.specs.Steps.{passwordReplaced}
-use Rattle.guard.specs.Steps.{left, outcome, step}
+use Rattle.calls.specs.Calls.{Copy, Call, call, Arguments, Kind, newCluster, deleteCluster, newSegment, deleteSegment}
+use Rattle.calls.specs.Calls.{read, write, weaken, reduce, newPassword, validate, nodeFor, localFor, recordFor}
+use Rattle.calls.specs.Calls.{start, placeFor, lengthOf, startFor}
+use Rattle.calls.specs.Numbers.{badSegment, number}
+use Rattle.calls.specs.Steps.{putCluster, about, withPassword, newBaseFor, newPlace, newStart}
+use Rattle.calls.specs.Steps.{clusterMade, clusterDeleted, segmentMade, segmentDeleted, segmentWritten}
+use Rattle.calls.specs.Steps.{passwordReplaced}
+use Rattle.calls.specs.Steps.{left, outcome, step}
 use Rattle.isolation.specs.Copies.{SoundCopy, Done, setApart, Outside, Held}
-use Rattle.isolation.specs.Statements.{start, StartSound, SoundKept, Touched, OnlyItsOwn, OthersAlone, OtherHeld}
-use Rattle.guard.proofs.MemoryLaws.{length-overwritten, overwritten-out}
-use Rattle.guard.proofs.CallLaws.{InRange}
+use Rattle.isolation.specs.Statements.{StartSound, SoundKept, Touched, OnlyItsOwn, OthersAlone, OtherHeld}
+use Rattle.calls.proofs.MemoryLaws.{length-overwritten, overwritten-out}
+use Rattle.calls.proofs.CallLaws.{InRange}
 use Rattle.isolation.proofs.AddressLaws.{in-place, place-fits, place-inside, place-outside, room-outside}
 use Rattle.isolation.proofs.AwayLaws.{named}
-use Rattle.guard.proofs.DoneLaws.{done-range, done-segment, done-active, new-base, write-long}
+use Rattle.calls.proofs.DoneLaws.{done-range, done-segment, done-active, new-base, write-long}
 
 abbrev pub tables : Copy → Tables
 tables c = tableAt (c .store)

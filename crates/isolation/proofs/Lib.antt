@@ -9,7 +9,6 @@ pub mod ReaderLaws
 pub mod UnusedLaws
 pub mod CheckLaws
 pub mod RunLaws
-pub mod CaseLaws
 pub mod WitnessLaws
 pub mod GivenLaws
 pub mod EffectLaws

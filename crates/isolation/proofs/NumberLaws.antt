@@ -17,15 +17,15 @@ use Rattle.store.specs.declared.Cluster.{Cluster}
 use Rattle.store.specs.declared.Store.{Store}
 use Rattle.store.specs.Records.{Tables, tableOf, tableAt}
 use Rattle.store.specs.Sound.{sound}
-use Rattle.guard.specs.Calls.{Copy, Call, call, Arguments, Kind, newCluster, deleteCluster, newSegment, deleteSegment}
-use Rattle.guard.specs.Calls.{read, write, weaken, reduce, newPassword, validate, opens, readMode, writeMode, needed}
-use Rattle.guard.specs.Calls.{handleOf, presented, anyOf, recordFor, recordNamed, primaryOf}
-use Rattle.guard.specs.Numbers.{unsound, noPlace, badField, gappedHandle, inUse, inactiveCluster, valid, violated}
-use Rattle.guard.specs.Numbers.{isOld, oldPassword, segmentPresent, segmentAbsent, short, fullNode}
-use Rattle.guard.specs.Numbers.{byTables, byRecords, rows, number}
+use Rattle.calls.specs.Calls.{Copy, Call, call, Arguments, Kind, newCluster, deleteCluster, newSegment, deleteSegment}
+use Rattle.calls.specs.Calls.{read, write, weaken, reduce, newPassword, validate, opens, readMode, writeMode, needed}
+use Rattle.calls.specs.Calls.{handleOf, presented, anyOf, recordFor, recordNamed, primaryOf}
+use Rattle.calls.specs.Numbers.{unsound, noPlace, badField, gappedHandle, inUse, inactiveCluster, valid, violated}
+use Rattle.calls.specs.Numbers.{isOld, oldPassword, segmentPresent, segmentAbsent, short, fullNode}
+use Rattle.calls.specs.Numbers.{byTables, byRecords, rows, number}
 use Rattle.isolation.specs.Copies.{SoundCopy, setApart, Alike, Shut}
-use Rattle.guard.proofs.FirstLaws.{Agree, first-agree}
-use Rattle.guard.proofs.CallLaws.{handle-range, mode-known, record-is, ungapped-is, violated-is}
+use Rattle.calls.proofs.FirstLaws.{Agree, first-agree}
+use Rattle.calls.proofs.CallLaws.{handle-range, mode-known, record-is, ungapped-is, violated-is}
 use Rattle.isolation.proofs.AwayLaws.{named}
 use Rattle.isolation.proofs.AwayLaws.{not-keyed}
 

@@ -13,13 +13,13 @@ use Rattle.handle.specs.Handles.{Name}
 use Rattle.store.specs.declared.Cluster.{Cluster}
 use Rattle.store.specs.declared.Store.{Store}
 use Rattle.store.specs.Records.{Table, tableOf, clusterAt, placeOf, putRecord}
-use Rattle.guard.specs.Calls.{Copy, Call, call, Arguments, Kind, newCluster, deleteCluster, newSegment, deleteSegment}
-use Rattle.guard.specs.Calls.{read, write, weaken, reduce, newPassword, validate, opens, readMode, writeMode, needed}
-use Rattle.guard.specs.Calls.{recordFor}
-use Rattle.guard.specs.Steps.{putCluster, about, withPassword, passwordReplaced, left, step, run}
+use Rattle.calls.specs.Calls.{Copy, Call, call, Arguments, Kind, newCluster, deleteCluster, newSegment, deleteSegment}
+use Rattle.calls.specs.Calls.{read, write, weaken, reduce, newPassword, validate, opens, readMode, writeMode, needed}
+use Rattle.calls.specs.Calls.{recordFor}
+use Rattle.calls.specs.Steps.{putCluster, about, withPassword, passwordReplaced, left, step, run}
 use Rattle.isolation.specs.Copies.{SoundCopy, Done, InPlace, setApart, Held, Unaltered, keyed, NoWriter}
 use Rattle.isolation.specs.Statements.{ReadersAlterNothing}
-use Rattle.guard.proofs.DoneLaws.{done-mode, new-away}
+use Rattle.calls.proofs.DoneLaws.{done-mode, new-away}
 use Rattle.isolation.proofs.AwayLaws.{away}
 use Rattle.isolation.proofs.EntryLaws.{put-cases}
 use Rattle.isolation.proofs.KeptLaws.{tables, left-held, by-number, step-sound}

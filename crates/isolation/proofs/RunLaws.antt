@@ -3,40 +3,22 @@
 -- Assumes nothing.
 use mathlib.Core.Path.{_≡_, refl, sym, ap, _∙_, subst}
 use Prim.Native.Nat.{ℕ}
-use mathlib.Core.Bool.{Bool, true, not, cond}
 use mathlib.Core.List.{List, [], _∷_}
 use lib.ListN.{length}
-use Rattle.loops.proofs.BelowLaws.{and-off}
-use Rattle.handle.specs.Handles.{Name, firstOf}
-use Rattle.store.specs.declared.Store.{Store}
-use Rattle.store.specs.Sound.{sound}
-use Rattle.guard.specs.Calls.{Copy, Call, among}
-use Rattle.guard.specs.Numbers.{unsound, rows, number}
-use Rattle.guard.specs.Steps.{Outcome, Ran, followed, outcome, step, run}
+use Rattle.handle.specs.Handles.{Name}
+use Rattle.calls.specs.Calls.{Copy, Call}
+use Rattle.calls.specs.Steps.{Outcome, Ran, followed, outcome, step, run}
 use Rattle.isolation.specs.Copies.{SoundCopy, Shut, AllShut}
-use Rattle.guard.proofs.FirstLaws.{Line, at}
+use Rattle.calls.proofs.StepLaws.{numberBelow, number-below}
 use Rattle.isolation.proofs.KeptLaws.{step-sound}
 
-abbrev below : List Line → List Line
-below [] = []
-below (l ∷ ls) = ls
-
 module _ (f : Name → List ℕ → ℕ → List ℕ) where
-  abbrev pub numberBelow : Call → Store → ℕ → ℕ
-  numberBelow x s size = firstOf (at x s (below (rows f size)))
-
-  pub number-below : (x : Call) (s : Store) (size : ℕ) → sound s size ≡ true → number f x s size ≡ numberBelow x s size
-  unfolding number unsound
-  number-below x s size e =
-      ap (λ (t : Bool). cond t 1 (numberBelow x s size))
-      (and-off (not (among (7 ∷ []) (x .kind))) (not (sound s size)) (ap not e))
-
   abbrev pub stepBelow : Call → Copy → Outcome
-  stepBelow x c = outcome f (numberBelow x (c .store) (length (c .memory))) x c
+  stepBelow x c = outcome f (numberBelow f x (c .store) (length (c .memory))) x c
 
   step-below : (x : Call) (c : Copy) → SoundCopy c → step f x c ≡ stepBelow x c
   unfolding step
-  step-below x c k = ap (λ (n : ℕ). outcome f n x c) (number-below x (c .store) (length (c .memory)) k)
+  step-below x c k = ap (λ (n : ℕ). outcome f n x c) (number-below f x (c .store) (length (c .memory)) k)
 
   abbrev pub runBelow : List Call → Copy → Ran
   runBelow [] c = record { replies = []; copy = c }

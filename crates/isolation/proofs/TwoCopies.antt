@@ -12,14 +12,14 @@ use Rattle.sizes.specs.Sizes.{nodes, clusters}
 use Rattle.handle.specs.Handles.{Name}
 use Rattle.store.specs.declared.Cluster.{Cluster}
 use Rattle.store.specs.Records.{Table, tableOf, placeOf}
-use Rattle.guard.specs.Calls.{Copy, Call, call, Arguments, Kind, newCluster, deleteCluster, newSegment, deleteSegment}
-use Rattle.guard.specs.Calls.{read, write, weaken, reduce, newPassword, validate, opens, buffer}
-use Rattle.guard.specs.Numbers.{number}
-use Rattle.guard.specs.Steps.{Reply, plain, left, outcome, step, run}
+use Rattle.calls.specs.Calls.{Copy, Call, call, Arguments, Kind, newCluster, deleteCluster, newSegment, deleteSegment}
+use Rattle.calls.specs.Calls.{read, write, weaken, reduce, newPassword, validate, opens, buffer}
+use Rattle.calls.specs.Numbers.{number}
+use Rattle.calls.specs.Steps.{Reply, plain, left, outcome, step, run}
 use Rattle.isolation.specs.Copies.{SoundCopy, Done, InPlace, setApart, Alike, Held, Shut, AllShut}
 use Rattle.isolation.specs.Statements.{TwoCopies}
 use Rattle.isolation.proofs.AddressLaws.{place-outside}
-use Rattle.guard.proofs.DoneLaws.{new-away}
+use Rattle.calls.proofs.DoneLaws.{new-away}
 use Rattle.isolation.proofs.AwayLaws.{shut-away}
 use Rattle.isolation.proofs.KeptLaws.{tables, facts, left-held, held-same, by-number, step-sound}
 use Rattle.isolation.proofs.NumberLaws.{same-number}

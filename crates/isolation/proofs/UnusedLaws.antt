@@ -6,13 +6,13 @@ use Prim.Native.Nat.{ℕ, zero, suc}
 use mathlib.Core.List.{List}
 use lib.ListN.{length}
 use Rattle.handle.specs.Handles.{Name}
-use Rattle.guard.specs.Calls.{Copy, Call, call, Arguments, Kind, newCluster, deleteCluster, newSegment, deleteSegment}
-use Rattle.guard.specs.Calls.{read, write, weaken, reduce, newPassword, validate, uses, buffer}
-use Rattle.guard.specs.Numbers.{unsound, noPlace, badMode, badSegment, badSize, badField, gappedHandle, elsewhere}
-use Rattle.guard.specs.Numbers.{inUse, twins, inactiveCluster, violated, notPrimary, notReferenced, oldPassword}
-use Rattle.guard.specs.Numbers.{segmentPresent, segmentAbsent, short, fullNode, spentHandle, number}
-use Rattle.guard.specs.Steps.{plain, clusterMade, clusterDeleted, segmentMade, segmentDeleted, segmentWritten}
-use Rattle.guard.specs.Steps.{passwordReplaced, left, segmentRead, given, outcome, step}
+use Rattle.calls.specs.Calls.{Copy, Call, call, Arguments, Kind, newCluster, deleteCluster, newSegment, deleteSegment}
+use Rattle.calls.specs.Calls.{read, write, weaken, reduce, newPassword, validate, uses, buffer}
+use Rattle.calls.specs.Numbers.{unsound, noPlace, badMode, badSegment, badSize, badField, gappedHandle, elsewhere}
+use Rattle.calls.specs.Numbers.{inUse, twins, inactiveCluster, violated, notPrimary, notReferenced, oldPassword}
+use Rattle.calls.specs.Numbers.{segmentPresent, segmentAbsent, short, fullNode, spentHandle, number}
+use Rattle.calls.specs.Steps.{plain, clusterMade, clusterDeleted, segmentMade, segmentDeleted, segmentWritten}
+use Rattle.calls.specs.Steps.{passwordReplaced, left, segmentRead, given, outcome, step}
 use Rattle.isolation.specs.Checks.{trimmed, UnusedIgnored}
 
 module _ (f : Name → List ℕ → ℕ → List ℕ) where

@@ -17,15 +17,16 @@ use Rattle.store.specs.Sound.{inRanges, endsInside, inside, soundSegment, apart
 use Rattle.store.specs.Sound.{sound}
 use Rattle.store.specs.Placement.{clear, fits, newBase, placement}
 use Rattle.store.proofs.ChangeLaws.{put-other}
-use Rattle.guard.specs.Numbers.{noPlace, badMode, badSegment, badSize, badField, gappedHandle, elsewhere}
-use Rattle.guard.specs.Numbers.{inUse, twins, inactiveCluster, valid, violated, notPrimary, notReferenced, oldPassword}
-use Rattle.guard.specs.Numbers.{segmentPresent, segmentAbsent, short, fullNode, spentHandle}
-use Rattle.guard.specs.Steps.{Ran, clusterMade, clusterDeleted, segmentMade, segmentDeleted, segmentWritten}
-use Rattle.guard.specs.Steps.{passwordReplaced, left, segmentRead, given, run}
+use Rattle.calls.specs.Numbers.{noPlace, badMode, badSegment, badSize, badField, gappedHandle, elsewhere}
+use Rattle.calls.specs.Numbers.{inUse, twins, inactiveCluster, valid, violated, notPrimary, notReferenced, oldPassword}
+use Rattle.calls.specs.Numbers.{segmentPresent, segmentAbsent, short, fullNode, spentHandle}
+use Rattle.calls.specs.Steps.{Ran, clusterMade, clusterDeleted, segmentMade, segmentDeleted, segmentWritten}
+use Rattle.calls.specs.Steps.{passwordReplaced, left, segmentRead, given, run}
 use Rattle.isolation.specs.Copies.{SoundCopy, Outside, Alike, keyed}
 use Rattle.isolation.specs.Statements.{Agreed}
 use Rattle.isolation.specs.Witness.{one, two, tries, answers, Witnessed, shown, Bites}
-use Rattle.isolation.proofs.RunLaws.{number-below, run-below, ShutBelow, shut-below}
+use Rattle.calls.proofs.StepLaws.{number-below}
+use Rattle.isolation.proofs.RunLaws.{run-below, ShutBelow, shut-below}
 use Rattle.isolation.proofs.TwoCopies.{two-copies}
 
 sound-one : SoundCopy one

@@ -37,11 +37,11 @@ use Rattle.handle.specs.Handles.{weakening}
 use Rattle.store.specs.declared.Store.{Store}
 use Rattle.store.specs.Records.{recordOf, clusterAt, tableAt}
 use Rattle.store.specs.Sound.{sound}
-use Rattle.guard.specs.Calls.{Copy, Call, call, Arguments, Kind, newCluster, deleteCluster, newSegment, deleteSegment}
-use Rattle.guard.specs.Calls.{read, write, weaken, reduce, newPassword, validate, Uses, uses, readMode, writeMode}
-use Rattle.guard.specs.Calls.{handleOf, buffer, recordNamed, primaryOf}
-use Rattle.guard.specs.Numbers.{valid, rows, number}
-use Rattle.guard.specs.Steps.{Reply, zeroHandle, plain, step}
+use Rattle.calls.specs.Calls.{Copy, Call, call, Arguments, Kind, newCluster, deleteCluster, newSegment, deleteSegment}
+use Rattle.calls.specs.Calls.{read, write, weaken, reduce, newPassword, validate, Uses, uses, readMode, writeMode}
+use Rattle.calls.specs.Calls.{handleOf, buffer, recordNamed, primaryOf}
+use Rattle.calls.specs.Numbers.{valid, rows, number}
+use Rattle.calls.specs.Steps.{Reply, zeroHandle, plain, step}
 
 -- ---- unused arguments
 

@@ -34,9 +34,9 @@ use Rattle.store.specs.declared.Place.the-variants.{Absent, Present}
 use Rattle.store.specs.declared.Store.{Store}
 use Rattle.store.specs.Records.{Tables, recordOf, clusterAt, tableAt, placeAt}
 use Rattle.store.specs.Sound.{sound}
-use Rattle.guard.specs.Calls.{Copy, Call, opens, readMode, writeMode, presented, anyOf, address}
-use Rattle.guard.specs.Numbers.{valid, number}
-use Rattle.guard.specs.Steps.{step}
+use Rattle.calls.specs.Calls.{Copy, Call, opens, readMode, writeMode, presented, anyOf, address}
+use Rattle.calls.specs.Numbers.{valid, number}
+use Rattle.calls.specs.Steps.{step}
 
 abbrev pub SoundCopy : Copy → Type 0
 SoundCopy c = sound (c .store) (length (c .memory)) ≡ true

@@ -38,11 +38,11 @@ use Rattle.store.specs.declared.Place.the-variants.{Absent}
 use Rattle.store.specs.declared.Cluster.{Cluster}
 use Rattle.store.specs.declared.Store.{Store}
 use Rattle.store.specs.Records.{inactive, tableOf, clusterAt, tableAt, segmentOf}
-use Rattle.guard.specs.Calls.{Copy, Call, call, Arguments, Kind, newCluster, deleteCluster, newSegment, deleteSegment}
-use Rattle.guard.specs.Calls.{read, write, weaken, reduce, newPassword, validate, readMode, writeMode}
-use Rattle.guard.specs.Calls.{handleOf, nodeFor, localFor, recordFor, placeFor, lengthOf, primaryOf}
-use Rattle.guard.specs.Numbers.{valid}
-use Rattle.guard.specs.Steps.{Outcome, step}
+use Rattle.calls.specs.Calls.{Copy, Call, call, Arguments, Kind, newCluster, deleteCluster, newSegment, deleteSegment}
+use Rattle.calls.specs.Calls.{read, write, weaken, reduce, newPassword, validate, readMode, writeMode}
+use Rattle.calls.specs.Calls.{handleOf, nodeFor, localFor, recordFor, placeFor, lengthOf, primaryOf}
+use Rattle.calls.specs.Numbers.{valid}
+use Rattle.calls.specs.Steps.{Outcome, step}
 use Rattle.isolation.specs.Copies.{SoundCopy, Done, SixteenBytes}
 
 pub record Shaped (s : Store) : Type 0 where

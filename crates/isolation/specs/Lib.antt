@@ -1,7 +1,5 @@
 pub mod Copies
 pub mod Statements
 pub mod Checks
-pub mod Cases
-pub mod Replies
 pub mod Witness
 pub mod Effects

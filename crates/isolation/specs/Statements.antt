@@ -1,5 +1,4 @@
 -- Condition 3 and what stands beside it, each as one statement about `step` and `run`, for every conversion f.
---     start                   the starting store with a memory of zeros
 --     StartSound              it is sound
 --     SoundKept               any list of calls leaves a sound copy sound
 --     Agreed xs a b           condition 3's conclusions, for the list xs on the copies a and b:
@@ -22,18 +21,15 @@ use mathlib.Core.Logic.{_≢_}
 use Prim.Native.Nat.{ℕ, _<_}
 use mathlib.Core.Bool.{true}
 use mathlib.Core.List.{List}
-use lib.ListN.{length, getD, replicate}
-use Rattle.sizes.specs.Sizes.{nodes, clusters, segments, memory}
+use lib.ListN.{length, getD}
+use Rattle.sizes.specs.Sizes.{nodes, clusters, segments}
 use Rattle.handle.specs.Handles.{Name}
-use Rattle.store.specs.Records.{Tables, startingStore, recordOf, clusterAt, tableAt, placeOn}
-use Rattle.guard.specs.Calls.{Copy, Call, Kind, newCluster, deleteCluster, newSegment, deleteSegment}
-use Rattle.guard.specs.Calls.{read, write, weaken, reduce, newPassword, validate, nodeFor, localFor, recordFor}
-use Rattle.guard.specs.Calls.{placeFor}
-use Rattle.guard.specs.Steps.{newPlace, step, run}
+use Rattle.store.specs.Records.{Tables, recordOf, clusterAt, tableAt, placeOn}
+use Rattle.calls.specs.Calls.{Copy, start, Call, Kind, newCluster, deleteCluster, newSegment, deleteSegment}
+use Rattle.calls.specs.Calls.{read, write, weaken, reduce, newPassword, validate, nodeFor, localFor, recordFor}
+use Rattle.calls.specs.Calls.{placeFor}
+use Rattle.calls.specs.Steps.{newPlace, step, run}
 use Rattle.isolation.specs.Copies.{SoundCopy, InPlace, setApart, Alike, Held, Unaltered, AllShut, NoWriter}
-
-abbrev pub start : Copy
-start = record { store = startingStore; memory = replicate memory 0 }
 
 abbrev pub StartSound : Type 0
 StartSound = SoundCopy start

@@ -19,11 +19,11 @@ use Rattle.handle.specs.Selectors.{flats}
 use Rattle.handle.specs.Handles.{Name}
 use Rattle.store.specs.declared.Place.the-variants.{Present}
 use Rattle.store.specs.Records.{startingStore, started, recordOf, tableAt, putRecord, withPlace}
-use Rattle.guard.specs.Calls.{Copy, Call}
-use Rattle.guard.specs.Numbers.{number}
-use Rattle.guard.specs.Steps.{Reply, zeroHandle, plain, handles, readReply, run}
+use Rattle.calls.specs.Calls.{Copy, Call}
+use Rattle.calls.specs.Numbers.{number}
+use Rattle.calls.specs.Steps.{Reply, zeroHandle, plain, handles, readReply, run}
 use Rattle.isolation.specs.Copies.{SoundCopy, setApart, Alike, AllShut}
-use Rattle.isolation.specs.Cases as C
+use Rattle.calls.specs.Cases as C
 
 abbrev holding : ℕ → ℕ → ℕ → Copy
 holding r w b =

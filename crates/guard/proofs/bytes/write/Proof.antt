@@ -3,7 +3,7 @@
 use Rattle.guard.proofs.BytesLaws.{write-refused, write-done}
 use Rattle.guard.proofs.BytesNumbers.{access-reaches}
 use borrow.Author.Needs.{needs}
-use Rattle.guard.specs.Calls.{writeMode}
+use Rattle.calls.specs.Calls.{writeMode}
 use Rattle.guard.proofs.bytes.write.Statement.{statement}
 use Rattle.guard.proofs.bytes.write.Tie as tie
 

@@ -1,0 +1,160 @@
+-- What a call done has shown: no row of the table applied to it. So its place exists, its fields are good, its cluster
+-- is active and its handle is not gapped and validates in the mode needed.
+-- Assumes nothing.
+use mathlib.Core.Path.{_≡_, refl, sym, ap, _∙_}
+use mathlib.Core.Logic.{_≢_, _⊎_}
+use Prim.Native.Nat.{ℕ, _≤_}
+use native.Mathlib.Omega.{arith}
+use mathlib.Core.Bool.{true, false, _||_, true≢false}
+use mathlib.Core.List.{List}
+use mathlib.Core.Option.{Option, none, some}
+use lib.Dec.{eqb}
+use lib.ListN.{length}
+use borrow.Author.Tests.{ltb-false, not-false}
+use Rattle.handle.specs.Selectors.{gapped}
+use Rattle.handle.specs.Handles.{Name, widthOf}
+use Rattle.store.specs.declared.Store.{Store}
+use Rattle.store.specs.Records.{tableAt}
+use Rattle.store.specs.Placement.{noRoomNumber, answered, newBase, placement}
+use Rattle.calls.specs.Calls.{Call, call, Arguments, newCluster, newSegment, write, opens, readMode, writeMode}
+use Rattle.calls.specs.Calls.{needed, handleOf, nodeFor, localFor, recordFor, recordNamed, placeFor, lengthOf}
+use Rattle.calls.specs.Numbers.{unsound, noPlace, badMode, badSegment, badSize, badField, gappedHandle, elsewhere}
+use Rattle.calls.specs.Numbers.{inUse, twins, inactiveCluster, valid, violated, notPrimary, notReferenced}
+use Rattle.calls.specs.Numbers.{oldPassword}
+use Rattle.calls.specs.Numbers.{segmentPresent, segmentAbsent, short, fullNode, spentHandle, rows, number}
+use Rattle.calls.specs.Steps.{newBaseFor}
+use Rattle.calls.specs.Clear.{NoRow, DoneIsClear}
+use Rattle.calls.proofs.FirstLaws.{at, Clear, first-clear, clear-first}
+use Rattle.calls.proofs.CallLaws.{or-left, or-right, InRange, in-range, mode-known}
+use Rattle.calls.proofs.CallLaws.{record-is, ungapped-is, inactive-is, violated-is}
+
+-- what placement tells, where it does not tell that there is no room
+placed : (o : Option ℕ) → eqb (answered o .number) noRoomNumber ≡ false → o ≡ some (answered o .base)
+placed none e = absurd (true≢false e)
+placed (some b) e = refl
+
+module _ (f : Name → List ℕ → ℕ → List ℕ) where
+  module _ (x : Call) (s : Store) (size : ℕ) where
+    from-clear : Clear (at x s (rows f size)) → NoRow f x s size
+    from-clear r =
+        record {
+          unsound = search;
+          noPlace = search;
+          badField = search;
+          gappedHandle = search;
+          elsewhere = search;
+          inUse = search;
+          twins = search;
+          inactiveCluster = search;
+          violated = search;
+          notPrimary = search;
+          notReferenced = search;
+          oldPassword = search;
+          segmentPresent = search;
+          segmentAbsent = search;
+          short = search;
+          fullNode = search;
+          spentHandle = search;
+        }
+
+    to-clear : NoRow f x s size → Clear (at x s (rows f size))
+    to-clear r = (
+      r .unsound,
+      (
+        r .noPlace,
+        (
+          r .badField,
+          (
+            r .gappedHandle,
+            (
+              r .elsewhere,
+              (
+                r .inUse,
+                (
+                  r .twins,
+                  (
+                    r .inactiveCluster,
+                    (
+                      r .violated,
+                      (
+                        r .notPrimary,
+                        (
+                          r .notReferenced,
+                          (
+                            r .oldPassword,
+                            (r .segmentPresent, (r .segmentAbsent, (r .short, (r .fullNode, (r .spentHandle, tt))))),
+                          ),
+                        ),
+                      ),
+                    ),
+                  ),
+                ),
+              ),
+            ),
+          ),
+        ),
+      ),
+    )
+
+    pub no-row : number f x s size ≡ 0 → NoRow f x s size
+    unfolding number
+    no-row e = from-clear (first-clear (at x s (rows f size)) (omega arith) e)
+
+    no-row-done : NoRow f x s size → number f x s size ≡ 0
+    unfolding number
+    no-row-done r = clear-first (at x s (rows f size)) (to-clear r)
+
+    pub done-is-clear : DoneIsClear f x s size
+    done-is-clear = record { clear = no-row; done = no-row-done }
+
+  module _ (x : Call) (s : Store) (size : ℕ) (e : number f x s size ≡ 0) where
+    abbrev r : NoRow f x s size
+    r = no-row x s size e
+
+    pub done-range : InRange (nodeFor x) (localFor x)
+    done-range = in-range x (r .noPlace)
+
+    pub done-mode : (needed x ≡ readMode) ⊎ (needed x ≡ writeMode)
+    done-mode = mode-known x (r .badField)
+
+    pub done-segment : badSegment x ≡ false
+    unfolding badField
+    done-segment = or-right (badMode x) (badSegment x) (or-left (badMode x || badSegment x) (badSize x) (r .badField))
+
+    module _ (o : opens (x .kind) ≡ true) where
+      pub done-even : gapped (widthOf (handleOf x)) (handleOf x .selector) ≡ false
+      done-even = ungapped-is x o (r .gappedHandle)
+
+      pub done-active : tableAt s (recordFor x) .active ≡ true
+      done-active =
+          ap (λ (n : ℕ). tableAt s n .active) (record-is x o)
+          ∙ not-false (tableAt s (recordNamed (handleOf x)) .active)
+          (sym (inactive-is x o (tableAt s)) ∙ r .inactiveCluster)
+
+      pub done-valid : valid f (needed x) (handleOf x) s ≡ true
+      done-valid = not-false (valid f (needed x) (handleOf x) s) (sym (violated-is x o f s) ∙ r .violated)
+
+  -- ---- by kind
+
+  module _ (g : Arguments) (s : Store) (size : ℕ) where
+    -- the cluster that a new cluster takes was inactive
+    pub new-away : number f (call newCluster g) s size ≡ 0 → (n : ℕ) → tableAt s n .active ≡ true
+        → recordFor (call newCluster g) ≢ n
+    unfolding inUse
+    new-away e n active q =
+        true≢false
+        (sym active ∙ ap (λ (k : ℕ). tableAt s k .active) (sym q) ∙ no-row (call newCluster g) s size e .inUse)
+
+    pub new-base : number f (call newSegment g) s size ≡ 0
+        → newBase (tableAt s) (nodeFor (call newSegment g)) (g .size) ≡ some (newBaseFor (call newSegment g) (tableAt s))
+    unfolding fullNode placement
+    new-base e =
+        placed (newBase (tableAt s) (nodeFor (call newSegment g)) (g .size))
+        (no-row (call newSegment g) s size e .fullNode)
+
+    pub write-long : number f (call write g) s size ≡ 0
+        → lengthOf (placeFor (call write g) (tableAt s)) ≤ length (g .bytes)
+    unfolding short
+    write-long e =
+        ltb-false (length (g .bytes)) (lengthOf (placeFor (call write g) (tableAt s)))
+        (no-row (call write g) s size e .short)

@@ -1,0 +1,56 @@
+-- Laws of the first row that applies. Rows need to agree on two stores only as far as they are looked at: each may use
+-- that those above it did not apply. Where the number is 0, none applies.
+-- Assumes nothing.
+use mathlib.Core.Path.{_≡_, refl, ap, _∙_}
+use Prim.Native.Nat.{_<_}
+use native.Mathlib.Omega.{arith}
+use mathlib.Core.Bool.{Bool, true, false, cond}
+use mathlib.Core.List.{List, [], _∷_, map}
+use Rattle.handle.specs.Handles.{Row, firstOf}
+use Rattle.store.specs.declared.Store.{Store}
+use Rattle.calls.specs.Calls.{Call}
+
+abbrev pub Line : Type 0
+Line = Call → Store → Row
+
+abbrev pub at : Call → Store → List Line → List Row
+at x s ls = map (λ (l : Line). l x s) ls
+
+module _ (x : Call) (a b : Store) where
+  abbrev pub Agree : List Line → Type 0
+  Agree [] = Unit {0}
+  Agree (l ∷ ls) = (l x a ≡ l x b) × (l x a .applies ≡ false → Agree ls)
+
+  pub first-agree : (ls : List Line) → Agree ls → firstOf (at x a ls) ≡ firstOf (at x b ls)
+  first-agree [] h = refl
+  first-agree (l ∷ ls) h =
+      ap (λ (r : Row). cond (r .applies) (r .number) (firstOf (at x a ls))) (h .0)
+      ∙ go (l x b .applies) refl (first-agree ls)
+    where
+      go : (t : Bool) → l x b .applies ≡ t → (Agree ls → firstOf (at x a ls) ≡ firstOf (at x b ls))
+          → cond t (l x b .number) (firstOf (at x a ls)) ≡ cond t (l x b .number) (firstOf (at x b ls))
+      go true e ih = refl
+      go false e ih = ih (h .1 (ap (λ (r : Row). r .applies) (h .0) ∙ e))
+
+-- every number is above 0
+abbrev pub Numbered : List Row → Type 0
+Numbered [] = Unit {0}
+Numbered (r ∷ rs) = (0 < r .number) × Numbered rs
+
+-- no row applies
+abbrev pub Clear : List Row → Type 0
+Clear [] = Unit {0}
+Clear (r ∷ rs) = (r .applies ≡ false) × Clear rs
+
+pub first-clear : (rs : List Row) → Numbered rs → firstOf rs ≡ 0 → Clear rs
+first-clear [] n e = tt
+first-clear (r ∷ rs) n e = go (r .applies) refl (first-clear rs (n .1)) e
+  where
+    go : (t : Bool) → r .applies ≡ t → (firstOf rs ≡ 0 → Clear rs) → cond t (r .number) (firstOf rs) ≡ 0
+        → Clear (r ∷ rs)
+    go true q ih z = let h : 0 < r .number = n .0 in absurd (omega arith)
+    go false q ih z = (q, ih z)
+
+pub clear-first : (rs : List Row) → Clear rs → firstOf rs ≡ 0
+clear-first [] c = refl
+clear-first (r ∷ rs) c = ap (λ (t : Bool). cond t (r .number) (firstOf rs)) (c .0) ∙ clear-first rs (c .1)

@@ -1,0 +1,53 @@
+-- A step by its number: a call refused, a call done. In a sound store the number is that of the rows below the first.
+-- Assumes nothing.
+use mathlib.Core.Path.{_≡_, refl, ap}
+use mathlib.Core.Bool.{Bool, true, not, cond}
+use mathlib.Core.List.{List, [], _∷_}
+use Prim.Native.Nat.{ℕ, zero, suc}
+use lib.ListN.{length}
+use Rattle.loops.proofs.BelowLaws.{and-off}
+use Rattle.handle.specs.Handles.{Name, firstOf}
+use Rattle.store.specs.declared.Store.{Store}
+use Rattle.store.specs.Sound.{sound}
+use Rattle.calls.specs.Calls.{Copy, Call, Arguments, call, reduce, validate, among, buffer}
+use Rattle.calls.specs.Numbers.{unsound, noPlace, badMode, badSegment, badSize, badField, gappedHandle, elsewhere}
+use Rattle.calls.specs.Numbers.{inUse, twins, inactiveCluster, valid, violated, notPrimary, notReferenced}
+use Rattle.calls.specs.Numbers.{oldPassword, segmentPresent, segmentAbsent, short, fullNode, spentHandle, rows}
+use Rattle.calls.specs.Numbers.{number}
+use Rattle.calls.specs.Steps.{plain, left, given, outcome, step}
+use Rattle.calls.proofs.FirstLaws.{Line, at}
+
+module _ (f : Name → List ℕ → ℕ → List ℕ) (x : Call) (c : Copy) where
+  pub step-refused : (n : ℕ) → number f x (c .store) (length (c .memory)) ≡ n → (n ≡ 0 → ⊥)
+      → step f x c ≡ record { copy = c; reply = plain n (buffer x) }
+  unfolding step
+  step-refused zero e h = absurd (h refl)
+  step-refused (suc n) e h = ap (λ (k : ℕ). outcome f k x c) e
+
+  pub step-done : number f x (c .store) (length (c .memory)) ≡ 0
+      → step f x c ≡ record { copy = left (x .kind) x c; reply = given f (x .kind) x c }
+  unfolding step
+  step-done e = ap (λ (k : ℕ). outcome f k x c) e
+
+-- validation's number is reduction's
+pub number-validate : (f : Name → List ℕ → ℕ → List ℕ) (g : Arguments) (s : Store) (size : ℕ)
+    → number f (call validate g) s size ≡ number f (call reduce g) s size
+unfolding number unsound noPlace badField badMode badSegment badSize gappedHandle elsewhere inUse twins inactiveCluster
+    valid violated notPrimary notReferenced oldPassword segmentPresent segmentAbsent short fullNode spentHandle
+number-validate f g s size = refl
+
+-- ---- in a sound store
+
+abbrev below : List Line → List Line
+below [] = []
+below (l ∷ ls) = ls
+
+module _ (f : Name → List ℕ → ℕ → List ℕ) where
+  abbrev pub numberBelow : Call → Store → ℕ → ℕ
+  numberBelow x s size = firstOf (at x s (below (rows f size)))
+
+  pub number-below : (x : Call) (s : Store) (size : ℕ) → sound s size ≡ true → number f x s size ≡ numberBelow x s size
+  unfolding number unsound
+  number-below x s size e =
+      ap (λ (t : Bool). cond t 1 (numberBelow x s size))
+      (and-off (not (among (7 ∷ []) (x .kind))) (not (sound s size)) (ap not e))

@@ -1,0 +1,198 @@
+-- Document 01, "The calls" and the first sentences of "Two copies": what a call carries and what it looks at.
+--     Copy                    the records of all clusters and the bytes of the slice
+--     start                   the starting store, with a memory of zeros
+--     Kind                    the nine calls and validation
+--     Arguments               what a call may carry: handles as 23 bytes, passwords as sixteen; `bytes` are a read's
+--                             buffer or a write's data
+--     Call, call              a kind and its arguments
+--     code                    the code by which the tables name a kind; validation has the numbers of call 8
+--     among cs k              the code of k is one of cs
+--     opens                   the kinds that open a cluster by a handle
+--     Uses, uses              which arguments a kind looks at; no other argument counts
+--     readMode, writeMode     the two modes
+--     needed                  the mode that the handle must validate in: the one named, else read for call 5, write for
+--                             the others
+--     handleOf, presented     the handle that the bytes hold; the handles that a call presents
+--     buffer                  the buffer or data that comes with a call
+--     nodeFor, localFor       the node and the local number of the cluster that a call is about: named by the call,
+--                             else by its handle
+--     recordFor, recordNamed  its record's number; that of the cluster that a handle names
+--     placeFor                the place of the segment that a call is about
+--     baseOf, lengthOf        of a place; zero where it is absent
+--     address                 where byte k of a node's memory stands in the slice: node 0 first
+--     startFor                where the segment that a call is about begins in the slice
+--     primaryOf c m           the primary password of a cluster for the mode m
+--     anyOf                   some handle of a list passes
+-- Assumes nothing.
+use Prim.Native.Nat.{ℕ, _+_, _*_}
+use mathlib.Core.Bool.{Bool, true, false, _||_}
+use mathlib.Core.List.{List, [], _∷_}
+use lib.Dec.{eqb}
+use lib.ListN.{replicate}
+use Rattle.sizes.specs.Sizes.{nodeMemory, memory}
+use Rattle.handle.specs.declared.Handle.{Handle}
+use Rattle.handle.specs.Handles.{nodeOf, decoded}
+use Rattle.store.specs.declared.Place.{Place}
+use Rattle.store.specs.declared.Place.the-variants.{Absent, Present}
+use Rattle.store.specs.declared.Cluster.{Cluster}
+use Rattle.store.specs.declared.Store.{Store}
+use Rattle.store.specs.Records.{Tables, startingStore, recordOf, placeAt}
+
+pub record Copy : Type 0 where
+  pub store : Store
+  pub memory : List ℕ
+
+abbrev pub start : Copy
+start = record { store = startingStore; memory = replicate memory 0 }
+
+-- ---- calls
+
+pub data Kind : Type 0 where
+  newCluster deleteCluster newSegment deleteSegment read write weaken reduce newPassword validate : Kind
+
+pub record Arguments : Type 0 where
+  pub current : ℕ
+  pub local : ℕ
+  pub mode : ℕ
+  pub segment : ℕ
+  pub size : ℕ
+  pub mask : ℕ
+  pub handle : List ℕ
+  pub first : List ℕ
+  pub second : List ℕ
+  pub bytes : List ℕ
+
+pub record Call : Type 0 where
+  pub kind : Kind
+  pub args : Arguments
+
+abbrev pub call : Kind → Arguments → Call
+call k g = record { kind = k; args = g }
+
+abbrev pub code : Kind → ℕ
+code newCluster = 1
+code deleteCluster = 2
+code newSegment = 3
+code deleteSegment = 4
+code read = 5
+code write = 6
+code weaken = 7
+code reduce = 8
+code newPassword = 9
+code validate = 8
+
+abbrev pub among : List ℕ → Kind → Bool
+among [] k = false
+among (c ∷ cs) k = eqb (code k) c || among cs k
+
+abbrev pub opens : Kind → Bool
+opens k = among (2 ∷ 3 ∷ 4 ∷ 5 ∷ 6 ∷ 8 ∷ 9 ∷ []) k
+
+-- ---- what a kind looks at
+
+pub record Uses : Type 0 where
+  pub current : Bool
+  pub local : Bool
+  pub mode : Bool
+  pub segment : Bool
+  pub size : Bool
+  pub mask : Bool
+  pub handle : Bool
+  pub first : Bool
+  pub second : Bool
+  pub bytes : Bool
+
+abbrev row : Bool → Bool → Bool → Bool → Bool → Bool → Bool → Bool → Bool → Bool → Uses
+row c l m s z k h p q b =
+    record {
+      current = c;
+      local = l;
+      mode = m;
+      segment = s;
+      size = z;
+      mask = k;
+      handle = h;
+      first = p;
+      second = q;
+      bytes = b;
+    }
+
+-- x where an argument is looked at, o where it is not
+abbrev x : Bool
+x = true
+
+abbrev o : Bool
+o = false
+
+-- the columns: current, local, mode, segment, size, mask, handle, first, second, bytes
+abbrev pub uses : Kind → Uses
+uses newCluster = row x x o o o o o x x o
+uses deleteCluster = row x o o o o o x o o o
+uses newSegment = row x o o x x o x o o o
+uses deleteSegment = row x o o x o o x o o o
+uses read = row o o o x o o x o o x
+uses write = row o o o x o o x o o x
+uses weaken = row o o o o o x x o o o
+uses reduce = row o o x o o o x o o o
+uses newPassword = row o o x o o o x x o o
+uses validate = row o o x o o o x o o o
+
+abbrev pub readMode : ℕ
+readMode = 1
+
+abbrev pub writeMode : ℕ
+writeMode = 2
+
+abbrev pub needed : Call → ℕ
+needed x =
+    elim (uses (x .kind) .mode) [
+      | true ↦ x .args .mode
+      | false ↦ elim (among (5 ∷ []) (x .kind)) [ true ↦ readMode | false ↦ writeMode ]
+    ]
+
+abbrev pub handleOf : Call → Handle
+handleOf x = decoded (x .args .handle)
+
+abbrev pub presented : Call → List Handle
+presented x = elim (uses (x .kind) .handle) [ true ↦ handleOf x ∷ [] | false ↦ [] ]
+
+abbrev pub anyOf : (Handle → Bool) → List Handle → Bool
+anyOf p [] = false
+anyOf p (h ∷ hs) = p h || anyOf p hs
+
+abbrev pub buffer : Call → List ℕ
+buffer x = elim (uses (x .kind) .bytes) [ true ↦ x .args .bytes | false ↦ [] ]
+
+-- ---- the cluster and the segment that it is about
+
+abbrev pub nodeFor : Call → ℕ
+nodeFor x = elim (uses (x .kind) .local) [ true ↦ x .args .current | false ↦ nodeOf (handleOf x) ]
+
+abbrev pub localFor : Call → ℕ
+localFor x = elim (uses (x .kind) .local) [ true ↦ x .args .local | false ↦ handleOf x .local ]
+
+abbrev pub recordFor : Call → ℕ
+recordFor x = recordOf (nodeFor x) (localFor x)
+
+abbrev pub recordNamed : Handle → ℕ
+recordNamed h = recordOf (nodeOf h) (h .local)
+
+abbrev pub placeFor : Call → Tables → Place
+placeFor x ts = placeAt ts (recordFor x) (x .args .segment)
+
+abbrev pub baseOf : Place → ℕ
+baseOf Absent = 0
+baseOf (Present base length) = base
+
+abbrev pub lengthOf : Place → ℕ
+lengthOf Absent = 0
+lengthOf (Present base length) = length
+
+abbrev pub address : ℕ → ℕ → ℕ
+address node k = node * nodeMemory + k
+
+abbrev pub startFor : Call → Tables → ℕ
+startFor x ts = address (nodeFor x) (baseOf (placeFor x ts))
+
+abbrev pub primaryOf : Cluster → ℕ → List ℕ
+primaryOf c mode = elim (eqb mode readMode) [ true ↦ c .read | false ↦ c .write ]

@@ -1,0 +1,92 @@
+-- Document 01, "Selector and placement examples": P1 to P14 as one list, for any conversion f, any passwords, and any
+-- mask where document 01 names none. The rows on selectors and on placement are those of the handle and the store
+-- crate; P6, P8 and P13 stand there as answers, and here once more as the numbers that whole calls get.
+--     Question            what is asked of a selector, of placement, or the number of a call on a store
+--     Answer              what is told
+--     Example, answer     a question and what is told; what the definitions answer
+--     arguments           a call's arguments: a handle, a mask and a size; the other fields are zero or empty
+--     shown ss            the bytes of the handle of node 0 and local number 2 with the selector ss, its password zero
+--     weakening m ss      call 7 with the mask m and a handle with the selector ss
+--     making n            call 3 for n bytes on node 0, with the write primary handle of local number 2
+--     examples            the list
+-- Assumes nothing.
+use Prim.Native.Nat.{ℕ}
+use mathlib.Core.List.{List, [], _∷_, _++_, map}
+use lib.ListN.{replicate}
+use Rattle.sizes.specs.Sizes.{segments, memory, passwordBytes}
+use Rattle.handle.specs.Selectors.{flats}
+use Rattle.handle.specs.Handles.{Name, encoded, gappedNumber, spentNumber}
+use Rattle.handle.specs.Examples as S
+use Rattle.store.specs.declared.Store.{Store}
+use Rattle.store.specs.Placement.{noRoomNumber, Answer as Placed}
+use Rattle.store.specs.Examples as P
+use Rattle.calls.specs.Calls.{Call, call, Arguments, newSegment, weaken}
+use Rattle.calls.specs.Numbers.{number}
+
+pub data Question : Type 0 where
+  selecting : S.Question → Question
+  placing : P.Example → Question
+  numbering : Call → Store → ℕ → Question
+
+pub data Answer : Type 0 where
+  selected : S.Answer → Answer
+  placed : Placed → Answer
+  refused : ℕ → Answer
+
+pub record Example : Type 0 where
+  pub asked : Question
+  pub told : Answer
+
+abbrev row : Question → Answer → Example
+row q a = record { asked = q; told = a }
+
+abbrev arguments : List ℕ → ℕ → ℕ → Arguments
+arguments h mask size =
+    record {
+      current = 0;
+      local = 0;
+      mode = 0;
+      segment = 0;
+      size = size;
+      mask = mask;
+      handle = h;
+      first = [];
+      second = [];
+      bytes = [];
+    }
+
+abbrev shown : List ℕ → List ℕ
+shown ss = encoded (record { node = 0; local = 2; password = replicate passwordBytes 0; selector = ss })
+
+abbrev pub weakening : ℕ → List ℕ → Call
+weakening mask ss = call weaken (arguments (shown ss) mask 0)
+
+abbrev pub making : ℕ → Call
+making size = call newSegment (arguments (shown (flats segments)) 0 size)
+
+module _ (f : Name → List ℕ → ℕ → List ℕ) (password first : List ℕ) (mask : ℕ) (s : Store) (size : ℕ) where
+  -- P1 to P9
+  abbrev selectors : List Example
+  selectors =
+      map (λ (e : S.Example). row (selecting (e .asked)) (selected (e .told)))
+      (S.examples (f (record { node = 0; local = 2 })) password first mask)
+
+  -- P10 to P14
+  abbrev places : List Example
+  places = map (λ (e : P.Example). row (placing e) (placed (e .answer))) P.examples
+
+  -- P6 and P8, whatever the store; P13
+  abbrev pub refusals : List Example
+  refusals =
+      row (numbering (weakening mask (0xff ∷ 0xfe ∷ 0xff ∷ 0xff ∷ [])) s size) (refused gappedNumber)
+      ∷ row (numbering (weakening 239 (0xfe ∷ 0xfd ∷ 0xfb ∷ 0xf7 ∷ [])) s size) (refused spentNumber)
+      ∷ row (numbering (making 3937) P.twoSegments memory) (refused noRoomNumber)
+      ∷ []
+
+  unfoldable pub examples : List Example
+  examples = selectors ++ places ++ refusals
+
+  unfoldable pub answer : Question → Answer
+  answer (selecting q) = selected (S.answer (f (record { node = 0; local = 2 })) password first mask q)
+  answer (placing e) = placed (P.told e)
+  answer (numbering x s size) = refused (number f x s size)

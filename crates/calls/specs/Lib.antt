@@ -1,0 +1,7 @@
+pub mod Calls
+pub mod Numbers
+pub mod Clear
+pub mod Steps
+pub mod Examples
+pub mod Cases
+pub mod Replies

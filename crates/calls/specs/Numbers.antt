@@ -1,0 +1,156 @@
+-- Document 01, "Numbers a call may be turned down with": the rows 1 to 17, a test for each, in the table's order.
+--     unsound              1, all but 7: the store is not sound
+--     noPlace              2: a node above 3 or a local number above 7, in a handle or in the call
+--     badField             3: badMode, not 1 or 2; badSegment, above 7; badSize, 0 or above 4,096
+--     gappedHandle         4: a handle's selector is gapped
+--     elsewhere            5, for 2, 3, 4: the current node is not the handle's
+--     inUse                6, for 1: the cluster is active
+--     twins                7, for 1: the two passwords are equal
+--     inactiveCluster      8, for 2 to 6, 8, 9: a handle's cluster is inactive
+--     violated             9, for 2 to 6, 8, 9: a handle does not validate in the mode needed
+--     notPrimary           10, for 2, 3, 4, 9: some subselector is not flat
+--     notReferenced        11, for 5, 6: the handle does not reference the segment
+--     oldPassword          12, for 9: the new password isOld: it equals either current primary password
+--     segmentPresent       13, for 3: the segment is present
+--     segmentAbsent        14, for 4, 5, 6: the segment is absent
+--     short                15, for 5, 6: the buffer or the data is shorter than the segment
+--     fullNode             16, for 3: no base exists
+--     spentHandle          17, for 7: something would be excluded and no subselector is flat
+-- A row is made from a test by what the test may see: the call alone, the call and the clusters' tables, or the whole
+-- records. None sees a byte of the memory.
+--     byCall n t, byTables n t, byRecords n t    the row with the number n and the test t, at a call and a store
+--     rows f size          the rows in the table's order, for a slice of that many bytes
+--     number f x s size    the number that the call x gets: that of the first row that applies, or 0
+-- Over a conversion f, which takes a cluster's name, a password and a parameter to a password:
+--     valid f m h s        the handle h validates in the mode m
+-- Assumes nothing.
+use Prim.Native.Nat.{ℕ}
+use mathlib.Core.Bool.{Bool, not, _&&_, _||_}
+use mathlib.Core.List.{List, [], _∷_, map}
+use lib.Dec.{eqb, leb, ltb}
+use lib.ListN.{length}
+use Rattle.sizes.specs.Sizes.{nodes, clusters, segments, nodeMemory}
+use Rattle.handle.specs.declared.Handle.{Handle}
+use Rattle.handle.specs.Selectors.{references, allFlat, gapped, spent}
+use Rattle.handle.specs.Handles.{Name, nameOf, widthOf, samePassword, noSuchPlace, Row, firstOf, validates}
+use Rattle.store.specs.declared.Cluster.{Cluster}
+use Rattle.store.specs.declared.Store.{Store}
+use Rattle.store.specs.Records.{Tables, clusterAt, tableAt}
+use Rattle.store.specs.Sound.{isAbsent, sound}
+use Rattle.store.specs.Placement.{noRoomNumber, placement}
+use Rattle.calls.specs.Calls.{Call, among, opens, uses, readMode, writeMode, needed}
+use Rattle.calls.specs.Calls.{handleOf, presented, anyOf, buffer, nodeFor, recordFor, recordNamed}
+use Rattle.calls.specs.Calls.{placeFor, lengthOf, primaryOf}
+
+-- ---- tests of the call alone
+
+unfoldable pub noPlace : Call → Bool
+noPlace x =
+    anyOf noSuchPlace (presented x)
+    || uses (x .kind) .current && leb nodes (x .args .current)
+    || uses (x .kind) .local && leb clusters (x .args .local)
+
+unfoldable pub badMode : Call → Bool
+badMode x = uses (x .kind) .mode && not (eqb (x .args .mode) readMode || eqb (x .args .mode) writeMode)
+
+unfoldable pub badSegment : Call → Bool
+badSegment x = uses (x .kind) .segment && leb segments (x .args .segment)
+
+unfoldable pub badSize : Call → Bool
+badSize x = uses (x .kind) .size && (eqb (x .args .size) 0 || ltb nodeMemory (x .args .size))
+
+unfoldable pub badField : Call → Bool
+badField x = badMode x || badSegment x || badSize x
+
+unfoldable pub gappedHandle : Call → Bool
+gappedHandle x = anyOf (λ h. gapped (widthOf h) (h .selector)) (presented x)
+
+unfoldable pub elsewhere : Call → Bool
+elsewhere x = among (2 ∷ 3 ∷ 4 ∷ []) (x .kind) && not (eqb (x .args .current) (nodeFor x))
+
+unfoldable pub twins : Call → Bool
+twins x = among (1 ∷ []) (x .kind) && samePassword (x .args .first) (x .args .second)
+
+unfoldable pub notPrimary : Call → Bool
+notPrimary x =
+    among (2 ∷ 3 ∷ 4 ∷ 9 ∷ []) (x .kind) && anyOf (λ h. not (allFlat (widthOf h) (h .selector))) (presented x)
+
+unfoldable pub notReferenced : Call → Bool
+notReferenced x = among (5 ∷ 6 ∷ []) (x .kind) && not (references (handleOf x .selector) (x .args .segment))
+
+unfoldable pub spentHandle : Call → Bool
+spentHandle x =
+    among (7 ∷ []) (x .kind) && spent (widthOf (handleOf x)) (x .args .mask) (handleOf x .selector)
+
+-- ---- tests of the call and the tables
+
+unfoldable pub inUse : Call → Tables → Bool
+inUse x ts = among (1 ∷ []) (x .kind) && ts (recordFor x) .active
+
+unfoldable pub inactiveCluster : Call → Tables → Bool
+inactiveCluster x ts = opens (x .kind) && anyOf (λ h. not (ts (recordNamed h) .active)) (presented x)
+
+unfoldable pub segmentPresent : Call → Tables → Bool
+segmentPresent x ts = among (3 ∷ []) (x .kind) && not (isAbsent (placeFor x ts))
+
+unfoldable pub segmentAbsent : Call → Tables → Bool
+segmentAbsent x ts = among (4 ∷ 5 ∷ 6 ∷ []) (x .kind) && isAbsent (placeFor x ts)
+
+unfoldable pub short : Call → Tables → Bool
+short x ts = among (5 ∷ 6 ∷ []) (x .kind) && ltb (length (buffer x)) (lengthOf (placeFor x ts))
+
+unfoldable pub fullNode : Call → Tables → Bool
+fullNode x ts = among (3 ∷ []) (x .kind) && eqb (placement ts (nodeFor x) (x .args .size) .number) noRoomNumber
+
+-- ---- tests of the records
+
+unfoldable pub unsound : ℕ → Call → Store → Bool
+unsound size x s = not (among (7 ∷ []) (x .kind)) && not (sound s size)
+
+abbrev pub isOld : List ℕ → Cluster → Bool
+isOld p c = samePassword p (c .read) || samePassword p (c .write)
+
+unfoldable pub oldPassword : Call → Store → Bool
+oldPassword x s = among (9 ∷ []) (x .kind) && isOld (x .args .first) (clusterAt s (recordFor x))
+
+-- ---- the table
+
+abbrev pub byCall : ℕ → (Call → Bool) → Call → Store → Row
+byCall n t x s = record { number = n; applies = t x }
+
+abbrev pub byTables : ℕ → (Call → Tables → Bool) → Call → Store → Row
+byTables n t x s = record { number = n; applies = t x (tableAt s) }
+
+abbrev pub byRecords : ℕ → (Call → Store → Bool) → Call → Store → Row
+byRecords n t x s = record { number = n; applies = t x s }
+
+module _ (f : Name → List ℕ → ℕ → List ℕ) where
+  unfoldable pub valid : ℕ → Handle → Store → Bool
+  valid mode h s = validates (widthOf h) (f (nameOf h)) (primaryOf (clusterAt s (recordNamed h)) mode) h
+
+  unfoldable pub violated : Call → Store → Bool
+  violated x s = opens (x .kind) && anyOf (λ h. not (valid (needed x) h s)) (presented x)
+
+  abbrev pub rows : ℕ → List (Call → Store → Row)
+  rows size =
+      byRecords 1 (unsound size)
+      ∷ byCall 2 noPlace
+      ∷ byCall 3 badField
+      ∷ byCall 4 gappedHandle
+      ∷ byCall 5 elsewhere
+      ∷ byTables 6 inUse
+      ∷ byCall 7 twins
+      ∷ byTables 8 inactiveCluster
+      ∷ byRecords 9 violated
+      ∷ byCall 10 notPrimary
+      ∷ byCall 11 notReferenced
+      ∷ byRecords 12 oldPassword
+      ∷ byTables 13 segmentPresent
+      ∷ byTables 14 segmentAbsent
+      ∷ byTables 15 short
+      ∷ byTables 16 fullNode
+      ∷ byCall 17 spentHandle
+      ∷ []
+
+  unfoldable pub number : Call → Store → ℕ → ℕ
+  number x s size = firstOf (map (λ (r : Call → Store → Row). r x s) (rows size))

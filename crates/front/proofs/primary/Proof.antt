@@ -1,0 +1,15 @@
+-- By the mode.
+-- Assumes nothing.
+use Rattle.front.proofs.FrontLaws.{primary-read, primary-write}
+use borrow.Author.Needs.{needs}
+use Rattle.front.proofs.primary.Statement.{statement}
+use Rattle.front.proofs.primary.Tie as tie
+
+returns : tie.Need-returns
+returns c = search (needs, primary-read)
+
+returns-2 : tie.Need-returns-2
+returns-2 c = search (needs, primary-write)
+
+pub primary-spec : {M : Type 1} → statement M
+primary-spec = tie.close (tie.spec returns returns-2)
