@@ -11,7 +11,6 @@ use native.Mathlib.Numerals.{add-one}
 use native.Mathlib.Omega.{arith}
 use borrow.Author.Tests.{eq-eqb, ne-eqb}
 use lib.Bits.{bitXor, xor-zero-r}
-use lib.Dec.{eqb}
 use lib.ListN.{length, getD, take, drop, replicate}
 use Rattle.loops.specs.Tabulate.{tabulate}
 use Rattle.loops.proofs.TabulateLaws.{tabulate-is, Filled}

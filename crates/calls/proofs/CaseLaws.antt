@@ -1,7 +1,7 @@
--- The computed lists. In a sound store the number is that of the rows below the first, and calls keep soundness: so
--- only these rows are computed for each call.
+-- The numbers of the table, computed. In a sound store the number is that of the rows below the first, so that soundness
+-- is computed once.
 -- Assumes nothing.
-use mathlib.Core.Path.{_≡_, refl, ap, _∙_}
+use mathlib.Core.Path.{_≡_, refl, _∙_}
 use Prim.Native.Nat.{ℕ, _-_}
 use mathlib.Core.Bool.{true}
 use mathlib.Core.List.{List, [], _∷_, map}
@@ -10,7 +10,7 @@ use Rattle.bits.specs.Bytes.{bytes, wordFrom, word}
 use Rattle.loops.specs.Below.{every}
 use Rattle.loops.specs.Search.{leastFrom, least}
 use Rattle.sizes.specs.Sizes.{memory}
-use Rattle.handle.specs.Handles.{encoded, decoded, samePassword, validates, weakened, reduced}
+use Rattle.handle.specs.Handles.{encoded, decoded, samePassword, validates}
 use Rattle.store.specs.Sound.{inRanges, endsInside, inside, soundSegment, apart, nodeApart, zeroBytes, idle, settled}
 use Rattle.store.specs.Sound.{sound}
 use Rattle.store.specs.Placement.{clear, fits, newBase, placement}
@@ -18,13 +18,8 @@ use Rattle.calls.specs.Calls.{Call}
 use Rattle.calls.specs.Numbers.{unsound, noPlace, badMode, badSegment, badSize, badField, gappedHandle, elsewhere}
 use Rattle.calls.specs.Numbers.{inUse, twins, inactiveCluster, valid, violated, notPrimary, notReferenced, oldPassword}
 use Rattle.calls.specs.Numbers.{segmentPresent, segmentAbsent, short, fullNode, spentHandle, number}
-use Rattle.calls.specs.Steps.{clusterMade, clusterDeleted, segmentMade, segmentDeleted, segmentWritten}
-use Rattle.calls.specs.Steps.{passwordReplaced, left, segmentRead, given, step}
 use Rattle.calls.specs.Cases.{added, sample, Case, damaged, refusals, orders, NumbersGiven}
-use Rattle.calls.specs.Replies.{doneCalls, seen, EachDone}
 use Rattle.calls.proofs.StepLaws.{numberBelow, number-below}
-
--- ---- the numbers
 
 sample-sound : sound sample memory ≡ true
 unfolding sound every soundSegment nodeApart settled idle zeroBytes apart inside inRanges endsInside
@@ -66,13 +61,3 @@ numbers-given =
       refusals = numbers-below refusals ∙ refusals-below;
       orders = numbers-below orders ∙ orders-below;
     }
-
--- ---- every kind done
-
-pub each-done : EachDone
-unfolding step number unsound sound soundSegment nodeApart settled idle zeroBytes left given clusterMade clusterDeleted segmentMade segmentDeleted segmentWritten passwordReplaced segmentRead
-    has setOf count bytes word wordFrom every least leastFrom encoded decoded samePassword validates weakened reduced
-    placement newBase fits clear apart inside inRanges endsInside
-    noPlace badMode badSegment badSize badField gappedHandle elsewhere inUse twins inactiveCluster
-    valid violated notPrimary notReferenced oldPassword segmentPresent segmentAbsent short fullNode spentHandle
-each-done = refl

@@ -9,12 +9,13 @@ use Rattle.loops.proofs.BelowLaws.{and-off}
 use Rattle.handle.specs.Handles.{Name, firstOf}
 use Rattle.store.specs.declared.Store.{Store}
 use Rattle.store.specs.Sound.{sound}
-use Rattle.calls.specs.Calls.{Copy, Call, Arguments, call, reduce, validate, among, buffer}
+use Rattle.calls.specs.Calls.{Copy, Call, Arguments, call, deleteCluster, deleteSegment, reduce, validate}
+use Rattle.calls.specs.Calls.{among, buffer}
 use Rattle.calls.specs.Numbers.{unsound, noPlace, badMode, badSegment, badSize, badField, gappedHandle, elsewhere}
 use Rattle.calls.specs.Numbers.{inUse, twins, inactiveCluster, valid, violated, notPrimary, notReferenced}
 use Rattle.calls.specs.Numbers.{oldPassword, segmentPresent, segmentAbsent, short, fullNode, spentHandle, rows}
 use Rattle.calls.specs.Numbers.{number}
-use Rattle.calls.specs.Steps.{plain, left, given, outcome, step}
+use Rattle.calls.specs.Steps.{plain, clusterDeleted, segmentDeleted, left, given, outcome, step}
 use Rattle.calls.proofs.FirstLaws.{Line, at}
 
 module _ (f : Name → List ℕ → ℕ → List ℕ) (x : Call) (c : Copy) where
@@ -28,6 +29,12 @@ module _ (f : Name → List ℕ → ℕ → List ℕ) (x : Call) (c : Copy) wher
       → step f x c ≡ record { copy = left (x .kind) x c; reply = given f (x .kind) x c }
   unfolding step
   step-done e = ap (λ (k : ℕ). outcome f k x c) e
+
+-- deleting leaves memory bytes alone
+pub deleting-keeps-bytes : (x : Call) (c : Copy)
+    → (left deleteCluster x c .memory ≡ c .memory) × (left deleteSegment x c .memory ≡ c .memory)
+unfolding left clusterDeleted segmentDeleted
+deleting-keeps-bytes x c = (refl, refl)
 
 -- validation's number is reduction's
 pub number-validate : (f : Name → List ℕ → ℕ → List ℕ) (g : Arguments) (s : Store) (size : ℕ)

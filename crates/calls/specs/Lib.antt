@@ -4,4 +4,3 @@ pub mod Clear
 pub mod Steps
 pub mod Examples
 pub mod Cases
-pub mod Replies

@@ -5,15 +5,15 @@
 -- Assumes nothing.
 use mathlib.Core.Path.{_≡_, refl, sym, ap, ap₂, _∙_, subst}
 use mathlib.Core.Bool.{true}
-use Prim.Native.Nat.{ℕ, zero, suc, _+_, _*_, _/_, _%_, _^_, _≤_, _<_}
-use native.Mathlib.Nat.{mul-add, add-mul, mul-assoc, mul-comm, zero-mul, mul-zero, mul-one}
-use native.Mathlib.Nat.{add-zero, zero-add, add-comm, pow-suc, mod-lt, mod-eq-of-lt, div-eq-of-lt}
-use native.Mathlib.Nat.{lt-of-lt-of-le, div-lt-iff-lt-mul}
+use Prim.Native.Nat.{ℕ, zero, suc, _+_, _*_, _/_, _%_, _^_, _<_}
+use native.Mathlib.Nat.{mul-add, mul-comm, zero-mul, mul-zero}
+use native.Mathlib.Nat.{zero-add, pow-suc, mod-lt, mod-eq-of-lt, div-eq-of-lt}
+use native.Mathlib.Nat.{div-lt-iff-lt-mul}
 use native.Mathlib.Numerals.{add-one}
 use native.Mathlib.Omega.{arith}
 use lib.Bits.{bitXor, xor-block, xor-self, xor-comm, xor-shifted}
 use lib.Dec.{eqb}
-use lib.Pow.{pow-pos, pow-mono, mod-pow-add}
+use lib.Pow.{pow-pos, mod-pow-add}
 use Rattle.bits.proofs.OperationLaws.{shl-top, shl-split}
 use Rattle.loops.specs.Below.{every}
 use Rattle.loops.proofs.BelowLaws.{every-equal}

@@ -1,12 +1,10 @@
 -- The shared refusals, return by return: each test that did not apply is one premise more for those below it.
 -- Assumes nothing.
 use mathlib.Core.Path.{_≡_, refl, sym, ap, _∙_}
-use mathlib.Core.Bool.{Bool, true, false, not, _||_, cond, false≢true}
+use mathlib.Core.Bool.{Bool, true, false, not, cond}
 use mathlib.Core.List.{List, map}
 use Prim.Native.Nat.{ℕ, _+_, _*_, _≤_, _<_}
-use native.Mathlib.Omega.{arith}
-use borrow.Author.Tests.{le-leb, lt-leb, eq-eqb, ne-eqb, leb-false}
-use lib.Dec.{leb}
+use borrow.Author.Tests.{le-leb, lt-leb, eq-eqb, ne-eqb}
 use lib.ListN.{length, length-map, List·getD-eq-default}
 use lib.Seq.{set-out}
 use Rattle.sizes.specs.Sizes.{nodes, clusters, segments}
@@ -116,43 +114,3 @@ module _ (sound : Bool) (h : Handle) (c : Cluster) (far field away : Bool) (mode
 
                   pub front-none : not v ≡ false → 0 ≡ first
                   front-none t = sym (last false false t8 (now ∙ t))
-
--- ---- no row applies
-
-pub record Passed (h : Handle) (far field away : Bool) : Type 0 where
-  pub node : h .node < nodes
-  pub local : h .local < clusters
-  pub near : far ≡ false
-  pub fields : field ≡ false
-  pub here : away ≡ false
-
-places : (h : Handle) (far : Bool) → leb nodes (h .node) || leb clusters (h .local) || far ≡ false
-    → (h .node < nodes) × (h .local < clusters) × (far ≡ false)
-places h far e = go (leb nodes (h .node)) refl (leb clusters (h .local)) refl far refl e
-  where
-    go : (a : Bool) → leb nodes (h .node) ≡ a → (b : Bool) → leb clusters (h .local) ≡ b → (c : Bool) → far ≡ c
-        → a || b || c ≡ false → (h .node < nodes) × (h .local < clusters) × (far ≡ false)
-    go false ea false eb false ec e = (leb-false nodes (h .node) ea, leb-false clusters (h .local) eb, ec)
-    go false ea false eb true ec e = absurd (false≢true (sym e))
-    go false ea true eb c ec e = absurd (false≢true (sym e))
-    go true ea b eb c ec e = absurd (false≢true (sym e))
-
-pub front-passed : (sound : Bool) (h : Handle) (c : Cluster) (far field away : Bool) (mode : ℕ)
-    → firstOf (frontRows sound h c far field away mode) ≡ 0 → Passed h far field away
-front-passed sound h c far field away mode =
-    go (not sound) (leb nodes (h .node) || leb clusters (h .local) || far) refl field refl
-    (gapped (widthOf h) (h .selector)) away refl
-  where
-    rest : ℕ
-    rest = cond (not (c .active)) 8 (cond (not (validates (widthOf h) conversion (primaryOf c mode) h)) 9 0)
-
-    go : (a b : Bool) → leb nodes (h .node) || leb clusters (h .local) || far ≡ b → (d : Bool) → field ≡ d → (g e : Bool)
-        → away ≡ e → cond a 1 (cond b 2 (cond d 3 (cond g 4 (cond e 5 rest)))) ≡ 0 → Passed h far field away
-    go true b eb d ed g e ee z = absurd (omega arith)
-    go false true eb d ed g e ee z = absurd (omega arith)
-    go false false eb true ed g e ee z = absurd (omega arith)
-    go false false eb false ed true e ee z = absurd (omega arith)
-    go false false eb false ed false true ee z = absurd (omega arith)
-    go false false eb false ed false false ee z =
-        let p = places h far eb in
-        record { node = p .0; local = p .1; near = p .2; fields = ed; here = ee }

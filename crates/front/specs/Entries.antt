@@ -10,18 +10,21 @@
 --     leftAlone s n          the records s, and the number n alone
 --     recordAt node local    the record of a cluster; the first where there is no such place
 --     row n t                the row with the number n, whose test gave t
---     frontRows ..           rows 1 to 5, 8 and 9, from their tests: the store is sound; the handle; the record of its
---                            cluster; whether some other place, some field, the current node is bad; the mode needed
+--     openRows ..            rows 3, 4, 5, 8 and 9, from their tests: the handle; the record of its cluster; whether some
+--                            field, the current node is bad; the mode needed
+--     frontRows ..           rows 1 and 2 before them: the store is sound; whether some other place is bad
+--     ownerRows ..           rows 1 to 5, 8, 9 and 10 of calls 2, 3 and 4, which name a current node and need the write
+--                            primary handle; whether some field is bad
 --     after n m              n, or m where n is 0
 -- Assumes nothing.
 use Prim.Native.Nat.{ℕ, zero, suc}
 use mathlib.Core.Bool.{Bool, not, _||_, cond}
-use mathlib.Core.List.{List, [], _∷_}
+use mathlib.Core.List.{List, [], _∷_, _++_}
 use lib.Dec.{leb, eqb}
 use Rattle.sizes.specs.Sizes.{nodes, clusters, segments}
 use Rattle.handle.specs.declared.Handle.{Handle}
-use Rattle.handle.specs.Selectors.{gapped}
-use Rattle.handle.specs.Handles.{widthOf, noSuchPlace, Row, encoded, validates}
+use Rattle.handle.specs.Selectors.{allFlat, gapped}
+use Rattle.handle.specs.Handles.{nodeOf, widthOf, noSuchPlace, Row, encoded, validates}
 use Rattle.handle.specs.Opens.{primaryHandle}
 use Rattle.handle.specs.Conversion.{conversion}
 use Rattle.store.specs.declared.Cluster.{Cluster}
@@ -85,16 +88,23 @@ recordAt node local = cond (leb nodes node || leb clusters local) 0 (recordOf no
 abbrev pub row : ℕ → Bool → Row
 row n t = record { number = n; applies = t }
 
-abbrev pub frontRows : Bool → Handle → Cluster → Bool → Bool → Bool → ℕ → List Row
-frontRows sound h c far field away mode =
-    row 1 (not sound)
-    ∷ row 2 (noSuchPlace h || far)
-    ∷ row 3 field
+abbrev pub openRows : Handle → Cluster → Bool → Bool → ℕ → List Row
+openRows h c field away mode =
+    row 3 field
     ∷ row 4 (gapped (widthOf h) (h .selector))
     ∷ row 5 away
     ∷ row 8 (not (c .active))
     ∷ row 9 (not (validates (widthOf h) conversion (primaryOf c mode) h))
     ∷ []
+
+abbrev pub frontRows : Bool → Handle → Cluster → Bool → Bool → Bool → ℕ → List Row
+frontRows sound h c far field away mode =
+    row 1 (not sound) ∷ row 2 (noSuchPlace h || far) ∷ openRows h c field away mode
+
+unfoldable pub ownerRows : Bool → Handle → Cluster → ℕ → Bool → List Row
+ownerRows sound h c current field =
+    frontRows sound h c (leb nodes current) field (not (eqb current (nodeOf h))) writeMode
+    ++ (row 10 (not (allFlat (widthOf h) (h .selector))) ∷ [])
 
 abbrev pub after : ℕ → ℕ → ℕ
 after zero m = m

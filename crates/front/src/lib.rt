@@ -15,7 +15,8 @@ ghost use Rattle.sizes.specs.Sizes.{records};
 ghost use Rattle.aes.specs.Tables.{IsTables};
 ghost use Rattle.handle.specs.Handles.{firstOf};
 ghost use Rattle.calls.specs.Calls.{primaryOf};
-ghost use Rattle.front.specs.Entries.{numberAlone, leftAlone, handlesAlone, primaryBytes, badModes, recordAt, frontRows};
+ghost use Rattle.front.specs.Entries.{numberAlone, leftAlone, handlesAlone, primaryBytes, badModes, recordAt};
+ghost use Rattle.front.specs.Entries.{frontRows, ownerRows};
 ghost use Rattle.calls.specs.Steps.{zeroHandle};
 ghost use Rattle.store.specs.Records.{tableOf, placeOf, withPlace};
 ghost use Rattle.store.specs.Sound.{isAbsent};
@@ -229,6 +230,31 @@ pub fn front(
     let password = primary(cluster, mode);
     if !handle.validates_with(tables, password) {
         return VIOLATED;
+    }
+    0
+}
+
+// The first of the refusals that calls 2, 3 and 4 share, or 0: those above for the write mode and a current node, and 10.
+pub fn owner(sound: bool, handle: Handle, cluster: Cluster, current: usize, field: bool) -> u8
+    ensures { λ r. ⌜ r ≡ firstOf (ownerRows sound handle cluster current field) ⌝ }
+{
+    let tables = aes::tables();
+    let node = handle.node as usize;
+    let number = front(
+        &tables,
+        sound,
+        handle,
+        cluster,
+        NODES <= current,
+        field,
+        current != node,
+        WRITE,
+    );
+    if number != 0 {
+        return number;
+    }
+    if !handle.primary() {
+        return NOT_PRIMARY;
     }
     0
 }

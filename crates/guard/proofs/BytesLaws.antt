@@ -22,7 +22,8 @@ use Rattle.calls.specs.Steps.{overwritten, aesStep, left, given, segmentRead, s
 use Rattle.front.specs.Entries.{copyOf, asked, ended, numberAlone, recordAt}
 use Rattle.guard.specs.Access.{accessed, lengthTold}
 use Rattle.calls.proofs.StepLaws.{step-refused, step-done}
-use Rattle.guard.proofs.BytesNumbers.{accessedAt, number-read, number-write, access-record, access-there}
+use Rattle.guard.proofs.NumberLaws.{number-read, number-write}
+use Rattle.guard.proofs.AccessLaws.{access-told, access-there}
 
 -- ---- where a place begins
 
@@ -46,27 +47,20 @@ module _ (s : Store) (m b d : List ℕ) (i : ℕ) (h : Handle) (eh : h ≡ decod
   abbrev writing : Call
   writing = call write (asked 0 0 0 i 0 0 b [] [] d)
 
-  -- from what the code looked up to what the definition looks at
-  looked : (mode : ℕ) → accessed sd h (clusterAt s at) p i (length d) mode
-      ≡ accessedAt s (sound s (length m)) (decoded b) (recordNamed (decoded b)) i (length d) mode
-  looked mode =
-      ap (λ (q : Place). accessed sd h (clusterAt s at) q i (length d) mode) ep
-      ∙ ap (λ (k : ℕ). accessedAt s sd h k i (length d) mode) ea
-      ∙ access-record s sd h i (length d) mode
-      ∙ ap₂ (λ (t : Bool) (g : Handle). accessedAt s t g (recordNamed g) i (length d) mode) es eh
-
   module _ (mode : ℕ) (en : n ≡ accessed sd h (clusterAt s at) p i (length d) mode) (z : n ≡ 0) where
     there : p ≡ placeOf (tableAt s (recordNamed (decoded b))) i
     there =
-        ep ∙ ap (λ (k : ℕ). placeOf (tableAt s k) i) (access-there s (length m) h at ea sd es i p ep (length d) mode n en z)
-        ∙ ap (λ (g : Handle). placeOf (tableAt s (recordNamed g)) i) eh
+        ep
+        ∙ ap (λ (k : ℕ). placeOf (tableAt s k) i)
+        (access-there s (length m) b h eh at ea sd es i p ep (length d) mode n en z)
 
     start : address (h .node) (baseOf p) ≡ address (decoded b .node) (baseOf (placeOf (tableAt s (recordNamed (decoded b))) i))
     start = ap₂ (λ (g : Handle) (q : Place). address (g .node) (baseOf q)) eh there
 
   module _ (en : n ≡ accessed sd h (clusterAt s at) p i (length d) readMode) where
     told-read : number (λ k. conversion) reading s (length m) ≡ n
-    told-read = number-read s (length m) b i d ∙ sym (en ∙ looked readMode)
+    told-read =
+        access-told s (length m) b h eh at ea sd es i p ep (length d) readMode _ (number-read s (length m) b i d) ∙ sym en
 
     pub read-refused : (n ≡ 0 → ⊥) → (a : Answer) → a ≡ numberAlone n → ended s m a d ≡ aesStep reading (copyOf s m)
     read-refused t a e =
@@ -84,7 +78,8 @@ module _ (s : Store) (m b d : List ℕ) (i : ℕ) (h : Handle) (eh : h ≡ decod
 
   module _ (en : n ≡ accessed sd h (clusterAt s at) p i (length d) writeMode) where
     told-write : number (λ k. conversion) writing s (length m) ≡ n
-    told-write = number-write s (length m) b i d ∙ sym (en ∙ looked writeMode)
+    told-write =
+        access-told s (length m) b h eh at ea sd es i p ep (length d) writeMode _ (number-write s (length m) b i d) ∙ sym en
 
     pub write-refused : (n ≡ 0 → ⊥) → (a : Answer) → a ≡ numberAlone n → ended s m a d ≡ aesStep writing (copyOf s m)
     write-refused t a e =

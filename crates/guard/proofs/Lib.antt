@@ -4,8 +4,7 @@ pub mod ChangeLaws
 pub mod PasswordLaws
 pub mod CreateLaws
 pub mod CopyLaws
-pub mod BytesNumbers
+pub mod AccessLaws
 pub mod BytesLaws
 pub mod ClearLaws
-pub mod JudgeLaws
 pub mod MakeLaws

@@ -2,13 +2,13 @@
 -- Assumes nothing.
 use mathlib.Core.Path.{_≡_, refl, sym, ap, ap₂, _∙_}
 use mathlib.Core.Bool.{Bool, true, false, not, _||_, cond}
-use mathlib.Core.List.{List, []}
+use mathlib.Core.List.{List, [], _∷_}
 use Prim.Native.Nat.{ℕ}
 use borrow.Author.Tests.{eq-eqb, ne-eqb}
 use lib.ListN.{length, set}
 use Rattle.handle.specs.declared.Handle.{Handle}
 use Rattle.handle.specs.Selectors.{allFlat}
-use Rattle.handle.specs.Handles.{widthOf, firstOf, decoded, samePassword}
+use Rattle.handle.specs.Handles.{widthOf, Row, firstOf, decoded, samePassword}
 use Rattle.handle.specs.Conversion.{conversion}
 use Rattle.store.specs.declared.Cluster.{Cluster}
 use Rattle.store.specs.declared.Store.{Store}
@@ -20,10 +20,11 @@ use Rattle.calls.specs.Calls.{Call, call, newPassword, readMode, recordNamed}
 use Rattle.calls.specs.Numbers.{isOld, number}
 use Rattle.calls.specs.Steps.{handles, zeroHandle, aesStep, left, given, withPassword, passwordReplaced}
 use Rattle.front.specs.Entries.{badModes, handlesAlone, primaryBytes, copyOf, asked, ended, leftAlone, recordAt}
-use Rattle.front.specs.Entries.{frontRows, after}
+use Rattle.front.specs.Entries.{row, frontRows, after}
 use Rattle.calls.proofs.StepLaws.{step-done}
+use Rattle.front.proofs.LookLaws.{after-front, front-told, front-passed}
 use Rattle.guard.proofs.NumberLaws.{number-new-password}
-use Rattle.guard.proofs.ChangeLaws.{endedWith, after-front, above, left-refused, front-told, front-there}
+use Rattle.guard.proofs.ChangeLaws.{endedWith, above, left-refused}
 
 -- ---- the record with a password replaced
 
@@ -55,36 +56,33 @@ module _ (s : Store) (m b pw : List ℕ) (mode : ℕ) (h : Handle) (eh : h ≡ d
   abbrev renewing : Call
   renewing = call newPassword (asked 0 0 mode 0 0 0 b pw [] [])
 
-  near : Handle → Bool
-  near g = false
-
   abbrev rows : Bool → Bool → ℕ
   rows p t = cond (not p) 10 (cond t 12 0)
 
+  own : Handle → Cluster → List Row
+  own g c = row 10 (not (allFlat (widthOf g) (g .selector))) ∷ row 12 (isOld pw c) ∷ []
+
   told : number (λ k. conversion) renewing s (length m)
-      ≡ after n (rows (allFlat (widthOf h) (h .selector)) (isOld pw (clusterAt s (recordNamed h))))
-  unfolding near
+      ≡ after n (rows (allFlat (widthOf h) (h .selector)) (isOld pw (clusterAt s at)))
+  unfolding own
   told =
-      number-new-password s (length m) b mode pw
-      ∙ ap (λ (d : Bool). after (firstOf (frontRows (sound s (length m)) (decoded b) (clusterAt s (recordNamed (decoded b))) false d false mode)) (rows (allFlat (widthOf (decoded b)) (decoded b .selector)) (isOld pw (clusterAt s (recordNamed (decoded b)))))) (sym eb)
-      ∙ sym
-      (ap₂ after (front-told s m b h eh at ea sd es false bad near mode n en)
-      (ap (λ (g : Handle). rows (allFlat (widthOf g) (g .selector)) (isOld pw (clusterAt s (recordNamed g)))) eh))
+      front-told s (length m) b h eh at ea sd es own n _ (badModes mode) mode known (number-new-password s (length m) b mode pw)
+    where
+      known : n ≡ firstOf (frontRows sd h (clusterAt s at) false (badModes mode) false mode)
+      known = en ∙ ap (λ (t : Bool). firstOf (frontRows sd h (clusterAt s at) false t false mode)) eb
 
   pub new-password-front : (n ≡ 0 → ⊥) → (r : Done) → r ≡ leftAlone s n → endedWith m r ≡ aesStep renewing (copyOf s m)
   new-password-front t r er = left-refused renewing s m refl n t (told ∙ after-front n _ t) r er
 
   module _ (z : n ≡ 0) (p : Bool) (ep : p ≡ allFlat (widthOf h) (h .selector)) where
     there : at ≡ recordNamed (decoded b)
-    unfolding near
-    there = front-there s m b h eh at ea sd es false bad near mode n en z
+    there = front-passed s (length m) b h eh at ea sd es own n 0 bad mode en z .there
 
     -- 10 and 12 are left
     last : number (λ k. conversion) renewing s (length m)
         ≡ rows p (samePassword pw (clusterAt s at .read) || samePassword pw (clusterAt s at .write))
     last =
-        told ∙ ap₂ (λ (k : ℕ) (q : Bool). after k (rows q (isOld pw (clusterAt s (recordNamed h))))) z (sym ep)
-        ∙ ap (λ (i : ℕ). rows p (isOld pw (clusterAt s i))) (ap recordNamed eh ∙ sym there)
+        told ∙ ap₂ (λ (k : ℕ) (q : Bool). after k (rows q (isOld pw (clusterAt s at)))) z (sym ep)
 
     pub new-password-primary : not p ≡ true → (r : Done) → r ≡ leftAlone s 10
         → endedWith m r ≡ aesStep renewing (copyOf s m)

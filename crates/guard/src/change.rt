@@ -4,11 +4,11 @@ use front::Done;
 use front::NOT_PRIMARY;
 use front::OLD_PASSWORD;
 use front::READ;
-use front::WRITE;
 use front::absent;
 use front::bad_mode;
 use front::front;
 use front::handle_alone;
+use front::owner;
 use front::place_of;
 use front::primary_handle;
 use front::record_at;
@@ -16,7 +16,6 @@ use front::unchanged;
 use front::with_place;
 use handle::Handle;
 use store::Cluster;
-use store::NODES;
 use store::Place;
 use store::SEGMENTS;
 use store::Store;
@@ -47,24 +46,10 @@ pub fn delete_cluster(store: Store, memory: &[u8], current: usize, bytes: [u8; 2
     let handle = Handle::decode(bytes);
     let at = record_at(handle.node, handle.local);
     let cluster = store.clusters[at];
-    let tables = aes::tables();
     let sound = store::sound(store, memory.len());
-    let node = handle.node as usize;
-    let number = front(
-        &tables,
-        sound,
-        handle,
-        cluster,
-        NODES <= current,
-        false,
-        current != node,
-        WRITE,
-    );
+    let number = owner(sound, handle, cluster, current, false);
     if number != 0 {
         return unchanged(store, number);
-    }
-    if !handle.primary() {
-        return unchanged(store, NOT_PRIMARY);
     }
     let mut next = store;
     next.clusters[at] = store::inactive_cluster();
@@ -85,24 +70,10 @@ pub fn delete_segment(
     let handle = Handle::decode(bytes);
     let at = record_at(handle.node, handle.local);
     let cluster = store.clusters[at];
-    let tables = aes::tables();
     let sound = store::sound(store, memory.len());
-    let node = handle.node as usize;
-    let number = front(
-        &tables,
-        sound,
-        handle,
-        cluster,
-        NODES <= current,
-        SEGMENTS <= segment,
-        current != node,
-        WRITE,
-    );
+    let number = owner(sound, handle, cluster, current, SEGMENTS <= segment);
     if number != 0 {
         return unchanged(store, number);
-    }
-    if !handle.primary() {
-        return unchanged(store, NOT_PRIMARY);
     }
     if absent(place_of(cluster, segment)) {
         return unchanged(store, ABSENT);

@@ -5,7 +5,6 @@ use front::IN_USE;
 use front::NO_SUCH_PLACE;
 use front::TWINS;
 use front::UNSOUND;
-use front::number_alone;
 use front::primary_handle;
 use front::unchanged;
 use handle::Handle;
@@ -19,7 +18,7 @@ ghost use Prim.Native.Nat.{ℕ};
 ghost use Rattle.store.specs.Records as records;
 ghost use Rattle.store.specs.declared.Store as declared;
 ghost use Rattle.calls.specs.Calls as calls;
-ghost use Rattle.calls.specs.Steps.{aesStep, zeroHandle};
+ghost use Rattle.calls.specs.Steps.{aesStep};
 ghost use Rattle.front.specs.Entries.{copyOf, asked, ended, handlesAlone};
 
 // The record of a new cluster.

@@ -1,11 +1,9 @@
 // The call that makes a segment: it changes a record, and clears the segment's part of the memory.
 use front::Done;
 use front::NO_ROOM;
-use front::NOT_PRIMARY;
 use front::PRESENT;
-use front::WRITE;
 use front::absent;
-use front::front;
+use front::owner;
 use front::place_of;
 use front::record_at;
 use front::unchanged;
@@ -14,7 +12,6 @@ use handle::Handle;
 use store::Cluster;
 use store::Found;
 use store::NODE_MEMORY;
-use store::NODES;
 use store::Place;
 use store::SEGMENTS;
 use store::Store;
@@ -24,7 +21,7 @@ ghost use lib.ListN.{length, replicate};
 ghost use Rattle.calls.specs.Calls as calls;
 ghost use Rattle.calls.specs.Steps.{aesStep};
 ghost use Rattle.front.specs.Entries.{copyOf, asked, ended};
-ghost use Rattle.guard.specs.Makes.{judged, CanMake, Made};
+ghost use Rattle.guard.specs.Makes.{CanMake, Made};
 
 // Sets every byte of the part to zero.
 fn clear(part: &mut [u8])
@@ -35,42 +32,6 @@ fn clear(part: &mut [u8])
         part[i] = 0;
         i += 1;
     }
-}
-
-// The first of the refusals 1 to 13 that applies, or 0: of a handle and the record of its cluster.
-fn judge(
-    sound: bool,
-    handle: Handle,
-    cluster: Cluster,
-    current: usize,
-    segment: usize,
-    size: usize,
-) -> u8
-    ensures { λ r. ⌜ r ≡ judged sound handle cluster current segment size ⌝ }
-{
-    let tables = aes::tables();
-    let node = handle.node as usize;
-    let field = (SEGMENTS <= segment) | ((size == 0) | (NODE_MEMORY < size));
-    let number = front(
-        &tables,
-        sound,
-        handle,
-        cluster,
-        NODES <= current,
-        field,
-        current != node,
-        WRITE,
-    );
-    if number != 0 {
-        return number;
-    }
-    if !handle.primary() {
-        return NOT_PRIMARY;
-    }
-    if !absent(place_of(cluster, segment)) {
-        return PRESENT;
-    }
-    0
 }
 
 // Clears the part of the memory that the new segment gets, and gives the record of its cluster with the segment at its
@@ -112,9 +73,13 @@ pub fn new_segment(
     let at = record_at(handle.node, handle.local);
     let cluster = store.clusters[at];
     let sound = store::sound(store, memory.len());
-    let number = judge(sound, handle, cluster, current, segment, size);
+    let field = (SEGMENTS <= segment) | ((size == 0) | (NODE_MEMORY < size));
+    let number = owner(sound, handle, cluster, current, field);
     if number != 0 {
         return unchanged(store, number);
+    }
+    if !absent(place_of(cluster, segment)) {
+        return unchanged(store, PRESENT);
     }
     let node = handle.node as usize;
     match store::new_base(store, node, size) {

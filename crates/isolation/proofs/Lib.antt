@@ -9,6 +9,7 @@ pub mod ReaderLaws
 pub mod UnusedLaws
 pub mod CheckLaws
 pub mod RunLaws
+pub mod ReplyLaws
 pub mod WitnessLaws
 pub mod GivenLaws
 pub mod EffectLaws

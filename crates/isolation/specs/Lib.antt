@@ -1,5 +1,6 @@
 pub mod Copies
 pub mod Statements
 pub mod Checks
+pub mod Replies
 pub mod Witness
 pub mod Effects

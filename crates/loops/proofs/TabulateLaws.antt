@@ -1,7 +1,7 @@
 -- Laws of lists given by a rule for each place, and of the loop that fills an array by one.
 -- Before turn i the first i elements are those of the rule; after n turns the array is `tabulate n f`.
 -- Assumes nothing.
-use mathlib.Core.Path.{_≡_, refl, sym, ap, ap₂, _∙_, subst}
+use mathlib.Core.Path.{_≡_, refl, sym, ap, _∙_, subst}
 use mathlib.Core.Logic.{_⊎_, inl, inr}
 use mathlib.Core.List.{List, [], _∷_, _++_}
 use Prim.Native.Nat.{ℕ, zero, suc, _+_, _≤_, _<_}

@@ -10,7 +10,7 @@ ghost use Prim.Native.Nat.{_<_};
 ghost use Rattle.loops.specs.Tabulate.{tabulate};
 ghost use Rattle.sizes.specs.Sizes.{records, segments};
 ghost use Rattle.store.specs.Sound as sound-spec;
-ghost use Rattle.measured.specs.Stores.{placeFrom, segmentFrom, clusterFrom, storeFrom};
+ghost use Rattle.measured.specs.Stores.{placeFrom, segmentFrom, storeFrom};
 ghost use Rattle.handle.specs.Handles.{decoded, encoded, validates, weakening};
 ghost use Rattle.handle.specs.Conversion.{conversion};
 

@@ -4,7 +4,7 @@ ghost use mathlib.Core.Path.{_≡_};
 ghost use Prim.Native.Nat.{_<_};
 ghost use lib.ListN.{length, replicate};
 ghost use Rattle.loops.specs.Below.{every};
-ghost use Rattle.sizes.specs.Sizes.{nodes, clusters, segments, nodeMemory};
+ghost use Rattle.sizes.specs.Sizes.{clusters, segments, nodeMemory};
 ghost use Rattle.store.specs.Records.{tableOf, placeOf};
 ghost use Rattle.store.specs.Sound as sound-spec;
 ghost use Rattle.store.specs.Passes as passes;

@@ -1,7 +1,7 @@
 -- Before turn i the first i bytes of the next round key are made.
 -- Assumes nothing.
 use mathlib.Core.Path.{_∙_}
-use Prim.Native.Nat.{ℕ, _-_, _≤_}
+use Prim.Native.Nat.{_-_, _≤_}
 use native.Mathlib.Omega.{arith}
 use borrow.Author.Needs.{needs}
 use Rattle.loops.proofs.TabulateLaws.{Filled, filled-more, filled-all}

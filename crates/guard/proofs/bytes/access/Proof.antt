@@ -1,6 +1,6 @@
 -- Each return is one row of the table, after the shared ones.
 -- Assumes nothing.
-use Rattle.guard.proofs.BytesNumbers.{access-front, access-segment, access-not-referenced, access-absent, access-short, access-none}
+use Rattle.guard.proofs.AccessLaws.{access-front, access-segment, access-not-referenced, access-absent, access-short, access-none}
 use borrow.Author.Needs.{needs}
 use Rattle.guard.proofs.bytes.access.Statement.{statement}
 use Rattle.guard.proofs.bytes.access.Tie as tie
