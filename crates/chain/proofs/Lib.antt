@@ -1,0 +1,5 @@
+pub mod WayLaws
+pub mod PigeonholeLaws
+pub mod MeansLaws
+pub mod RecordLaws
+pub mod WalkLaws
