@@ -1,0 +1,133 @@
+// The parts of a record of 64 bytes.
+ghost use mathlib.Core.Path.{_≡_};
+ghost use Prim.Native.Nat.{_+_, _*_};
+ghost use lib.ListN.{length};
+ghost use Rattle.sizes.specs.Sizes.{passwordBytes};
+ghost use Rattle.handle.specs.Sizes.{handleBytes};
+ghost use Rattle.list.specs.Records as records;
+
+// The bytes of a record.
+pub const RECORD: usize = 64;
+
+// The places of its parts.
+pub const CODE: usize = 1;
+
+pub const CURRENT: usize = 2;
+
+pub const MODE: usize = 3;
+
+pub const ENTRY: usize = 4;
+
+pub const DATA_LENGTH: usize = 5;
+
+pub const SIZE_HIGH: usize = 6;
+
+pub const SIZE_LOW: usize = 7;
+
+const HANDLE: usize = 8;
+
+const HANDLE_END: usize = 31;
+
+pub const FIRST: usize = 32;
+
+const SECOND: usize = 48;
+
+// The most bytes of data that a record holds.
+pub const MOST_DATA: usize = 32;
+
+// How many values a byte has.
+const BYTE: usize = 256;
+
+// A byte as a number of any size.
+pub fn wide(byte: u8) -> usize
+    ensures { λ r. ⌜ r ≡ byte ⌝ }
+{
+    byte as usize
+}
+
+// Two bytes, the high one first.
+pub fn pair(high: u8, low: u8) -> usize
+    ensures { λ r. ⌜ r ≡ high * 256 + low ⌝ }
+{
+    high as usize * BYTE + low as usize
+}
+
+// The sixteen bytes of a password.
+pub fn sixteen(part: &[u8]) -> [u8; 16]
+    requires { ⌜ length (now part) ≡ passwordBytes ⌝ }
+    ensures { λ r. ⌜ r ≡ now (part .entry) ⌝ }
+{
+    [
+        part[0],
+        part[1],
+        part[2],
+        part[3],
+        part[4],
+        part[5],
+        part[6],
+        part[7],
+        part[8],
+        part[9],
+        part[10],
+        part[11],
+        part[12],
+        part[13],
+        part[14],
+        part[15],
+    ]
+}
+
+// The 23 bytes of a handle.
+pub fn twenty_three(part: &[u8]) -> [u8; 23]
+    requires { ⌜ length (now part) ≡ handleBytes ⌝ }
+    ensures { λ r. ⌜ r ≡ now (part .entry) ⌝ }
+{
+    [
+        part[0],
+        part[1],
+        part[2],
+        part[3],
+        part[4],
+        part[5],
+        part[6],
+        part[7],
+        part[8],
+        part[9],
+        part[10],
+        part[11],
+        part[12],
+        part[13],
+        part[14],
+        part[15],
+        part[16],
+        part[17],
+        part[18],
+        part[19],
+        part[20],
+        part[21],
+        part[22],
+    ]
+}
+
+// The handle of a record.
+pub fn handle(record: &[u8]) -> [u8; 23]
+    requires { ⌜ length (now «record») ≡ records.recordBytes ⌝ }
+    ensures { λ r. ⌜ r ≡ records.part (now («record» .entry)) 8 handleBytes ⌝ }
+{
+    twenty_three(&record[HANDLE..HANDLE_END])
+}
+
+// The first password of a record, and the second.
+pub fn first(record: &[u8]) -> [u8; 16]
+    requires { ⌜ length (now «record») ≡ records.recordBytes ⌝ }
+    ensures { λ r. ⌜ r ≡ records.part (now («record» .entry)) 32 passwordBytes ⌝ }
+{
+    sixteen(&record[FIRST..SECOND])
+}
+
+pub fn second(record: &[u8]) -> [u8; 16]
+    requires { ⌜ length (now «record») ≡ records.recordBytes ⌝ }
+    ensures { λ r. ⌜ r ≡ records.part (now («record» .entry)) 48 passwordBytes ⌝ }
+{
+    sixteen(&record[SECOND..RECORD])
+}

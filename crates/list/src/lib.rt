@@ -1,0 +1,3 @@
+// The list of calls of document 01: its records, the check of its chain, and the text of a whole run.
+mod fields; // fields.rt: the parts of a record
+mod perform; // perform.rt: what the call of a record does

@@ -1,0 +1,174 @@
+// What the call of a record does.
+use crate::fields::CODE;
+use crate::fields::CURRENT;
+use crate::fields::DATA_LENGTH;
+use crate::fields::ENTRY;
+use crate::fields::FIRST;
+use crate::fields::MODE;
+use crate::fields::MOST_DATA;
+use crate::fields::SIZE_HIGH;
+use crate::fields::SIZE_LOW;
+use crate::fields::first;
+use crate::fields::handle;
+use crate::fields::pair;
+use crate::fields::second;
+use crate::fields::wide;
+use front::Done;
+use front::FIELD;
+use front::NO_SUCH_PLACE;
+use front::UNSOUND;
+use front::unchanged;
+use handle::Handle;
+use store::CLUSTERS;
+use store::NODES;
+use store::Store;
+ghost use mathlib.Core.Path.{_≡_};
+ghost use mathlib.Core.List.{List, []};
+ghost use mathlib.Core.Option.{some};
+ghost use Prim.Native.Nat.{ℕ};
+ghost use lib.ListN.{length};
+ghost use Rattle.handle.specs.Handles.{firstOf};
+ghost use Rattle.calls.specs.Calls as calls;
+ghost use Rattle.front.specs.Entries.{copyOf, asked};
+ghost use Rattle.list.specs.Records as records;
+ghost use Rattle.list.specs.Runs.{bench, ran, misfitRows, performedAs, performed};
+
+// The codes.
+const NEW_CLUSTER: u8 = 1;
+
+const DELETE_CLUSTER: u8 = 2;
+
+const NEW_SEGMENT: u8 = 3;
+
+const DELETE_SEGMENT: u8 = 4;
+
+const READ: u8 = 5;
+
+const WRITE: u8 = 6;
+
+const WEAKEN: u8 = 7;
+
+const REDUCE: u8 = 8;
+
+const NEW_PASSWORD: u8 = 9;
+
+// The number of a write whose data length is above 32: 1, 2, or else 3.
+fn misfit(store: Store, memory: &[u8], bytes: [u8; 23]) -> u8
+    ensures { λ r. ⌜ r ≡ firstOf (misfitRows (calls.call calls.Kind.write (asked 0 0 0 0 0 0 bytes [] [] [])) (copyOf store (now (memory .entry)))) ⌝ }
+{
+    let named = Handle::decode(bytes);
+    if !store::sound(store, memory.len()) {
+        return UNSOUND;
+    }
+    let node = named.node as usize;
+    if NODES <= node {
+        return NO_SUCH_PLACE;
+    }
+    let local = named.local as usize;
+    if CLUSTERS <= local {
+        return NO_SUCH_PLACE;
+    }
+    FIELD
+}
+
+// Calls 1 to 4; any other code is 3, and nothing else is looked at.
+fn perform_own(store: Store, memory: &mut [u8], record: &[u8]) -> Done
+    requires { ⌜ length (now «record») ≡ records.recordBytes ⌝ }
+    ensures { λ r. ⌜ ((b : List ℕ)
+        → ran r (now (memory .exit)) b ≡ performedAs (records.kindAmong records.ownCalls (records.codeOf (now («record» .entry)))) (now («record» .entry)) (bench store (now (memory .entry)) b)) ⌝ }
+{
+    let code = record[CODE];
+    if code == NEW_CLUSTER {
+        let read = first(record);
+        let write = second(record);
+        return guard::new_cluster(
+            store,
+            memory,
+            wide(record[CURRENT]),
+            wide(record[ENTRY]),
+            read,
+            write,
+        );
+    }
+    if code == DELETE_CLUSTER {
+        let bytes = handle(record);
+        return guard::delete_cluster(store, memory, wide(record[CURRENT]), bytes);
+    }
+    if code == NEW_SEGMENT {
+        let bytes = handle(record);
+        let size = pair(record[SIZE_HIGH], record[SIZE_LOW]);
+        return guard::new_segment(
+            store,
+            memory,
+            wide(record[CURRENT]),
+            wide(record[ENTRY]),
+            size,
+            bytes,
+        );
+    }
+    if code == DELETE_SEGMENT {
+        let bytes = handle(record);
+        return guard::delete_segment(
+            store,
+            memory,
+            wide(record[CURRENT]),
+            wide(record[ENTRY]),
+            bytes,
+        );
+    }
+    unchanged(store, FIELD)
+}
+
+// A write: its data stands in the record.
+fn perform_write(store: Store, memory: &mut [u8], record: &[u8]) -> Done
+    requires { ⌜ length (now «record») ≡ records.recordBytes ⌝ }
+    ensures { λ r. ⌜ ((b : List ℕ)
+        → ran r (now (memory .exit)) b ≡ performedAs (some calls.Kind.write) (now («record» .entry)) (bench store (now (memory .entry)) b)) ⌝ }
+{
+    let bytes = handle(record);
+    let size = wide(record[DATA_LENGTH]);
+    if MOST_DATA < size {
+        let number = misfit(store, memory, bytes);
+        return unchanged(store, number);
+    }
+    let answer = guard::write(
+        store,
+        memory,
+        wide(record[ENTRY]),
+        bytes,
+        &record[FIRST..FIRST + size],
+    );
+    Done { store, answer }
+}
+
+// The call of a record: calls 5 to 9 here, the others above.
+pub fn perform(store: Store, memory: &mut [u8], buffer: &mut [u8], record: &[u8]) -> Done
+    requires { ⌜ length (now «record») ≡ records.recordBytes ⌝ }
+    ensures { λ r. ⌜ ran r (now (memory .exit)) (now (buffer .exit)) ≡ performed (now («record» .entry)) (bench store (now (memory .entry)) (now (buffer .entry))) ⌝ }
+{
+    let code = record[CODE];
+    if code == READ {
+        let bytes = handle(record);
+        let answer = guard::read(store, memory, buffer, wide(record[ENTRY]), bytes);
+        return Done { store, answer };
+    }
+    if code == WRITE {
+        return perform_write(store, memory, record);
+    }
+    if code == WEAKEN {
+        let bytes = handle(record);
+        let answer = guard::weaken(bytes, record[ENTRY]);
+        return Done { store, answer };
+    }
+    if code == REDUCE {
+        let bytes = handle(record);
+        let answer = guard::reduce(store, memory, record[MODE], bytes);
+        return Done { store, answer };
+    }
+    if code == NEW_PASSWORD {
+        let bytes = handle(record);
+        let password = first(record);
+        return guard::new_password(store, memory, record[MODE], bytes, password);
+    }
+    perform_own(store, memory, record)
+}
