@@ -9,6 +9,7 @@
 //! - [`table`]: the numbers of refusal, their words, and the test behind each of them.
 //! - [`model`]: the nine calls and validation.
 //! - [`list`]: records of 64 bytes, the chain, and the text that a list comes out as.
+//! - [`vectors`]: the published handles.
 //! - [`random`]: numbers by chance from a seed.
 
 pub mod aes;
@@ -21,3 +22,4 @@ pub mod random;
 pub mod sizes;
 pub mod store;
 pub mod table;
+pub mod vectors;
