@@ -10,10 +10,11 @@
 //! - [`model`]: the nine calls and validation.
 //! - [`list`]: records of 64 bytes, the chain, and the text that a list comes out as.
 //! - [`vectors`]: the published handles.
-//! - [`random`]: numbers by chance from a seed.
+//! - [`random`], [`generate`]: lists made by chance from a seed.
 
 pub mod aes;
 pub mod call;
+pub mod generate;
 pub mod handle;
 pub mod hexadecimal;
 pub mod list;
