@@ -10,14 +10,14 @@ pub type Block = [u8; BLOCK_BYTES];
 
 const ROUNDS: usize = 10;
 const COLUMNS: usize = 4;
-const SCHEDULE_WORDS: usize = COLUMNS * (ROUNDS + 1);
 /// How many elements the field has besides zero; the powers of 3 run through all of them.
 const GROUP_ORDER: usize = 255;
 /// The field's polynomial without its leading term.
 const REDUCTION: u8 = 0x1b;
 const AFFINE_CONSTANT: u8 = 0x63;
 
-type State = [u32; COLUMNS];
+/// The state, or a round key.
+pub type State = [u32; COLUMNS];
 
 const SUBSTITUTION: [u8; 256] = substitution();
 const MIXED: [[u32; 256]; COLUMNS] = mixed();
@@ -98,20 +98,25 @@ fn bytes(state: &State) -> Block {
     std::array::from_fn(|at| state[at / 4].to_be_bytes()[at % 4])
 }
 
-/// The round keys, one after the other.
-pub fn expand_key(key: &Block) -> [u32; SCHEDULE_WORDS] {
-    let mut schedule = [0; SCHEDULE_WORDS];
-    schedule[..COLUMNS].copy_from_slice(&words(key));
+/// The round key that follows `key`.
+fn next_key(key: &State, round_constant: u8) -> State {
+    let mut next = *key;
+    next[0] ^= substitute_word(key[3].rotate_left(8)) ^ (u32::from(round_constant) << 24);
+    next[1] ^= next[0];
+    next[2] ^= next[1];
+    next[3] ^= next[2];
+    next
+}
+
+/// The round keys in order, the key itself first.
+pub fn expand_key(key: &Block) -> [State; ROUNDS + 1] {
+    let mut keys = [words(key); ROUNDS + 1];
     let mut round_constant = 1;
-    for at in COLUMNS..SCHEDULE_WORDS {
-        let mut word = schedule[at - 1];
-        if at % COLUMNS == 0 {
-            word = substitute_word(word.rotate_left(8)) ^ (u32::from(round_constant) << 24);
-            round_constant = double(round_constant);
-        }
-        schedule[at] = schedule[at - COLUMNS] ^ word;
+    for round in 1..=ROUNDS {
+        keys[round] = next_key(&keys[round - 1], round_constant);
+        round_constant = double(round_constant);
     }
-    schedule
+    keys
 }
 
 /// The byte that shifting the rows brings into row `row` of column `column`.
@@ -119,7 +124,7 @@ fn shifted(state: &State, column: usize, row: usize) -> usize {
     byte_of(state[(column + row) % COLUMNS], row)
 }
 
-fn round(state: &State, key: &[u32]) -> State {
+fn round(state: &State, key: &State) -> State {
     std::array::from_fn(|column| {
         MIXED[0][shifted(state, column, 0)]
             ^ MIXED[1][shifted(state, column, 1)]
@@ -130,7 +135,7 @@ fn round(state: &State, key: &[u32]) -> State {
 }
 
 /// The last round mixes no columns.
-fn last_round(state: &State, key: &[u32]) -> State {
+fn last_round(state: &State, key: &State) -> State {
     std::array::from_fn(|column| {
         let substituted = std::array::from_fn(|row| SUBSTITUTION[shifted(state, column, row)]);
         u32::from_be_bytes(substituted) ^ key[column]
@@ -139,15 +144,13 @@ fn last_round(state: &State, key: &[u32]) -> State {
 
 /// Encrypts `block` under `key`.
 pub fn encrypt(key: &Block, block: &Block) -> Block {
-    let schedule = expand_key(key);
-    let (first, others) = schedule.split_at(COLUMNS);
-    let (middle, last) = others.split_at(COLUMNS * (ROUNDS - 1));
+    let keys = expand_key(key);
     let plain = words(block);
-    let mut state = std::array::from_fn(|column| plain[column] ^ first[column]);
-    for key in middle.chunks_exact(COLUMNS) {
+    let mut state = std::array::from_fn(|column| plain[column] ^ keys[0][column]);
+    for key in &keys[1..ROUNDS] {
         state = round(&state, key);
     }
-    bytes(&last_round(&state, last))
+    bytes(&last_round(&state, &keys[ROUNDS]))
 }
 
 #[cfg(test)]
@@ -184,7 +187,7 @@ mod tests {
             0x7f8d292f, 0xac7766f3, 0x19fadc21, 0x28d12941, 0x575c006e, 0xd014f9a8, 0xc9ee2589,
             0xe13f0cc8, 0xb6630ca6,
         ];
-        assert_eq!(schedule, printed);
+        assert_eq!(schedule.as_flattened(), printed);
     }
 
     #[test]

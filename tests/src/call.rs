@@ -28,8 +28,9 @@ pub const CALLS: [(u8, &str); 9] = [
     (NEW_PASSWORD, "new password"),
 ];
 
-/// One call, or validation asked for by itself. Numbers are as the caller gave them, right or wrong;
-/// `node` is the current node. A read's buffer and a write's data are handed over beside the call.
+/// One call, or validation asked for by itself. Numbers are as the caller gave them, right or
+/// wrong; `node` is the current node. A read's buffer and a write's data are handed over beside
+/// the call.
 #[derive(Clone, Copy, Debug, PartialEq, Eq)]
 pub enum Call {
     NewCluster {

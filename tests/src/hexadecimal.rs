@@ -4,13 +4,12 @@ const DIGITS: &[u8; 16] = b"0123456789abcdef";
 
 /// Adds two digits for each byte to `text`.
 pub fn push(text: &mut Vec<u8>, bytes: &[u8]) {
-    text.reserve(2 * bytes.len());
-    text.extend(bytes.iter().flat_map(|&byte| {
-        [
-            DIGITS[usize::from(byte >> 4)],
-            DIGITS[usize::from(byte & 15)],
-        ]
-    }));
+    let start = text.len();
+    text.resize(start + 2 * bytes.len(), 0);
+    for (digits, byte) in text[start..].chunks_exact_mut(2).zip(bytes) {
+        digits[0] = DIGITS[usize::from(byte >> 4)];
+        digits[1] = DIGITS[usize::from(byte & 15)];
+    }
 }
 
 pub fn encode(bytes: &[u8]) -> String {

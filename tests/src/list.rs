@@ -51,53 +51,35 @@ fn handle_of(record: &Record) -> Handle {
     Handle::from_bytes(&bytes)
 }
 
-/// The call in a record; bytes that the call does not use are not looked at.
-pub fn request(record: &Record) -> Request {
+/// The call that a record's code stands for; bytes that it does not use are not looked at.
+fn call_of(record: &Record) -> Option<Call> {
     let handle = handle_of(record);
-    let node = u32::from(record[NODE_AT]);
-    let mode = u32::from(record[MODE_AT]);
-    let segment = u32::from(record[SEGMENT_AT]);
+    let [node, mode, segment] = [NODE_AT, MODE_AT, SEGMENT_AT].map(|at| u32::from(record[at]));
     let size = u32::from(u16::from_be_bytes([record[SIZE_AT], record[SIZE_AT + 1]]));
-    let first = password_at(record, FIRST_PASSWORD_AT);
-    let second = password_at(record, SECOND_PASSWORD_AT);
+    let [first, second] = [FIRST_PASSWORD_AT, SECOND_PASSWORD_AT].map(|at| password_at(record, at));
+    #[rustfmt::skip]
     let call = match record[CODE_AT] {
-        call::NEW_CLUSTER => Call::NewCluster {
-            node,
-            local: segment,
-            read: first,
-            write: second,
-        },
+        call::NEW_CLUSTER => Call::NewCluster { node, local: segment, read: first, write: second },
         call::DELETE_CLUSTER => Call::DeleteCluster { node, handle },
-        call::NEW_SEGMENT => Call::NewSegment {
-            node,
-            segment,
-            size,
-            handle,
-        },
-        call::DELETE_SEGMENT => Call::DeleteSegment {
-            node,
-            segment,
-            handle,
-        },
+        call::NEW_SEGMENT => Call::NewSegment { node, segment, size, handle },
+        call::DELETE_SEGMENT => Call::DeleteSegment { node, segment, handle },
         call::READ => Call::Read { segment, handle },
         call::WRITE => Call::Write { segment, handle },
-        call::WEAKEN => Call::Weaken {
-            mask: record[SEGMENT_AT],
-            handle,
-        },
+        call::WEAKEN => Call::Weaken { mask: record[SEGMENT_AT], handle },
         call::REDUCE => Call::Reduce { mode, handle },
-        call::NEW_PASSWORD => Call::NewPassword {
-            mode,
-            handle,
-            password: first,
-        },
-        _ => return Request::BadCode,
+        call::NEW_PASSWORD => Call::NewPassword { mode, handle, password: first },
+        _ => return None,
     };
+    Some(call)
+}
+
+/// Tells a call from what only looks like one.
+pub fn request(record: &Record) -> Request {
     let overlong = usize::from(record[DATA_LENGTH_AT]) > MOST_DATA_BYTES;
-    if overlong && matches!(call, Call::Write { .. }) {
-        Request::Overlong(call)
-    } else {
-        Request::Call(call)
+    match call_of(record) {
+        None => Request::BadCode,
+        Some(call @ Call::Write { .. }) if overlong => Request::Overlong(call),
+        Some(call) => Request::Call(call),
     }
 }
 

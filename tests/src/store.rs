@@ -83,6 +83,18 @@ impl Cluster {
         segments: [Segment::Absent; SEGMENTS],
     };
 
+    pub fn has_segments(&self) -> bool {
+        self.segments
+            .iter()
+            .any(|segment| *segment != Segment::Absent)
+    }
+
+    /// An inactive cluster keeps no passwords and no segments.
+    fn is_sound(&self) -> bool {
+        let zero = [0; PASSWORD_BYTES];
+        self.active || (self.read == zero && self.write == zero && !self.has_segments())
+    }
+
     pub fn primary(&self, mode: Mode) -> &Password {
         match mode {
             Mode::Read => &self.read,
@@ -98,37 +110,43 @@ impl Cluster {
     }
 }
 
-/// The present segments of one node in the order of their bases.
+/// The present segments of one node's active clusters in the order of their bases. Each is one
+/// word, its base above its length, so that sorting compares words.
 struct Extents {
-    list: [Extent; NODE_SEGMENTS],
+    list: [u32; NODE_SEGMENTS],
     count: usize,
 }
 
 impl Extents {
     fn of(clusters: &[Cluster; CLUSTERS]) -> Extents {
-        let mut extents = Extents {
-            list: [Extent::default(); NODE_SEGMENTS],
-            count: 0,
-        };
-        for segment in clusters.iter().flat_map(|cluster| &cluster.segments) {
-            if let Some(extent) = segment.extent() {
-                extents.list[extents.count] = extent;
-                extents.count += 1;
+        let mut list = [0; NODE_SEGMENTS];
+        let mut count = 0;
+        let active = clusters.iter().filter(|cluster| cluster.active);
+        for segment in active.flat_map(|cluster| &cluster.segments) {
+            if let Segment::Present { base, length } = *segment {
+                list[count] = u32::from(base) << 16 | u32::from(length);
+                count += 1;
             }
         }
-        extents.list[..extents.count].sort_unstable();
-        extents
+        list[..count].sort_unstable();
+        Extents { list, count }
     }
 
-    fn as_slice(&self) -> &[Extent] {
-        &self.list[..self.count]
+    fn iter(&self) -> impl Iterator<Item = Extent> + '_ {
+        self.list[..self.count].iter().map(|word| Extent {
+            base: (word >> 16) as usize,
+            length: (word & 0xffff) as usize,
+        })
     }
 
     /// Each inside the node, and each ended where the next begins: then no two share a byte.
     fn are_sound(&self) -> bool {
-        let extents = self.as_slice();
-        extents.iter().all(Extent::is_inside_a_node)
-            && extents.windows(2).all(|pair| pair[0].end() <= pair[1].base)
+        let mut free_from = 0;
+        self.iter().all(|extent| {
+            let sound = extent.is_inside_a_node() && free_from <= extent.base;
+            free_from = extent.end();
+            sound
+        })
     }
 }
 
@@ -157,7 +175,7 @@ impl Store {
     /// The smallest base at which `size` bytes are free in the node; asked of sound stores alone.
     pub fn place(&self, node: usize, size: usize) -> Option<usize> {
         let mut base = 0;
-        for extent in Extents::of(&self.clusters[node]).as_slice() {
+        for extent in Extents::of(&self.clusters[node]).iter() {
             if extent.base - base >= size {
                 return Some(base);
             }
@@ -168,8 +186,5 @@ impl Store {
 }
 
 fn node_is_sound(clusters: &[Cluster; CLUSTERS]) -> bool {
-    clusters
-        .iter()
-        .all(|cluster| cluster.active || *cluster == Cluster::INACTIVE)
-        && Extents::of(clusters).are_sound()
+    clusters.iter().all(Cluster::is_sound) && Extents::of(clusters).are_sound()
 }

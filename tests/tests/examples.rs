@@ -6,8 +6,8 @@ use std::collections::BTreeSet;
 use std::fs;
 use std::path::{Path, PathBuf};
 
-/// For each number, the calls that a list can bring to it. A list starts from a sound store and has a
-/// buffer that any segment fits in, so 1 is not among them, nor 15 for a read.
+/// For each number, the calls that a list can bring to it. A list starts from a sound store and has
+/// a buffer that any segment fits in, so 1 is not among them, nor 15 for a read.
 const REACHABLE: [(u8, &[u8]); 17] = [
     (0, &[1, 2, 3, 4, 5, 6, 7, 8, 9]),
     (2, &[1, 2, 3, 4, 5, 6, 7, 8, 9]),

@@ -1,4 +1,4 @@
-//! The texts of `examples/` make the lists that stand beside them, and the shown lines are as wanted.
+//! The texts of `examples/` make the lists beside them, and what is shown of them is as wanted.
 
 use std::fs;
 use std::path::{Path, PathBuf};

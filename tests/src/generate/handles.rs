@@ -3,7 +3,7 @@
 use crate::handle::{Handle, Selector, FLAT};
 use crate::random::Random;
 use crate::sizes::{CLUSTERS, NODES, SUBSELECTORS};
-use crate::store::{Cluster, Mode, Segment, Store};
+use crate::store::{Cluster, Mode, Store};
 
 /// What the call that a handle is made for would like.
 #[derive(Clone, Copy)]
@@ -32,16 +32,9 @@ pub fn is_inactive(cluster: &Cluster) -> bool {
     !cluster.active
 }
 
-fn has_segments(cluster: &Cluster) -> bool {
-    cluster
-        .segments
-        .iter()
-        .any(|segment| *segment != Segment::Absent)
-}
-
 /// An active cluster, mostly as it is wished for.
 fn active_place(random: &mut Random, store: &Store, wish: Wish) -> Option<(u16, u8)> {
-    let wished = |cluster: &Cluster| cluster.active && has_segments(cluster) == wish.segments;
+    let wished = |cluster: &Cluster| cluster.active && cluster.has_segments() == wish.segments;
     let chosen = match random.one_in(5) {
         true => None,
         false => place(random, store, wished),
