@@ -2,12 +2,9 @@
 
 use crate::call::{Call, Reply};
 use crate::handle::{Handle, Password};
-use crate::sizes::HANDLE_BYTES;
 use crate::store::{Cluster, Mode, Segment, Store};
 use crate::table::{refusal, Found, SPENT};
 use std::ops::Range;
-
-const _: () = assert!(HANDLE_BYTES == 23);
 
 /// Runs one call. `buffer` is a read's buffer or a write's data, and is not looked at otherwise.
 /// A refused call changes nothing.

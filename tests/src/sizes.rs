@@ -14,5 +14,5 @@ pub const MEMORY_BYTES: usize = NODES * NODE_BYTES;
 
 pub const PASSWORD_BYTES: usize = 16;
 pub const SUBSELECTORS: usize = 4;
-/// Node (2), local number (1), password, selector.
+/// Node (2), local number (1), password, selector: 23 together.
 pub const HANDLE_BYTES: usize = 3 + PASSWORD_BYTES + SUBSELECTORS;
