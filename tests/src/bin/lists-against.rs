@@ -1,0 +1,159 @@
+//! Runs a program on lists made by chance and compares what it prints with what the model prints.
+
+use model::call::CALLS;
+use model::generate;
+use model::list::run;
+use model::random::Random;
+use model::table::{word, LIST_LENGTH, LOOP, SPENT};
+use std::collections::BTreeMap;
+use std::ffi::{OsStr, OsString};
+use std::io::{self, Write};
+use std::path::PathBuf;
+use std::process::{Command, ExitCode, Stdio};
+
+const USAGE: &str = "usage: lists-against PROGRAM [SEED] [COUNT]";
+const BAD_USAGE: u8 = 2;
+const USUAL_SEED: u64 = 1;
+const USUAL_COUNT: u64 = 1000;
+
+struct Task {
+    program: OsString,
+    seed: u64,
+    count: u64,
+}
+
+/// How often each call came to each number, and each number that lists were refused with.
+#[derive(Default)]
+struct Tally {
+    calls: u64,
+    pairs: BTreeMap<(u8, u8), u64>,
+    refused: BTreeMap<u8, u64>,
+}
+
+fn task() -> Option<Task> {
+    let mut arguments = std::env::args_os().skip(1);
+    let program = arguments.next()?;
+    let mut number = |usual| match arguments.next() {
+        None => Some(usual),
+        Some(word) => word.to_str()?.parse().ok(),
+    };
+    let (seed, count) = (number(USUAL_SEED)?, number(USUAL_COUNT)?);
+    arguments.next().is_none().then_some(Task {
+        program,
+        seed,
+        count,
+    })
+}
+
+/// What the program prints with the list on its standard input.
+fn answer(program: &OsStr, list: &[u8]) -> io::Result<Vec<u8>> {
+    let mut child = Command::new(program)
+        .stdin(Stdio::piped())
+        .stdout(Stdio::piped())
+        .spawn()?;
+    let input = child.stdin.take();
+    std::thread::scope(|scope| {
+        // A program may stop reading a list that is too long; its output tells whether it should.
+        scope.spawn(move || input.map(|mut input| input.write_all(list)));
+        Ok(child.wait_with_output()?.stdout)
+    })
+}
+
+fn expected(list: &[u8], tally: &mut Tally) -> Vec<u8> {
+    let text = run(list, |code, reply| {
+        tally.calls += 1;
+        let code = if usize::from(code) <= CALLS.len() {
+            code
+        } else {
+            0
+        };
+        *tally.pairs.entry((code, reply.number)).or_default() += 1;
+    });
+    for number in LIST_LENGTH..=LOOP {
+        if text == format!("list {number}\n").as_bytes() {
+            *tally.refused.entry(number).or_default() += 1;
+        }
+    }
+    text
+}
+
+/// Keeps a list on which the two differ, and tells all about it.
+fn report(task: &Task, at: u64, list: &[u8], expected: &[u8], found: &[u8]) -> io::Result<()> {
+    let name = format!("lists-against-{}-{at}.list", task.seed);
+    let path: PathBuf = std::env::temp_dir().join(name);
+    std::fs::write(&path, list)?;
+    let lines = |text: &[u8]| String::from_utf8_lossy(text).into_owned();
+    println!(
+        "list {at} of seed {} differs; it is kept in {}",
+        task.seed,
+        path.display()
+    );
+    println!("the model prints\n{}", lines(expected));
+    println!("the program prints\n{}", lines(found));
+    Ok(())
+}
+
+/// True if the program printed the same as the model every time.
+fn compare(task: &Task, tally: &mut Tally) -> io::Result<bool> {
+    let mut seeds = Random::from_seed(task.seed);
+    for at in 1..=task.count {
+        let list = generate::list(&mut Random::from_seed(seeds.number()));
+        let expected = expected(&list, tally);
+        let found = answer(&task.program, &list)?;
+        if found != expected {
+            report(task, at, &list, &expected, &found)?;
+            return Ok(false);
+        }
+    }
+    Ok(true)
+}
+
+fn print_tally(tally: &Tally) {
+    let numbers: Vec<u8> = (0..=SPENT).collect();
+    let row = |name: &str, code: u8| {
+        let count = |number: &u8| tally.pairs.get(&(code, *number)).copied();
+        let cells = numbers.iter().map(|number| match count(number) {
+            Some(count) => format!("{count:>6}"),
+            None => format!("{:>6}", "."),
+        });
+        println!("{name:<15}{}", cells.collect::<String>());
+    };
+    let heads = numbers.iter().map(|number| format!("{number:>6}"));
+    println!("{:<15}{}", "call", heads.collect::<String>());
+    for (code, name) in CALLS {
+        row(name, code);
+    }
+    row("no call", 0);
+    for (number, count) in &tally.refused {
+        println!(
+            "lists refused with {number} ({}): {count}",
+            word(*number).unwrap_or("")
+        );
+    }
+}
+
+fn main() -> ExitCode {
+    let Some(task) = task() else {
+        eprintln!("{USAGE}");
+        return ExitCode::from(BAD_USAGE);
+    };
+    let mut tally = Tally::default();
+    match compare(&task, &mut tally) {
+        Ok(true) => {
+            println!(
+                "seed {}, {} lists, {} calls: no difference",
+                task.seed, task.count, tally.calls
+            );
+            print_tally(&tally);
+            ExitCode::SUCCESS
+        }
+        Ok(false) => ExitCode::FAILURE,
+        Err(mistake) => {
+            eprintln!(
+                "lists-against: {}: {mistake}",
+                task.program.to_string_lossy()
+            );
+            ExitCode::FAILURE
+        }
+    }
+}

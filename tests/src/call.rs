@@ -1,0 +1,195 @@
+//! What can be asked of the guard, with its arguments, and what it replies.
+
+use crate::handle::{Handle, HandleBytes, Password};
+use crate::sizes::HANDLE_BYTES;
+use crate::store::Mode;
+use crate::table::DONE;
+
+pub const NEW_CLUSTER: u8 = 1;
+pub const DELETE_CLUSTER: u8 = 2;
+pub const NEW_SEGMENT: u8 = 3;
+pub const DELETE_SEGMENT: u8 = 4;
+pub const READ: u8 = 5;
+pub const WRITE: u8 = 6;
+pub const WEAKEN: u8 = 7;
+pub const REDUCE: u8 = 8;
+pub const NEW_PASSWORD: u8 = 9;
+
+/// The codes with the calls' names, in order.
+pub const CALLS: [(u8, &str); 9] = [
+    (NEW_CLUSTER, "new cluster"),
+    (DELETE_CLUSTER, "delete cluster"),
+    (NEW_SEGMENT, "new segment"),
+    (DELETE_SEGMENT, "delete segment"),
+    (READ, "read"),
+    (WRITE, "write"),
+    (WEAKEN, "weaken"),
+    (REDUCE, "reduce"),
+    (NEW_PASSWORD, "new password"),
+];
+
+/// One call, or validation asked for by itself. Numbers are as the caller gave them, right or
+/// wrong; `node` is the current node. A read's buffer and a write's data are handed over beside
+/// the call.
+#[derive(Clone, Copy, Debug, PartialEq, Eq)]
+pub enum Call {
+    NewCluster {
+        node: u32,
+        local: u32,
+        read: Password,
+        write: Password,
+    },
+    DeleteCluster {
+        node: u32,
+        handle: Handle,
+    },
+    NewSegment {
+        node: u32,
+        segment: u32,
+        size: u32,
+        handle: Handle,
+    },
+    DeleteSegment {
+        node: u32,
+        segment: u32,
+        handle: Handle,
+    },
+    Read {
+        segment: u32,
+        handle: Handle,
+    },
+    Write {
+        segment: u32,
+        handle: Handle,
+    },
+    Weaken {
+        mask: u8,
+        handle: Handle,
+    },
+    Reduce {
+        mode: u32,
+        handle: Handle,
+    },
+    NewPassword {
+        mode: u32,
+        handle: Handle,
+        password: Password,
+    },
+    Validate {
+        mode: u32,
+        handle: Handle,
+    },
+}
+
+impl Call {
+    pub fn handle(&self) -> Option<&Handle> {
+        match self {
+            Call::NewCluster { .. } => None,
+            Call::DeleteCluster { handle, .. }
+            | Call::NewSegment { handle, .. }
+            | Call::DeleteSegment { handle, .. }
+            | Call::Read { handle, .. }
+            | Call::Write { handle, .. }
+            | Call::Weaken { handle, .. }
+            | Call::Reduce { handle, .. }
+            | Call::NewPassword { handle, .. }
+            | Call::Validate { handle, .. } => Some(handle),
+        }
+    }
+
+    pub fn current_node(&self) -> Option<u32> {
+        match *self {
+            Call::NewCluster { node, .. }
+            | Call::DeleteCluster { node, .. }
+            | Call::NewSegment { node, .. }
+            | Call::DeleteSegment { node, .. } => Some(node),
+            _ => None,
+        }
+    }
+
+    pub fn segment(&self) -> Option<u32> {
+        match *self {
+            Call::NewSegment { segment, .. }
+            | Call::DeleteSegment { segment, .. }
+            | Call::Read { segment, .. }
+            | Call::Write { segment, .. } => Some(segment),
+            _ => None,
+        }
+    }
+
+    /// The mode that the call names, as it was given.
+    pub fn named_mode(&self) -> Option<u32> {
+        match *self {
+            Call::Reduce { mode, .. }
+            | Call::NewPassword { mode, .. }
+            | Call::Validate { mode, .. } => Some(mode),
+            _ => None,
+        }
+    }
+
+    /// The mode in which the call's handle has to validate; none where nothing is validated.
+    pub fn needed_mode(&self) -> Option<Mode> {
+        match self {
+            Call::NewCluster { .. } | Call::Weaken { .. } => None,
+            Call::DeleteCluster { .. }
+            | Call::NewSegment { .. }
+            | Call::DeleteSegment { .. }
+            | Call::Write { .. } => Some(Mode::Write),
+            Call::Read { .. } => Some(Mode::Read),
+            Call::Reduce { mode, .. }
+            | Call::NewPassword { mode, .. }
+            | Call::Validate { mode, .. } => Mode::from_number(*mode),
+        }
+    }
+
+    pub fn needs_primary(&self) -> bool {
+        matches!(
+            self,
+            Call::DeleteCluster { .. }
+                | Call::NewSegment { .. }
+                | Call::DeleteSegment { .. }
+                | Call::NewPassword { .. }
+        )
+    }
+
+    /// Calls that move bytes between a segment and the buffer.
+    pub fn moves_bytes(&self) -> bool {
+        matches!(self, Call::Read { .. } | Call::Write { .. })
+    }
+}
+
+/// What a call gives back; fields that it does not give are zero.
+#[derive(Clone, Copy, Debug, PartialEq, Eq)]
+pub struct Reply {
+    pub number: u8,
+    pub first: HandleBytes,
+    pub second: HandleBytes,
+    pub count: u32,
+    pub length: u32,
+}
+
+impl Reply {
+    /// A call done that gives nothing.
+    pub const DONE: Reply = Reply::refused(DONE);
+
+    pub const fn refused(number: u8) -> Reply {
+        Reply {
+            number,
+            first: [0; HANDLE_BYTES],
+            second: [0; HANDLE_BYTES],
+            count: 0,
+            length: 0,
+        }
+    }
+
+    pub fn with_handle(handle: &Handle) -> Reply {
+        Reply {
+            first: handle.to_bytes(),
+            ..Reply::DONE
+        }
+    }
+
+    pub fn is_done(&self) -> bool {
+        self.number == DONE
+    }
+}

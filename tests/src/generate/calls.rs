@@ -1,0 +1,229 @@
+//! Records by chance, each made in knowledge of what those before it have left.
+
+use super::handles::{self, is_inactive, Wish};
+use crate::call::{self, Reply};
+use crate::handle::{Handle, Password};
+use crate::list::{
+    Record, Session, CODE_AT, DATA_AT, DATA_LENGTH_AT, FIRST_PASSWORD_AT, HANDLE_AT, MODE_AT,
+    MOST_DATA_BYTES, NODE_AT, RECORD_BYTES, SECOND_PASSWORD_AT, SEGMENT_AT, SIZE_AT,
+};
+use crate::random::Random;
+use crate::sizes::{CLUSTERS, HANDLE_BYTES, NODES, NODE_BYTES, PASSWORD_BYTES, SEGMENTS};
+use crate::store::{Mode, Segment};
+
+/// Few passwords, so that equal ones meet.
+const PASSWORDS: u64 = 5;
+/// Codes as often as they are wanted: what fills the store comes more often than what empties it.
+const CODES: [u8; 24] = [
+    1, 1, 1, 2, 3, 3, 3, 3, 3, 4, 5, 5, 5, 5, 6, 6, 6, 6, 7, 7, 8, 8, 9, 9,
+];
+
+pub struct Maker {
+    random: Random,
+    session: Session,
+    /// Every handle that a call gave, revoked ones too.
+    given: Vec<Handle>,
+}
+
+impl Maker {
+    pub fn new(random: &mut Random) -> Maker {
+        Maker {
+            random: Random::from_seed(random.number()),
+            session: Session::starting(),
+            given: Vec::new(),
+        }
+    }
+
+    /// The records of a chain, in its order.
+    pub fn records(mut self, count: usize) -> Vec<Record> {
+        (0..count).map(|_| self.record()).collect()
+    }
+
+    fn record(&mut self) -> Record {
+        let mut record = self.unused();
+        let code = self.code();
+        record[CODE_AT] = code;
+        match code {
+            call::NEW_CLUSTER => self.new_cluster(&mut record),
+            call::DELETE_CLUSTER | call::NEW_SEGMENT | call::DELETE_SEGMENT => {
+                self.local_call(&mut record);
+            }
+            call::READ => self.move_bytes(&mut record, Mode::Read),
+            call::WRITE => self.move_bytes(&mut record, Mode::Write),
+            call::WEAKEN => self.weaken(&mut record),
+            _ => self.call_with_mode(&mut record),
+        }
+        let reply = self.session.run(&record);
+        self.note(code, &reply);
+        record
+    }
+
+    fn code(&mut self) -> u8 {
+        let store = &self.session.store;
+        let empty = store.clusters.as_flattened().iter().all(is_inactive);
+        match self.random.below(40) {
+            0 => self.random.byte(),
+            1..=30 if empty => call::NEW_CLUSTER,
+            _ => *self.random.pick(&CODES).expect("there are codes"),
+        }
+    }
+
+    /// The bytes that no call is going to use: zeros or anything.
+    fn unused(&mut self) -> Record {
+        if self.random.one_in(2) {
+            [0; RECORD_BYTES]
+        } else {
+            self.random.bytes()
+        }
+    }
+
+    fn note(&mut self, code: u8, reply: &Reply) {
+        if reply.is_done() {
+            let count = match code {
+                call::NEW_CLUSTER => 2,
+                call::WEAKEN | call::REDUCE | call::NEW_PASSWORD => 1,
+                _ => 0,
+            };
+            let handles = [reply.first, reply.second];
+            self.given
+                .extend(handles[..count].iter().map(Handle::from_bytes));
+        }
+    }
+
+    fn password(&mut self) -> Password {
+        if self.random.one_in(3) {
+            self.random.bytes()
+        } else {
+            [self.random.below(PASSWORDS) as u8; PASSWORD_BYTES]
+        }
+    }
+
+    /// Mostly `likely`; else a number below `bound` or a little above, or any byte.
+    fn near(&mut self, likely: u8, bound: usize) -> u8 {
+        match self.random.below(24) {
+            0 => self.random.byte(),
+            1 | 2 => self.random.below(bound as u64 + 2) as u8,
+            _ => likely,
+        }
+    }
+
+    fn put_handle(&mut self, record: &mut Record, wish: Wish) -> Handle {
+        let store = &self.session.store;
+        let handle = handles::handle(&mut self.random, store, &self.given, wish);
+        record[HANDLE_AT..HANDLE_AT + HANDLE_BYTES].copy_from_slice(&handle.to_bytes());
+        handle
+    }
+
+    /// A segment of the handle's cluster that is present, or is not, if there is one.
+    fn segment(&mut self, handle: &Handle, present: bool) -> u8 {
+        let (node, local) = (usize::from(handle.node), usize::from(handle.local));
+        let cluster = self.session.store.cluster(node, local);
+        let referenced_only = !self.random.one_in(4);
+        let fits = |segment: &u8| {
+            let at = usize::from(*segment);
+            let is_present = cluster.is_some_and(|cluster| cluster.segments[at] != Segment::Absent);
+            is_present == present && (!referenced_only || handle.selector.references(at))
+        };
+        let fitting: Vec<u8> = (0..SEGMENTS as u8).filter(fits).collect();
+        let any = self.random.below(SEGMENTS as u64) as u8;
+        let likely = self.random.pick(&fitting).copied().unwrap_or(any);
+        self.near(likely, SEGMENTS)
+    }
+
+    fn new_cluster(&mut self, record: &mut Record) {
+        let place = handles::place(&mut self.random, &self.session.store, is_inactive);
+        let (node, local) = place.unwrap_or((0, 0));
+        record[NODE_AT] = self.near(node as u8, NODES);
+        record[SEGMENT_AT] = self.near(local, CLUSTERS);
+        let passwords = [self.password(), self.password()];
+        record[FIRST_PASSWORD_AT..].copy_from_slice(&passwords.concat());
+    }
+
+    /// Calls 2, 3 and 4.
+    fn local_call(&mut self, record: &mut Record) {
+        let wanted = record[CODE_AT] == call::DELETE_SEGMENT;
+        let wish = Wish {
+            mode: Mode::Write,
+            primary: true,
+            segments: wanted || self.random.one_in(2),
+        };
+        let handle = self.put_handle(record, wish);
+        record[NODE_AT] = self.near(handle.node as u8, NODES);
+        let present = wanted ^ self.random.one_in(10);
+        record[SEGMENT_AT] = self.segment(&handle, present);
+        let size = self.size();
+        record[SIZE_AT..SIZE_AT + 2].copy_from_slice(&size.to_be_bytes());
+    }
+
+    fn size(&mut self) -> u16 {
+        let most = NODE_BYTES as u64;
+        match self.random.below(16) {
+            0 => 0,
+            1 => self.random.number() as u16,
+            2 => (most - 1 + self.random.below(3)) as u16,
+            3..=5 => 1 + self.random.below(most) as u16,
+            6..=8 => 1 + self.random.below(400) as u16,
+            _ => 1 + self.random.below(MOST_DATA_BYTES as u64 + 2) as u16,
+        }
+    }
+
+    /// Calls 5 and 6.
+    fn move_bytes(&mut self, record: &mut Record, mode: Mode) {
+        let wish = Wish {
+            mode,
+            primary: false,
+            segments: true,
+        };
+        let handle = self.put_handle(record, wish);
+        let present = !self.random.one_in(8);
+        record[SEGMENT_AT] = self.segment(&handle, present);
+        if mode == Mode::Write {
+            let data: [u8; MOST_DATA_BYTES] = self.random.bytes();
+            record[DATA_AT..].copy_from_slice(&data);
+            record[DATA_LENGTH_AT] = match self.random.below(4) {
+                0 => self.random.below(MOST_DATA_BYTES as u64 + 4) as u8,
+                _ => self.near(MOST_DATA_BYTES as u8, MOST_DATA_BYTES),
+            };
+        }
+    }
+
+    fn weaken(&mut self, record: &mut Record) {
+        let mode = self.mode();
+        let wish = Wish {
+            mode,
+            primary: false,
+            segments: true,
+        };
+        self.put_handle(record, wish);
+        record[SEGMENT_AT] = match self.random.below(4) {
+            0 => self.random.byte(),
+            1 => !(1 << self.random.below(8)),
+            _ => self.random.byte() | self.random.byte(),
+        };
+    }
+
+    fn mode(&mut self) -> Mode {
+        if self.random.one_in(2) {
+            Mode::Read
+        } else {
+            Mode::Write
+        }
+    }
+
+    /// Calls 8 and 9, and codes that belong to no call.
+    fn call_with_mode(&mut self, record: &mut Record) {
+        let mode = self.mode();
+        let primary = record[CODE_AT] == call::NEW_PASSWORD;
+        let segments = self.random.one_in(2);
+        let wish = Wish {
+            mode,
+            primary,
+            segments,
+        };
+        self.put_handle(record, wish);
+        let number = if mode == Mode::Read { 1 } else { 2 };
+        record[MODE_AT] = self.near(number, 2);
+        let password = self.password();
+        record[FIRST_PASSWORD_AT..SECOND_PASSWORD_AT].copy_from_slice(&password);
+    }
+}

@@ -1,0 +1,27 @@
+//! A second guard, written from the documents alone and in another language than the proved one.
+//!
+//! It shares no line with the proved guard, so whatever both of them answer to the same list was
+//! understood the same way twice. Nothing here is proved.
+//!
+//! - [`aes`]: AES-128 of FIPS 197 by tables of words.
+//! - [`handle`]: selectors, the 23 bytes, conversion, weakening, reduction.
+//! - [`store`]: records, soundness, placement.
+//! - [`table`]: the numbers of refusal, their words, and the test behind each of them.
+//! - [`call`]: the nine calls and validation with their arguments, and replies.
+//! - [`model`]: the calls carried out.
+//! - [`list`]: records of 64 bytes, the chain, and the text that a list comes out as.
+//! - [`vectors`]: the published handles.
+//! - [`random`], [`generate`]: lists made by chance from a seed.
+
+pub mod aes;
+pub mod call;
+pub mod generate;
+pub mod handle;
+pub mod hexadecimal;
+pub mod list;
+pub mod model;
+pub mod random;
+pub mod sizes;
+pub mod store;
+pub mod table;
+pub mod vectors;

@@ -1,0 +1,236 @@
+//! Lists of calls: records of 64 bytes, the chain through them, and the text that comes out.
+
+use crate::call::{self, Call, Reply};
+use crate::handle::{Handle, Password};
+use crate::hexadecimal;
+use crate::model;
+use crate::sizes::{HANDLE_BYTES, MEMORY_BYTES, NODE_BYTES, PASSWORD_BYTES};
+use crate::store::Store;
+use crate::table::{refusal_above, Found, FIELD, LINK, LIST_LENGTH, LOOP};
+
+pub const RECORD_BYTES: usize = 64;
+pub const MOST_RECORDS: usize = 255;
+pub const MOST_LIST_BYTES: usize = RECORD_BYTES * MOST_RECORDS;
+/// The most bytes that a record's write can carry.
+pub const MOST_DATA_BYTES: usize = 32;
+
+pub const NEXT_AT: usize = 0;
+pub const CODE_AT: usize = 1;
+pub const NODE_AT: usize = 2;
+pub const MODE_AT: usize = 3;
+/// Segment, mask, or the local number of a new cluster.
+pub const SEGMENT_AT: usize = 4;
+pub const DATA_LENGTH_AT: usize = 5;
+pub const SIZE_AT: usize = 6;
+pub const HANDLE_AT: usize = 8;
+pub const FIRST_PASSWORD_AT: usize = 32;
+pub const SECOND_PASSWORD_AT: usize = 48;
+pub const DATA_AT: usize = 32;
+
+pub type Record = [u8; RECORD_BYTES];
+
+/// What a record asks for.
+#[derive(Clone, Copy, Debug, PartialEq, Eq)]
+pub enum Request {
+    /// The code belongs to no call.
+    BadCode,
+    /// A write that says it has more data than a record can carry.
+    Overlong(Call),
+    Call(Call),
+}
+
+fn password_at(record: &Record, at: usize) -> Password {
+    let mut password = [0; PASSWORD_BYTES];
+    password.copy_from_slice(&record[at..at + PASSWORD_BYTES]);
+    password
+}
+
+fn handle_of(record: &Record) -> Handle {
+    let mut bytes = [0; HANDLE_BYTES];
+    bytes.copy_from_slice(&record[HANDLE_AT..HANDLE_AT + HANDLE_BYTES]);
+    Handle::from_bytes(&bytes)
+}
+
+/// The call that a record's code stands for; bytes that it does not use are not looked at.
+fn call_of(record: &Record) -> Option<Call> {
+    let handle = handle_of(record);
+    let [node, mode, segment] = [NODE_AT, MODE_AT, SEGMENT_AT].map(|at| u32::from(record[at]));
+    let size = u32::from(u16::from_be_bytes([record[SIZE_AT], record[SIZE_AT + 1]]));
+    let [first, second] = [FIRST_PASSWORD_AT, SECOND_PASSWORD_AT].map(|at| password_at(record, at));
+    #[rustfmt::skip]
+    let call = match record[CODE_AT] {
+        call::NEW_CLUSTER => Call::NewCluster { node, local: segment, read: first, write: second },
+        call::DELETE_CLUSTER => Call::DeleteCluster { node, handle },
+        call::NEW_SEGMENT => Call::NewSegment { node, segment, size, handle },
+        call::DELETE_SEGMENT => Call::DeleteSegment { node, segment, handle },
+        call::READ => Call::Read { segment, handle },
+        call::WRITE => Call::Write { segment, handle },
+        call::WEAKEN => Call::Weaken { mask: record[SEGMENT_AT], handle },
+        call::REDUCE => Call::Reduce { mode, handle },
+        call::NEW_PASSWORD => Call::NewPassword { mode, handle, password: first },
+        _ => return None,
+    };
+    Some(call)
+}
+
+/// Tells a call from what only looks like one.
+pub fn request(record: &Record) -> Request {
+    let overlong = usize::from(record[DATA_LENGTH_AT]) > MOST_DATA_BYTES;
+    match call_of(record) {
+        None => Request::BadCode,
+        Some(call @ Call::Write { .. }) if overlong => Request::Overlong(call),
+        Some(call) => Request::Call(call),
+    }
+}
+
+/// The records of a list in file order; `None` where its length is none of a list's.
+pub fn records(list: &[u8]) -> Option<Vec<&Record>> {
+    let chunks = list.chunks_exact(RECORD_BYTES);
+    if list.len() > MOST_LIST_BYTES || !chunks.remainder().is_empty() {
+        return None;
+    }
+    chunks.map(|record| record.try_into().ok()).collect()
+}
+
+/// The numbers of the records that the chain meets, in its order, or the number of the refusal.
+pub fn chain(records: &[&Record]) -> Result<Vec<u8>, u8> {
+    let mut met = [false; MOST_RECORDS + 1];
+    let mut order = Vec::with_capacity(records.len());
+    let mut number = if records.is_empty() { 0 } else { 1 };
+    while number != 0 {
+        let place = usize::from(number);
+        if place > records.len() {
+            return Err(LINK);
+        }
+        if met[place] {
+            return Err(LOOP);
+        }
+        met[place] = true;
+        order.push(number);
+        number = records[place - 1][NEXT_AT];
+    }
+    Ok(order)
+}
+
+/// What the records of a list work on, one after the other.
+pub struct Session {
+    pub store: Store,
+    pub memory: Vec<u8>,
+    pub buffer: Vec<u8>,
+}
+
+impl Session {
+    /// The starting store, a memory of zeros and a buffer that any segment fits in.
+    pub fn starting() -> Session {
+        Session {
+            store: Store::starting(),
+            memory: vec![0; MEMORY_BYTES],
+            buffer: vec![0; NODE_BYTES],
+        }
+    }
+
+    /// Runs the call of one record.
+    pub fn run(&mut self, record: &Record) -> Reply {
+        match request(record) {
+            Request::BadCode => Reply::refused(FIELD),
+            Request::Overlong(call) => {
+                let found = Found {
+                    store: &self.store,
+                    memory_bytes: self.memory.len(),
+                    buffer_bytes: MOST_DATA_BYTES,
+                };
+                Reply::refused(refusal_above(FIELD, &call, &found).unwrap_or(FIELD))
+            }
+            Request::Call(call @ Call::Write { .. }) => {
+                let end = DATA_AT + usize::from(record[DATA_LENGTH_AT]);
+                let mut data = *record;
+                model::run(
+                    &mut self.store,
+                    &mut self.memory,
+                    &mut data[DATA_AT..end],
+                    &call,
+                )
+            }
+            Request::Call(call) => {
+                model::run(&mut self.store, &mut self.memory, &mut self.buffer, &call)
+            }
+        }
+    }
+
+    /// Adds the line of a record that was just run.
+    fn push_line(&self, text: &mut Vec<u8>, number: u8, code: u8, reply: &Reply) {
+        push_decimal(text, u32::from(number));
+        text.push(b' ');
+        push_decimal(text, u32::from(code));
+        text.push(b' ');
+        push_decimal(text, u32::from(reply.number));
+        if reply.is_done() {
+            self.push_given(text, code, reply);
+        }
+        text.push(b'\n');
+    }
+
+    /// Adds what a call done gives.
+    fn push_given(&self, text: &mut Vec<u8>, code: u8, reply: &Reply) {
+        match code {
+            call::NEW_CLUSTER => {
+                push_hexadecimal(text, &reply.first);
+                push_hexadecimal(text, &reply.second);
+            }
+            call::READ => push_hexadecimal(text, &self.buffer[..reply.length as usize]),
+            call::WEAKEN => {
+                push_hexadecimal(text, &reply.first);
+                text.push(b' ');
+                push_decimal(text, reply.count);
+            }
+            call::REDUCE | call::NEW_PASSWORD => push_hexadecimal(text, &reply.first),
+            _ => {}
+        }
+    }
+}
+
+fn push_decimal(text: &mut Vec<u8>, number: u32) {
+    if number >= 10 {
+        push_decimal(text, number / 10);
+    }
+    text.push(b'0' + (number % 10) as u8);
+}
+
+fn push_hexadecimal(text: &mut Vec<u8>, bytes: &[u8]) {
+    text.push(b' ');
+    hexadecimal::push(text, bytes);
+}
+
+/// A word and a number on a line of their own.
+fn push_last(text: &mut Vec<u8>, word: &[u8], number: u32) {
+    text.extend_from_slice(word);
+    text.push(b' ');
+    push_decimal(text, number);
+    text.push(b'\n');
+}
+
+/// Runs a list from the starting store and tells `each` of every record that the chain meets.
+/// Gives the whole text that `benchrun` prints for these bytes.
+pub fn run(list: &[u8], mut each: impl FnMut(u8, &Reply)) -> Vec<u8> {
+    let mut text = Vec::new();
+    let checked = records(list).ok_or(LIST_LENGTH);
+    match checked.and_then(|records| Ok((chain(&records)?, records))) {
+        Err(number) => push_last(&mut text, b"list", u32::from(number)),
+        Ok((order, records)) => {
+            let mut session = Session::starting();
+            for &number in &order {
+                let record = records[usize::from(number) - 1];
+                let reply = session.run(record);
+                each(record[CODE_AT], &reply);
+                session.push_line(&mut text, number, record[CODE_AT], &reply);
+            }
+            push_last(&mut text, b"end", order.len() as u32);
+        }
+    }
+    text
+}
+
+/// The whole text that `benchrun` prints for these bytes.
+pub fn output(list: &[u8]) -> Vec<u8> {
+    run(list, |_, _| {})
+}

@@ -1,0 +1,152 @@
+//! The nine calls and validation, carried out on a store, a memory and a buffer that are lent.
+
+use crate::call::{Call, Reply};
+use crate::handle::{Handle, Password};
+use crate::store::{Cluster, Mode, Segment, Store};
+use crate::table::{refusal, Found, SPENT};
+use std::ops::Range;
+
+/// Runs one call. `buffer` is a read's buffer or a write's data, and is not looked at otherwise.
+/// A refused call changes nothing.
+pub fn run(store: &mut Store, memory: &mut [u8], buffer: &mut [u8], call: &Call) -> Reply {
+    let found = Found {
+        store,
+        memory_bytes: memory.len(),
+        buffer_bytes: buffer.len(),
+    };
+    match refusal(call, &found) {
+        Some(number) => Reply::refused(number),
+        None => carry_out(store, memory, buffer, call),
+    }
+}
+
+/// What a call does to which no refusal applies.
+fn carry_out(store: &mut Store, memory: &mut [u8], buffer: &mut [u8], call: &Call) -> Reply {
+    match *call {
+        Call::NewCluster {
+            node,
+            local,
+            read,
+            write,
+        } => new_cluster(store, node as usize, local as usize, read, write),
+        Call::DeleteCluster { handle, .. } => {
+            *cluster_mut(store, &handle) = Cluster::INACTIVE;
+            Reply::DONE
+        }
+        Call::NewSegment {
+            segment,
+            size,
+            handle,
+            ..
+        } => new_segment(store, memory, segment as usize, size as usize, &handle),
+        Call::DeleteSegment {
+            segment, handle, ..
+        } => {
+            cluster_mut(store, &handle).segments[segment as usize] = Segment::Absent;
+            Reply::DONE
+        }
+        Call::Read { segment, handle } => read(&memory[part(store, &handle, segment)], buffer),
+        Call::Write { segment, handle } => {
+            write(&mut memory[part(store, &handle, segment)], buffer)
+        }
+        Call::Weaken { mask, handle } => weaken(handle, mask),
+        Call::Reduce { handle, .. } => reduce(store, call, handle),
+        Call::NewPassword {
+            handle, password, ..
+        } => new_password(store, call, handle, password),
+        Call::Validate { .. } => Reply::DONE,
+    }
+}
+
+fn cluster_mut<'a>(store: &'a mut Store, handle: &Handle) -> &'a mut Cluster {
+    &mut store.clusters[usize::from(handle.node)][usize::from(handle.local)]
+}
+
+/// The mode that a call which was not refused named.
+fn mode_of(call: &Call) -> Mode {
+    call.needed_mode().expect("row 3 refuses every other mode")
+}
+
+/// The part of the memory that is the segment.
+fn part(store: &Store, handle: &Handle, segment: u32) -> Range<usize> {
+    let node = usize::from(handle.node);
+    let cluster = &store.clusters[node][usize::from(handle.local)];
+    let extent = cluster.segments[segment as usize].extent();
+    extent
+        .expect("row 14 refuses absent segments")
+        .in_memory(node)
+}
+
+fn new_cluster(
+    store: &mut Store,
+    node: usize,
+    local: usize,
+    read: Password,
+    write: Password,
+) -> Reply {
+    store.clusters[node][local] = Cluster {
+        active: true,
+        read,
+        write,
+        ..Cluster::INACTIVE
+    };
+    let primary = |password| Handle::primary(node as u16, local as u8, password).to_bytes();
+    Reply {
+        first: primary(read),
+        second: primary(write),
+        ..Reply::DONE
+    }
+}
+
+fn new_segment(
+    store: &mut Store,
+    memory: &mut [u8],
+    segment: usize,
+    size: usize,
+    handle: &Handle,
+) -> Reply {
+    let node = usize::from(handle.node);
+    let base = store
+        .place(node, size)
+        .expect("row 16 refuses what has no base");
+    let placed = Segment::Present {
+        base: base as u16,
+        length: size as u16,
+    };
+    cluster_mut(store, handle).segments[segment] = placed;
+    memory[part(store, handle, segment as u32)].fill(0);
+    Reply::DONE
+}
+
+fn read(part: &[u8], buffer: &mut [u8]) -> Reply {
+    buffer[..part.len()].copy_from_slice(part);
+    Reply {
+        length: part.len() as u32,
+        ..Reply::DONE
+    }
+}
+
+fn write(part: &mut [u8], data: &[u8]) -> Reply {
+    part.copy_from_slice(&data[..part.len()]);
+    Reply::DONE
+}
+
+fn weaken(handle: Handle, mask: u8) -> Reply {
+    match handle.weaken(mask) {
+        Some(weaker) => Reply {
+            count: weaker.selector.count(),
+            ..Reply::with_handle(&weaker)
+        },
+        None => Reply::refused(SPENT),
+    }
+}
+
+fn reduce(store: &mut Store, call: &Call, handle: Handle) -> Reply {
+    let primary = *cluster_mut(store, &handle).primary(mode_of(call));
+    Reply::with_handle(&handle.reduce(&primary))
+}
+
+fn new_password(store: &mut Store, call: &Call, handle: Handle, password: Password) -> Reply {
+    *cluster_mut(store, &handle).primary_mut(mode_of(call)) = password;
+    Reply::with_handle(&Handle { password, ..handle })
+}

@@ -1,0 +1,190 @@
+//! The records of all clusters, when they are sound, and where a new segment goes.
+//!
+//! The types hold damaged stores too: any base, any length, an inactive cluster with secrets.
+
+use crate::handle::Password;
+use crate::sizes::{
+    CLUSTERS, MEMORY_BYTES, NODES, NODE_BYTES, NODE_SEGMENTS, PASSWORD_BYTES, SEGMENTS,
+};
+use std::ops::Range;
+
+#[derive(Clone, Copy, Debug, PartialEq, Eq)]
+pub enum Segment {
+    Absent,
+    Present { base: u16, length: u16 },
+}
+
+impl Segment {
+    /// The bytes of its node's memory that a present segment has.
+    pub fn extent(&self) -> Option<Extent> {
+        match *self {
+            Segment::Absent => None,
+            Segment::Present { base, length } => Some(Extent {
+                base: usize::from(base),
+                length: usize::from(length),
+            }),
+        }
+    }
+}
+
+/// A part of one node's memory, in a width in which base plus length cannot wrap.
+#[derive(Clone, Copy, Debug, Default, PartialEq, Eq, PartialOrd, Ord)]
+pub struct Extent {
+    pub base: usize,
+    pub length: usize,
+}
+
+impl Extent {
+    pub fn end(&self) -> usize {
+        self.base + self.length
+    }
+
+    fn is_inside_a_node(&self) -> bool {
+        self.base < NODE_BYTES && self.length >= 1 && self.end() <= NODE_BYTES
+    }
+
+    /// The same bytes as places of the slice that joins the four memories.
+    pub fn in_memory(&self, node: usize) -> Range<usize> {
+        let start = node * NODE_BYTES + self.base;
+        start..start + self.length
+    }
+}
+
+#[derive(Clone, Copy, Debug, PartialEq, Eq)]
+pub enum Mode {
+    Read,
+    Write,
+}
+
+impl Mode {
+    pub fn from_number(number: u32) -> Option<Mode> {
+        match number {
+            1 => Some(Mode::Read),
+            2 => Some(Mode::Write),
+            _ => None,
+        }
+    }
+}
+
+#[derive(Clone, Copy, Debug, PartialEq, Eq)]
+pub struct Cluster {
+    pub active: bool,
+    pub read: Password,
+    pub write: Password,
+    pub segments: [Segment; SEGMENTS],
+}
+
+impl Cluster {
+    /// A cluster as it is in the starting store.
+    pub const INACTIVE: Cluster = Cluster {
+        active: false,
+        read: [0; PASSWORD_BYTES],
+        write: [0; PASSWORD_BYTES],
+        segments: [Segment::Absent; SEGMENTS],
+    };
+
+    pub fn has_segments(&self) -> bool {
+        self.segments
+            .iter()
+            .any(|segment| *segment != Segment::Absent)
+    }
+
+    /// An inactive cluster keeps no passwords and no segments.
+    fn is_sound(&self) -> bool {
+        let zero = [0; PASSWORD_BYTES];
+        self.active || (self.read == zero && self.write == zero && !self.has_segments())
+    }
+
+    pub fn primary(&self, mode: Mode) -> &Password {
+        match mode {
+            Mode::Read => &self.read,
+            Mode::Write => &self.write,
+        }
+    }
+
+    pub fn primary_mut(&mut self, mode: Mode) -> &mut Password {
+        match mode {
+            Mode::Read => &mut self.read,
+            Mode::Write => &mut self.write,
+        }
+    }
+}
+
+/// The present segments of one node's active clusters in the order of their bases. Each is one
+/// word, its base above its length, so that sorting compares words.
+struct Extents {
+    list: [u32; NODE_SEGMENTS],
+    count: usize,
+}
+
+impl Extents {
+    fn of(clusters: &[Cluster; CLUSTERS]) -> Extents {
+        let mut list = [0; NODE_SEGMENTS];
+        let mut count = 0;
+        let active = clusters.iter().filter(|cluster| cluster.active);
+        for segment in active.flat_map(|cluster| &cluster.segments) {
+            if let Segment::Present { base, length } = *segment {
+                list[count] = u32::from(base) << 16 | u32::from(length);
+                count += 1;
+            }
+        }
+        list[..count].sort_unstable();
+        Extents { list, count }
+    }
+
+    fn iter(&self) -> impl Iterator<Item = Extent> + '_ {
+        self.list[..self.count].iter().map(|word| Extent {
+            base: (word >> 16) as usize,
+            length: (word & 0xffff) as usize,
+        })
+    }
+
+    /// Each inside the node, and each ended where the next begins: then no two share a byte.
+    fn are_sound(&self) -> bool {
+        let mut free_from = 0;
+        self.iter().all(|extent| {
+            let sound = extent.is_inside_a_node() && free_from <= extent.base;
+            free_from = extent.end();
+            sound
+        })
+    }
+}
+
+#[derive(Clone, Debug, PartialEq, Eq)]
+pub struct Store {
+    pub clusters: [[Cluster; CLUSTERS]; NODES],
+}
+
+impl Store {
+    /// The starting store: every cluster inactive.
+    pub fn starting() -> Store {
+        Store {
+            clusters: [[Cluster::INACTIVE; CLUSTERS]; NODES],
+        }
+    }
+
+    pub fn cluster(&self, node: usize, local: usize) -> Option<&Cluster> {
+        self.clusters.get(node)?.get(local)
+    }
+
+    /// Soundness, for a memory slice of `memory_bytes` bytes.
+    pub fn is_sound(&self, memory_bytes: usize) -> bool {
+        memory_bytes == MEMORY_BYTES && self.clusters.iter().all(node_is_sound)
+    }
+
+    /// The smallest base at which `size` bytes are free in the node; asked of sound stores alone.
+    pub fn place(&self, node: usize, size: usize) -> Option<usize> {
+        let mut base = 0;
+        for extent in Extents::of(&self.clusters[node]).iter() {
+            if extent.base - base >= size {
+                return Some(base);
+            }
+            base = extent.end();
+        }
+        (NODE_BYTES - base >= size).then_some(base)
+    }
+}
+
+fn node_is_sound(clusters: &[Cluster; CLUSTERS]) -> bool {
+    clusters.iter().all(Cluster::is_sound) && Extents::of(clusters).are_sound()
+}

@@ -1,0 +1,83 @@
+//! Lists made by chance: what holds of the model on all of them.
+
+use model::generate;
+use model::list::{chain, output, records, run, Session};
+use model::random::Random;
+use model::sizes::MEMORY_BYTES;
+use std::collections::BTreeSet;
+
+const LISTS: usize = 300;
+
+fn lists(seed: u64) -> impl Iterator<Item = Vec<u8>> {
+    let mut seeds = Random::from_seed(seed);
+    (0..LISTS).map(move |_| generate::list(&mut Random::from_seed(seeds.number())))
+}
+
+#[test]
+fn a_seed_repeats_its_lists() {
+    assert!(lists(5).eq(lists(5)));
+    assert!(lists(5).ne(lists(6)));
+}
+
+#[test]
+fn lists_reach_what_can_be_reached() {
+    let mut pairs = BTreeSet::new();
+    let mut refused = BTreeSet::new();
+    for list in lists(1) {
+        let text = run(&list, |code, reply| {
+            if (1..=9).contains(&code) {
+                pairs.insert((code, reply.number));
+            }
+        });
+        refused.extend(text.strip_prefix(b"list ").map(<[u8]>::to_vec));
+    }
+    assert_eq!(pairs.len(), 65);
+    assert_eq!(refused.len(), 3);
+}
+
+#[test]
+fn refused_calls_change_nothing_and_soundness_is_kept() {
+    for list in lists(2) {
+        let Some(Ok((order, records))) = records(&list).map(|all| Ok::<_, u8>((chain(&all)?, all)))
+        else {
+            continue;
+        };
+        let mut session = Session::starting();
+        for number in order {
+            let before = (
+                session.store.clone(),
+                session.memory.clone(),
+                session.buffer.clone(),
+            );
+            let reply = session.run(records[usize::from(number) - 1]);
+            if !reply.is_done() {
+                assert!(
+                    before
+                        == (
+                            session.store.clone(),
+                            session.memory.clone(),
+                            session.buffer.clone()
+                        )
+                );
+                assert!(reply.first == [0; 23] && reply.second == [0; 23]);
+                assert_eq!((reply.count, reply.length), (0, 0));
+            }
+            assert!(session.store.is_sound(MEMORY_BYTES));
+        }
+    }
+}
+
+#[test]
+fn every_output_ends_as_it_should() {
+    for list in lists(3) {
+        let text = String::from_utf8(output(&list)).unwrap();
+        let last = text.strip_suffix('\n').unwrap().lines().last().unwrap();
+        let (word, number) = last.split_once(' ').unwrap();
+        let lines = text.lines().count() - 1;
+        match word {
+            "end" => assert_eq!(number.parse(), Ok(lines)),
+            "list" => assert!(lines == 0 && matches!(number, "18" | "19" | "20")),
+            _ => panic!("{last}"),
+        }
+    }
+}

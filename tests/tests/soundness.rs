@@ -1,0 +1,179 @@
+//! What makes a store unsound, one thing at a time, and what looks odd and is sound.
+
+use model::call::{Call, Reply};
+use model::handle::Handle;
+use model::model::run;
+use model::sizes::MEMORY_BYTES;
+use model::store::{Segment, Store};
+use model::table::{word, UNSOUND};
+
+const READ: [u8; 16] = [0x11; 16];
+const WRITE: [u8; 16] = [0x22; 16];
+
+/// A store with one active cluster that has one segment.
+fn store() -> Store {
+    let mut store = Store::starting();
+    let cluster = &mut store.clusters[1][3];
+    cluster.active = true;
+    cluster.read = READ;
+    cluster.write = WRITE;
+    cluster.segments[0] = Segment::Present {
+        base: 10,
+        length: 20,
+    };
+    store
+}
+
+fn with_segment(base: u16, length: u16) -> Store {
+    let mut store = store();
+    store.clusters[1][3].segments[7] = Segment::Present { base, length };
+    store
+}
+
+#[test]
+fn odd_and_sound() {
+    assert!(Store::starting().is_sound(MEMORY_BYTES));
+    assert!(with_segment(0, 10).is_sound(MEMORY_BYTES));
+    assert!(with_segment(30, 4066).is_sound(MEMORY_BYTES));
+    assert!(with_segment(4095, 1).is_sound(MEMORY_BYTES));
+    let mut twins = store();
+    twins.clusters[1][3].read = WRITE;
+    assert!(twins.is_sound(MEMORY_BYTES));
+    let mut zero = store();
+    zero.clusters[1][3].write = [0; 16];
+    assert!(zero.is_sound(MEMORY_BYTES));
+    let mut same_bytes_of_another_node = store();
+    same_bytes_of_another_node.clusters[2][3] = store().clusters[1][3];
+    assert!(same_bytes_of_another_node.is_sound(MEMORY_BYTES));
+}
+
+#[test]
+fn lengths_of_the_slice() {
+    for bytes in [0, MEMORY_BYTES - 1, MEMORY_BYTES + 1, 2 * MEMORY_BYTES] {
+        assert!(!store().is_sound(bytes));
+    }
+}
+
+#[test]
+fn segments_out_of_range_or_overlapping() {
+    let wrong = [
+        (0, 0),
+        (4096, 1),
+        (65535, 1),
+        (65535, 65535),
+        (100, 3997),
+        (0, 4097),
+        (4095, 2),
+        (0, 11),
+        (29, 1),
+        (10, 20),
+        (15, 2),
+        (0, 4096),
+    ];
+    for (base, length) in wrong {
+        assert!(
+            !with_segment(base, length).is_sound(MEMORY_BYTES),
+            "{base} {length}"
+        );
+    }
+    let mut overlapping = store();
+    overlapping.clusters[1][4].active = true;
+    overlapping.clusters[1][4].segments[2] = Segment::Present {
+        base: 29,
+        length: 5,
+    };
+    assert!(!overlapping.is_sound(MEMORY_BYTES));
+}
+
+#[test]
+fn inactive_with_something_left() {
+    let mut read = Store::starting();
+    read.clusters[0][0].read[15] = 1;
+    let mut write = Store::starting();
+    write.clusters[3][7].write[0] = 1;
+    let mut segment = Store::starting();
+    segment.clusters[2][5].segments[6] = Segment::Present { base: 0, length: 1 };
+    for store in [read, write, segment] {
+        assert!(!store.is_sound(MEMORY_BYTES));
+    }
+}
+
+/// Every call and validation, all of them about places where nothing is damaged.
+fn calls() -> Vec<Call> {
+    let read = Handle::primary(1, 3, READ);
+    let handle = Handle::primary(1, 3, WRITE);
+    vec![
+        Call::NewCluster {
+            node: 0,
+            local: 0,
+            read: READ,
+            write: WRITE,
+        },
+        Call::DeleteCluster { node: 1, handle },
+        Call::NewSegment {
+            node: 1,
+            segment: 1,
+            size: 5,
+            handle,
+        },
+        Call::DeleteSegment {
+            node: 1,
+            segment: 0,
+            handle,
+        },
+        Call::Read {
+            segment: 0,
+            handle: read,
+        },
+        Call::Write { segment: 0, handle },
+        Call::Reduce { mode: 2, handle },
+        Call::NewPassword {
+            mode: 2,
+            handle,
+            password: [9; 16],
+        },
+        Call::Validate { mode: 2, handle },
+    ]
+}
+
+#[test]
+fn damage_anywhere_refuses_all_but_weakening_and_changes_nothing() {
+    let mut damaged = store();
+    damaged.clusters[3][7].segments[0] = Segment::Present {
+        base: 4000,
+        length: 97,
+    };
+    for call in calls() {
+        let mut memory = vec![0xaa; MEMORY_BYTES];
+        let mut buffer = vec![0xbb; 64];
+        assert_eq!(
+            run(&mut store(), &mut memory, &mut buffer, &call).number,
+            0,
+            "{call:?}"
+        );
+
+        let (mut memory, mut buffer) = (vec![0xaa; MEMORY_BYTES], vec![0xbb; 64]);
+        let mut left = damaged.clone();
+        let reply = run(&mut left, &mut memory, &mut buffer, &call);
+        assert_eq!(reply, Reply::refused(UNSOUND));
+        assert_eq!(left, damaged);
+        assert_eq!((memory, buffer), (vec![0xaa; MEMORY_BYTES], vec![0xbb; 64]));
+    }
+    let weaken = Call::Weaken {
+        mask: 1,
+        handle: Handle::primary(1, 3, READ),
+    };
+    let reply = run(&mut damaged, &mut [], &mut [], &weaken);
+    assert_eq!((reply.number, reply.count), (0, 1));
+    assert_eq!(word(UNSOUND), Some("unsound"));
+}
+
+#[test]
+fn unsound_comes_before_everything() {
+    let nowhere = Call::Read {
+        segment: 99,
+        handle: Handle::primary(9, 9, READ),
+    };
+    let reply = run(&mut store(), &mut [0; 4], &mut [], &nowhere);
+    assert_eq!(reply, Reply::refused(UNSOUND));
+}

@@ -1,0 +1,41 @@
+//! Prints a list of calls beside the answers that `benchrun` gave to it.
+
+use std::ffi::OsString;
+use std::fs;
+use std::io::{self, Write};
+use std::path::Path;
+use std::process::ExitCode;
+use tools::answers::Answers;
+use tools::show::show;
+
+const USAGE: &str = "usage: listshow LIST-FILE ANSWERS-FILE";
+const BAD_USAGE: u8 = 2;
+
+fn print(list: &Path, answers: &Path) -> Result<(), String> {
+    let unreadable = |path: &Path, error: io::Error| format!("{}: {error}", path.display());
+    let records = fs::read(list).map_err(|error| unreadable(list, error))?;
+    let text = fs::read_to_string(answers).map_err(|error| unreadable(answers, error))?;
+    let shown = Answers::read(&text)
+        .and_then(|answers| show(&records, &answers))
+        .map_err(|mistake| format!("{}:{mistake}", answers.display()))?;
+    let mut standard_output = io::stdout().lock();
+    standard_output
+        .write_all(shown.as_bytes())
+        .and_then(|()| standard_output.flush())
+        .map_err(|error| format!("standard output: {error}"))
+}
+
+fn main() -> ExitCode {
+    let arguments: Vec<OsString> = std::env::args_os().skip(1).collect();
+    let [list, answers] = arguments.as_slice() else {
+        eprintln!("{USAGE}");
+        return ExitCode::from(BAD_USAGE);
+    };
+    match print(Path::new(list), Path::new(answers)) {
+        Ok(()) => ExitCode::SUCCESS,
+        Err(message) => {
+            eprintln!("listshow: {message}");
+            ExitCode::FAILURE
+        }
+    }
+}

@@ -1,0 +1,111 @@
+//! Every mistake in a text names its line and what was expected.
+
+use tools::build::build;
+use tools::text::Text;
+
+fn mistake(text: &str) -> String {
+    let built = Text::read(text).and_then(|text| build(&text));
+    built.expect_err("a mistake").to_string()
+}
+
+const CLUSTER: &str = "new-cluster node 0 local 2 read 11*16 write 22*16";
+
+#[test]
+fn words_and_fields() {
+    let unknown = mistake("\n# comment\nraed segment 5\n");
+    assert!(unknown.starts_with("3: expected one of new-cluster, delete-cluster,"));
+    assert!(unknown.ends_with("found 'raed'"));
+    assert_eq!(
+        mistake("read colour 5"),
+        "1: expected one of segment, handle, next, fill, expect, found 'colour'"
+    );
+    assert_eq!(mistake("read segment 5"), "1: 'read' needs 'handle'");
+    assert_eq!(
+        mistake("read segment 1 segment 1"),
+        "1: 'segment' stands twice"
+    );
+    assert_eq!(
+        mistake("tail 00 01"),
+        "1: expected the end of the line, found '01'"
+    );
+}
+
+#[test]
+fn numbers_and_bytes() {
+    assert_eq!(
+        mistake("read segment five"),
+        "1: expected a number from 0 to 255 after 'segment', found 'five'"
+    );
+    assert_eq!(
+        mistake("code 0x100"),
+        "1: expected a number from 0 to 255 after 'code', found '0x100'"
+    );
+    assert_eq!(
+        mistake("new-cluster read 11*15"),
+        "1: expected 16 bytes after 'read', found 15"
+    );
+    assert_eq!(
+        mistake("raw 00*65"),
+        "1: expected at most 64 bytes after 'raw', found 65"
+    );
+    for wrong in [
+        "0",
+        "0g",
+        "00+",
+        "+00",
+        "00*",
+        "00*x",
+        "\"a\"b",
+        "00*9999999",
+    ] {
+        let found = mistake(&format!("tail {wrong}"));
+        assert!(found.starts_with("1: expected bytes such as"), "{found}");
+    }
+    assert_eq!(mistake("tail \"ab"), "1: a quotation mark is not closed");
+}
+
+#[test]
+fn names() {
+    let twice = format!("{CLUSTER} -> a b\nlet b = a");
+    assert_eq!(mistake(&twice), "2: line 1 gives the name 'b' already");
+    let one = format!("{CLUSTER} -> a");
+    assert_eq!(
+        mistake(&one),
+        "1: 'new-cluster' gives 2 handles, found 1 names after '->'"
+    );
+    assert_eq!(
+        mistake("let a = b"),
+        "1: expected a handle that an earlier line names, found 'b'"
+    );
+    assert_eq!(
+        mistake("read segment 5 handle lab"),
+        "1: expected a handle that an earlier call gives, found 'lab'"
+    );
+    assert!(mistake("let 5 = node 0").ends_with("found '5'"));
+}
+
+#[test]
+fn numbers_that_calls_come_to() {
+    let expected = format!("\n{CLUSTER} expect 7");
+    assert_eq!(mistake(&expected), "2: expected 7 (twins), found 0 (done)");
+    let refused = "new-cluster node 4 local 2 read 11*16 write 22*16 -> a b";
+    assert_eq!(
+        mistake(refused),
+        "1: expected a call that is done, found 2 (no such place)"
+    );
+}
+
+#[test]
+fn records() {
+    let many = "repeat 200 code 0\nrepeat 56 code 0\n";
+    assert_eq!(mistake(many), "2: a list has at most 255 records");
+    let repeated = format!("repeat 2 {CLUSTER} -> a b");
+    assert_eq!(
+        mistake(&repeated),
+        "1: a repeated call cannot name what it gives"
+    );
+    assert_eq!(
+        mistake("code 0 next 0\ncode 0 expect 3"),
+        "2: the chain does not come to this record, so it gives nothing"
+    );
+}
