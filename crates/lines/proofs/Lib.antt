@@ -1,0 +1,4 @@
+pub mod TextLaws
+pub mod PutLaws
+pub mod LineLaws
+pub mod ExampleLaws

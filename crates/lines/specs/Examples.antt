@@ -1,0 +1,55 @@
+-- Document 01, "The list of calls": the sample's output line by line, and lines of the other forms.
+--     Example            a line that the definitions give, and how it is printed
+--     handle b ss        the handle of node 0, local number 2, the password of sixteen bytes b and the selector ss
+--     primary b          the same with a flat selector
+--     answered n a b c   the answer with the number n, the handles a and b, and the count c
+--     noHandle           a handle that is not given
+--     examples           the list
+-- Assumes nothing.
+use Prim.Native.Nat.{ℕ}
+use Prim.Native.String.{String}
+use mathlib.Core.List.{List, [], _∷_, _++_}
+use lib.ListN.{replicate}
+use Rattle.sizes.specs.Sizes.{passwordBytes}
+use Rattle.handle.specs.Sizes.{handleBytes}
+use Rattle.lines.specs.Lines.{Answer, callLine, endLine, refusedLine}
+
+pub record Example : Type 0 where
+  pub given : List ℕ
+  pub printed : String
+
+abbrev row : List ℕ → String → Example
+row l s = record { given = l; printed = s }
+
+abbrev handle : ℕ → List ℕ → List ℕ
+handle b ss = (0 ∷ 0 ∷ 2 ∷ []) ++ replicate passwordBytes b ++ ss
+
+abbrev primary : ℕ → List ℕ
+primary b = handle b (0xff ∷ 0xff ∷ 0xff ∷ 0xff ∷ [])
+
+abbrev noHandle : List ℕ
+noHandle = replicate handleBytes 0
+
+abbrev answered : ℕ → List ℕ → List ℕ → ℕ → Answer
+answered n a b c = record { number = n; first = a; second = b; count = c; length = 0 }
+
+unfoldable pub examples : List Example
+examples =
+    -- the sample
+    row (callLine 1 1 (answered 0 (primary 0x11) (primary 0x22) 0) [])
+    "1 1 0 00000211111111111111111111111111111111ffffffff 00000222222222222222222222222222222222ffffffff\n"
+    ∷ row (callLine 3 3 (answered 0 noHandle noHandle 0) []) "3 3 0\n"
+    ∷ row (callLine 2 5 (answered 0 noHandle noHandle 0) (0 ∷ 0 ∷ 0 ∷ 0 ∷ [])) "2 5 0 00000000\n"
+    ∷ row (endLine 3) "end 3\n"
+    -- one handle, and a handle with its count
+    ∷ row (callLine 10 9 (answered 0 (primary 0xab) noHandle 0) [])
+    "10 9 0 000002ababababababababababababababababffffffff\n"
+    ∷ row (callLine 255 7 (answered 0 (handle 0x11 (0xfe ∷ 0x7d ∷ 0xf3 ∷ 0xff ∷ [])) noHandle 3) [])
+    "255 7 0 00000211111111111111111111111111111111fe7df3ff 3\n"
+    -- refused calls, a bad code among them
+    ∷ row (callLine 100 1 (answered 7 noHandle noHandle 0) []) "100 1 7\n"
+    ∷ row (callLine 99 255 (answered 3 noHandle noHandle 0) []) "99 255 3\n"
+    -- an empty list, and a refused one
+    ∷ row (endLine 0) "end 0\n"
+    ∷ row (refusedLine 18) "list 18\n"
+    ∷ []
