@@ -1,1 +1,7 @@
 pub mod PerformLaws
+pub mod CheckLaws
+pub mod ReadLaws
+pub mod LineLaws
+pub mod PartLaws
+pub mod RunLaws
+pub mod OutputLaws

@@ -1,2 +1,4 @@
 pub mod Records
 pub mod Runs
+pub mod Texts
+pub mod Loops

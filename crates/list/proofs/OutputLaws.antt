@@ -1,0 +1,109 @@
+-- The text of a run: nothing where the room may be too little, the single line of a refused list, or the lines of the
+-- chain and the last one after them.
+-- Assumes nothing.
+use mathlib.Core.Path.{_≡_, refl, sym, ap, _∙_, subst}
+use Prim.Native.Nat.{ℕ, zero, suc, _+_, _-_, _*_, _^_, _≤_, _<_}
+use native.Mathlib.Omega.{arith}
+use mathlib.Core.Bool.{Bool, true, false, cond}
+use mathlib.Core.List.{List, [], _++_}
+use borrow.Author.Tests.{le-leb, lt-leb}
+use borrow.Rule.Slice.PartMut.{midOf, putMid}
+use lib.ListN.{length, drop, replicate, length-append, length-take, length-drop}
+use lib.Seq.{drop-drop}
+use Rattle.sizes.specs.Sizes.{memory}
+use Rattle.chain.specs.declared.Walked.{Walked}
+use Rattle.chain.specs.Way.{done}
+use Rattle.lines.specs.Lines.{endWord, endLine, refusedWord, refusedLine}
+use Rattle.lines.specs.Buffers.{longest, longestWith, wordLineWithin, Begins}
+use Rattle.lines.proofs.LineLaws.{wordLine-fits}
+use Rattle.list.specs.Runs.{bufferBytes, starting}
+use Rattle.list.specs.Texts.{checked, chain, recordLines, textOf, output, mostText, outputWithin}
+use Rattle.list.specs.Loops.{Ready}
+use Rattle.list.proofs.PartLaws.{part-start, part-rest}
+use Rattle.list.proofs.RunLaws.{total-few}
+
+module _ (list out : List ℕ) where
+  within : mostText ≤ length out → outputWithin (length out) list ≡ output list
+  unfolding outputWithin
+  within h = ap (λ (t : Bool). cond t (output list) []) (le-leb mostText (length out) h)
+
+  pub run-short : length out < mostText → Begins out out 0 (outputWithin (length out) list)
+  unfolding outputWithin
+  run-short h = record { size = ap length (sym none); room = omega arith; start = sym none; rest = refl }
+    where
+      none : outputWithin (length out) list ≡ []
+      none = ap (λ (t : Bool). cond t (output list) []) (lt-leb mostText (length out) h)
+
+  module _ (enough : mostText ≤ length out) (w : Walked) (ew : w ≡ checked list) where
+    by-walk : output list ≡ textOf list (w .number) (w .records)
+    unfolding output
+    by-walk = sym (ap (λ (v : Walked). textOf list (v .number) (v .records)) ew)
+
+    pub run-refused : (w .number ≡ 0 → ⊥) → (after : List ℕ) (r : ℕ)
+        → Begins out after r (wordLineWithin (length out) refusedWord (w .number))
+        → Begins out after r (outputWithin (length out) list)
+    run-refused t after r = subst (Begins out after r) (fits ∙ sym (within enough ∙ by-walk ∙ told (w .number) t))
+      where
+        told : (n : ℕ) → (n ≡ 0 → ⊥) → textOf list n (w .records) ≡ refusedLine n
+        told zero t = absurd (t refl)
+        told (suc n) t = refl
+
+        fits : wordLineWithin (length out) refusedWord (w .number) ≡ refusedLine (w .number)
+        fits = wordLine-fits (length out) refusedWord (w .number) (omega arith)
+
+    module _ (z : w .number ≡ 0) where
+      whole : checked list ≡ done (w .records)
+      whole = sym ew ∙ (λ j. record { number = z j; records = w .records })
+
+      pub run-fits : w .records < 2 ^ 8
+      run-fits = let f = total-few list (w .records) whole in omega arith
+
+      pub run-ready : (m b : List ℕ) → m ≡ replicate memory 0 → b ≡ replicate bufferBytes 0
+          → Ready list (w .records) m b out
+      run-ready m b em eb = record { whole = whole; memory = em; buffer = eb; wide = enough }
+
+      module _ (mid : List ℕ) (end : ℕ)
+          (lines : Begins out mid end (recordLines list (chain list (w .records)) starting)) (same : length mid ≡ length out)
+          (short : end ≤ w .records * longest) where
+        abbrev text : List ℕ
+        text = recordLines list (chain list (w .records)) starting
+
+        pub run-inside : end ≤ length mid
+        run-inside = let f = total-few list (w .records) whole in omega arith
+
+        pub run-done : (part : List ℕ) (r : ℕ)
+            → Begins (midOf end (length mid - end) mid) part r
+            (wordLineWithin (length (midOf end (length mid - end) mid)) endWord (w .records))
+            → length part ≡ length (midOf end (length mid - end) mid)
+            → Begins out (putMid end (length mid - end) mid part) (end + r) (outputWithin (length out) list)
+        run-done part r b kept =
+            record {
+              size = (λ j. lines .size j + h .size j) ∙ sym (length-append text (endLine (w .records))) ∙ ap length (sym all);
+              room = inside;
+              start =
+                  part-start mid part (endLine (w .records)) end r run-inside h kept
+                  ∙ ap (λ (l : List ℕ). l ++ endLine (w .records)) (lines .start) ∙ sym all;
+              rest =
+                  part-rest mid part (endLine (w .records)) end r run-inside h kept ∙ sym (drop-drop r end mid)
+                  ∙ ap (drop r) (lines .rest) ∙ drop-drop r end out;
+            }
+          where
+            all : outputWithin (length out) list ≡ text ++ endLine (w .records)
+            all = within enough ∙ by-walk ∙ ap (λ (n : ℕ). textOf list n (w .records)) z
+
+            wide : length (midOf end (length mid - end) mid) ≡ length mid - end
+            wide = simp (length-take, length-drop) (omega arith)
+
+            h : Begins (midOf end (length mid - end) mid) part r (endLine (w .records))
+            h =
+                let f = total-few list (w .records) whole in
+                let l = wide in
+                subst (Begins (midOf end (length mid - end) mid) part r)
+                (wordLine-fits (length (midOf end (length mid - end) mid)) endWord (w .records) (omega arith)) b
+
+            inside : end + r ≤ length out
+            inside =
+                let a : r ≤ length (midOf end (length mid - end) mid) = h .room in
+                let b = wide in
+                let c = run-inside in
+                omega arith
