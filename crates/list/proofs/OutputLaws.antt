@@ -22,11 +22,11 @@ use Rattle.list.specs.Loops.{Ready}
 use Rattle.list.proofs.PartLaws.{part-start, part-rest}
 use Rattle.list.proofs.RunLaws.{total-few}
 
-module _ (list out : List ℕ) where
-  within : mostText ≤ length out → outputWithin (length out) list ≡ output list
-  unfolding outputWithin
-  within h = ap (λ (t : Bool). cond t (output list) []) (le-leb mostText (length out) h)
+pub output-fits : (n : ℕ) (list : List ℕ) → mostText ≤ n → outputWithin n list ≡ output list
+unfolding outputWithin
+output-fits n list h = ap (λ (t : Bool). cond t (output list) []) (le-leb mostText n h)
 
+module _ (list out : List ℕ) where
   pub run-short : length out < mostText → Begins out out 0 (outputWithin (length out) list)
   unfolding outputWithin
   run-short h = record { size = ap length (sym none); room = omega arith; start = sym none; rest = refl }
@@ -42,7 +42,7 @@ module _ (list out : List ℕ) where
     pub run-refused : (w .number ≡ 0 → ⊥) → (after : List ℕ) (r : ℕ)
         → Begins out after r (wordLineWithin (length out) refusedWord (w .number))
         → Begins out after r (outputWithin (length out) list)
-    run-refused t after r = subst (Begins out after r) (fits ∙ sym (within enough ∙ by-walk ∙ told (w .number) t))
+    run-refused t after r = subst (Begins out after r) (fits ∙ sym (output-fits (length out) list enough ∙ by-walk ∙ told (w .number) t))
       where
         told : (n : ℕ) → (n ≡ 0 → ⊥) → textOf list n (w .records) ≡ refusedLine n
         told zero t = absurd (t refl)
@@ -89,7 +89,7 @@ module _ (list out : List ℕ) where
             }
           where
             all : outputWithin (length out) list ≡ text ++ endLine (w .records)
-            all = within enough ∙ by-walk ∙ ap (λ (n : ℕ). textOf list n (w .records)) z
+            all = output-fits (length out) list enough ∙ by-walk ∙ ap (λ (n : ℕ). textOf list n (w .records)) z
 
             wide : length (midOf end (length mid - end) mid) ≡ length mid - end
             wide = simp (length-take, length-drop) (omega arith)

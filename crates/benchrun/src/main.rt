@@ -1,0 +1,84 @@
+// Reads a list of calls from standard input, runs it from the starting store, and writes its text to standard output
+// (document 01, "The list of calls"). Where a read or a write fails, standard error says so; after a failed read nothing
+// has been written, and after a failed write the last line is missing.
+use libc::STDERR_FILENO;
+use libc::STDIN_FILENO;
+use libc::STDOUT_FILENO;
+use list::MOST_TEXT;
+ghost use mathlib.Core.Path.{_≡_};
+ghost use lib.ListN.{length, replicate};
+ghost use Rattle.io.specs.Counts.{Counts};
+ghost use Rattle.list.specs.Texts.{output, mostText};
+
+// The bytes that are read at most: one record more than a list has, so that a longer input is seen to be none.
+const SPACE: usize = 16384;
+
+struct Input {
+    whole: bool,
+    bytes: usize,
+}
+
+// Reads standard input to its end, or until the space is full, and tells whether no read failed.
+fn read_list(space: &mut [u8]) -> Input
+    ensures { λ r. ⌜ Counts (r .bytes) (now (space .exit)) ⌝ }
+{
+    let mut have: usize = 0;
+    while have < space.len() {
+        let got = libc::read(STDIN_FILENO, &mut space[have..]);
+        if got < 0 {
+            return Input {
+                whole: false,
+                bytes: 0,
+            };
+        }
+        let more = io::count(got, &space[have..]);
+        if more == 0 {
+            return Input {
+                whole: true,
+                bytes: have,
+            };
+        }
+        have += more;
+    }
+    Input {
+        whole: true,
+        bytes: have,
+    }
+}
+
+// Writes the text of a list. No contract can say what the system does with it; the `requires` says what it is handed.
+fn write_text(list: &[u8], text: &[u8]) -> bool
+    requires { ⌜ now text ≡ output (now list) ⌝ }
+{
+    io::write_all(STDOUT_FILENO, text)
+}
+
+// Room for the longest text.
+fn blank_text() -> [u8; 2092283]
+    ensures { λ r. ⌜ length r ≡ mostText ⌝ }
+{
+    [0; MOST_TEXT]
+}
+
+// Runs a list and writes its text.
+fn run(list: &[u8]) -> bool {
+    let mut out = blank_text();
+    let r = list::run(list, &mut out);
+    write_text(list, &out[..r])
+}
+
+fn main() {
+    let mut space = [0u8; SPACE];
+    let input = read_list(&mut space);
+    if !input.whole {
+        io::write_all(STDERR_FILENO, b"benchrun: the list could not be read\n");
+        return;
+    }
+    let n = input.bytes;
+    if !run(&space[..n]) {
+        io::write_all(
+            STDERR_FILENO,
+            b"benchrun: the text could not be written whole\n",
+        );
+    }
+}
