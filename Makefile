@@ -1,12 +1,47 @@
-# make test    the whole gate: layout, proofs, must-fail edits, programs; last line 'N passed, 0 failed'
-.PHONY: test
+# make run LIST=FILE   prove and build benchrun where that is not done yet, and run a list of calls
+LIST ?= examples/sample.list
+BENCHRUN = target/bin/benchrun
+MODEL = tests/target/release
 
+.PHONY: run
+run: $(BENCHRUN)
+	@$(BENCHRUN) < $(LIST)
+
+$(BENCHRUN):
+	rt check benchrun
+
+# make show LIST=FILE  the calls of a list beside benchrun's answers, in words
+.PHONY: show
+show: $(BENCHRUN)
+	@cargo build --quiet --release --offline --manifest-path tools/Cargo.toml
+	@$(BENCHRUN) < $(LIST) > tools/target/answers
+	@tools/target/release/listshow $(LIST) tools/target/answers
+
+# make test            the whole gate: layout, Rust tests, proofs, must-fail edits, programs, the comparison with the
+#                      model; the last line is rt's 'N passed, 0 failed'
+.PHONY: test
 test:
 	rt fmt --check
-	rt ci
+	cargo test --quiet --offline --manifest-path tests/Cargo.toml
+	cargo test --quiet --offline --manifest-path tools/Cargo.toml
+	bash -c 'set -o pipefail; rt ci 2>&1 | tee tests/target/gate.log'
+	$(MAKE) --no-print-directory compare
+	@tail -n 1 tests/target/gate.log
 
-# make bench   the measurements of docs/PERFORMANCE.md
+# make compare         benchrun against the separately written model: every example, and lists made by chance
+LISTS ?= 2000
+SEED ?= 1
+.PHONY: compare
+compare: $(BENCHRUN)
+	cargo build --quiet --release --offline --manifest-path tests/Cargo.toml
+	set -e; for list in examples/*.list examples/lists/*.list; do \
+		$(BENCHRUN) < $$list | cmp - $${list%.list}.out; done
+	$(MODEL)/lists-against $(BENCHRUN) $(SEED) $(LISTS)
+
+# make bench           the measurements of docs/PERFORMANCE.md
 .PHONY: bench
-bench:
+bench: $(BENCHRUN)
 	rt staticlib measured
 	cargo run --quiet --release --manifest-path bench/Cargo.toml
+	cargo build --quiet --release --offline --manifest-path tests/Cargo.toml
+	$(MODEL)/time-lists $(BENCHRUN) $(MODEL)/model-benchrun 500 examples/measured/reads.list examples/measured/clusters.list

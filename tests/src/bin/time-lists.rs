@@ -1,0 +1,90 @@
+//! Times two programs on a list, one after the other in turn: how long each takes from its start to its end, with the
+//! list as a file on standard input and the text going nowhere.
+
+use std::ffi::OsString;
+use std::fs::File;
+use std::io;
+use std::process::{Command, ExitCode, Stdio};
+use std::time::{Duration, Instant};
+
+const USAGE: &str = "usage: time-lists PROGRAM OTHER-PROGRAM ROUNDS LIST...";
+const BAD_USAGE: u8 = 2;
+
+struct Task {
+    programs: [OsString; 2],
+    rounds: usize,
+    lists: Vec<OsString>,
+}
+
+fn task() -> Option<Task> {
+    let mut arguments = std::env::args_os().skip(1);
+    let programs = [arguments.next()?, arguments.next()?];
+    let rounds = arguments.next()?.to_str()?.parse().ok()?;
+    let lists: Vec<OsString> = arguments.collect();
+    (rounds > 0 && !lists.is_empty()).then_some(Task {
+        programs,
+        rounds,
+        lists,
+    })
+}
+
+fn once(program: &OsString, list: &OsString) -> io::Result<Duration> {
+    let mut command = Command::new(program);
+    command.stdin(File::open(list)?).stdout(Stdio::null());
+    let start = Instant::now();
+    let status = command.status()?;
+    let taken = start.elapsed();
+    if status.success() {
+        Ok(taken)
+    } else {
+        Err(io::Error::other(format!("{program:?} ended with {status}")))
+    }
+}
+
+fn microseconds(time: Duration) -> f64 {
+    time.as_secs_f64() * 1e6
+}
+
+/// The least and the middle of the times, in microseconds.
+fn least_and_middle(times: &mut [Duration]) -> (f64, f64) {
+    times.sort();
+    (microseconds(times[0]), microseconds(times[times.len() / 2]))
+}
+
+fn run(task: &Task) -> io::Result<()> {
+    println!("least and middle of {} runs each, in us", task.rounds);
+    for list in &task.lists {
+        let mut times = [Vec::new(), Vec::new()];
+        for _ in 0..task.rounds {
+            for (program, taken) in task.programs.iter().zip(&mut times) {
+                taken.push(once(program, list)?);
+            }
+        }
+        let [first, second] = times.each_mut().map(|taken| least_and_middle(taken));
+        println!(
+            "{:<40} {:8.0} {:8.0}   {:8.0} {:8.0}   ratio {:.2} {:.2}",
+            list.to_string_lossy(),
+            first.0,
+            first.1,
+            second.0,
+            second.1,
+            first.0 / second.0,
+            first.1 / second.1
+        );
+    }
+    Ok(())
+}
+
+fn main() -> ExitCode {
+    let Some(task) = task() else {
+        eprintln!("{USAGE}");
+        return ExitCode::from(BAD_USAGE);
+    };
+    match run(&task) {
+        Ok(()) => ExitCode::SUCCESS,
+        Err(mistake) => {
+            eprintln!("time-lists: {mistake}");
+            ExitCode::FAILURE
+        }
+    }
+}
