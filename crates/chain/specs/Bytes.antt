@@ -1,7 +1,7 @@
 -- Document 01, "The list of calls": records of one width lie in bytes one after the other, numbered from 1, and byte 0
 -- of each is the number of its next.
 --     count bytes width         how many whole records there are; none of width 0, since x / 0 is 0
---     nextIn bytes width k      the next that record k names: its byte 0
+--     nextIn bytes width k      the next that record k names: its byte 0; asked of records alone, whatever it is elsewhere
 --     wayIn bytes width from    the answer of the way from the record `from`
 -- Assumes nothing.
 use Prim.Native.Nat.{ℕ, _-_, _*_, _/_}

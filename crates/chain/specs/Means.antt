@@ -2,7 +2,8 @@
 --     IsRecord n k              k is the number of a record
 --     OnRecords n next k m      the first m places of the way from k are records
 --     Whole n next k m          the way from k is on m records, no two of them the same, and then at zero
---     Leaves n next k           19: on records until then, the way from k comes to a number beyond the last record
+--     Leaves n next k           19: on records until then, the way from k comes to a number beyond the last record; that may
+--                               be k itself, where k is no record
 --     Again n next k            20: on records all the time, the way from k comes to one of them again
 --     Means n next k            the answer says which of the three it is, and each of the three gives its answer
 -- Assumes nothing.

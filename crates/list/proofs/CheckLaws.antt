@@ -14,7 +14,7 @@ use Rattle.list.specs.Records.{recordBytes, mostBytes}
 use Rattle.list.specs.Texts.{lengthNumber, badLength, checked}
 
 module _ (list : List ℕ) where
-  by-length : (t : Bool) → badLength (length list) ≡ t
+  pub by-length : (t : Bool) → badLength (length list) ≡ t
       → checked list
       ≡ cond t (refusal lengthNumber) (cond (eqb (length list) 0) (done 0) (wayIn list recordBytes 1))
   unfolding checked

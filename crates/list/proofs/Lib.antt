@@ -5,3 +5,4 @@ pub mod LineLaws
 pub mod PartLaws
 pub mod RunLaws
 pub mod OutputLaws
+pub mod MeaningLaws

@@ -1,4 +1,5 @@
 pub mod Records
 pub mod Runs
 pub mod Texts
+pub mod Meanings
 pub mod Loops

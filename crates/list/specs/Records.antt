@@ -4,7 +4,7 @@
 --     recordIn list k           the 64 bytes of record k, numbered from 1
 --     byte r i                  byte i of a record
 --     part r a n                n bytes of a record, from byte a on
---     next r, codeOf r          bytes 0 and 1: the number of the next record, and the code
+--     codeOf r                  byte 1: the code
 --     dataLength r              byte 5: the length of a write's data
 --     ownCalls, otherCalls      the kinds that a code may name: 1 to 4, which name a current node, and 5 to 9
 --     kindAmong ks c            the kind among ks whose code is c, if there is one

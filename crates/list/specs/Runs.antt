@@ -1,4 +1,4 @@
--- Document 01, "The list of calls": what a record's call does on the bench, and the text of a whole run.
+-- Document 01, "The list of calls": what the call of a record does.
 --     Bench                   what the calls of a list work on: a copy, and a buffer
 --     bench s m b             the bench of these records, this memory and this buffer
 --     ran d m b               what is left and answered by code that ends so
@@ -6,7 +6,8 @@
 --     starting                the starting store, and a buffer of zeros
 --     Performed               the bench that a record leaves, and its answer
 --     misfits k r             a write's data length is above 32
---     misfitRows x c          the rows of a call whose field 3 is bad: 1 and 2 come before it
+--     rowsAbove n rs          the rows of a list that stand above the row with the number n
+--     misfitRows x c          the rows of a write that misfits: those of the table above row 3, and row 3, which applies
 --     refused n b             refused with n: the bench as it was, the number alone
 --     answerOf r              the answer in a reply
 --     stepped k x b           what the step of the call x, of the kind k, leaves and answers; a read alone has the buffer
@@ -15,14 +16,15 @@
 -- Assumes nothing.
 use Prim.Native.Nat.{ℕ}
 use mathlib.Core.Bool.{Bool, true, false, _&&_}
-use mathlib.Core.List.{List, [], _∷_}
+use mathlib.Core.List.{List, [], _∷_, _++_, map}
 use mathlib.Core.Option.{Option, none, some}
-use lib.Dec.{ltb}
+use lib.Dec.{eqb, ltb}
 use lib.ListN.{length, replicate}
 use Rattle.handle.specs.Handles.{Row, firstOf}
+use Rattle.handle.specs.Conversion.{conversion}
 use Rattle.store.specs.declared.Store.{Store}
 use Rattle.calls.specs.Calls.{Copy, start, Kind, Call, call, among}
-use Rattle.calls.specs.Numbers.{unsound, noPlace, byCall, byRecords}
+use Rattle.calls.specs.Numbers.{rows}
 use Rattle.calls.specs.Steps.{Reply, Outcome, aesStep}
 use Rattle.front.specs.declared.Answer.{Answer}
 use Rattle.front.specs.declared.Done.{Done}
@@ -57,12 +59,15 @@ fieldNumber = 3
 abbrev pub misfits : Kind → List ℕ → Bool
 misfits k r = among (6 ∷ []) k && ltb mostData (dataLength r)
 
+abbrev pub rowsAbove : ℕ → List Row → List Row
+rowsAbove n [] = []
+rowsAbove n (r ∷ rs) = elim (eqb (r .number) n) [ true ↦ [] | false ↦ r ∷ rowsAbove n rs ]
+
 abbrev pub misfitRows : Call → Copy → List Row
 misfitRows x c =
-    byRecords 1 (unsound (length (c .memory))) x (c .store)
-    ∷ byCall 2 noPlace x (c .store)
-    ∷ row fieldNumber true
-    ∷ []
+    rowsAbove fieldNumber
+    (map (λ (r : Call → Store → Row). r x (c .store)) (rows (λ n. conversion) (length (c .memory))))
+    ++ (row fieldNumber true ∷ [])
 
 abbrev pub refused : ℕ → Bench → Performed
 refused n b = record { bench = b; answer = numberAlone n }

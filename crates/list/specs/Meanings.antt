@@ -1,0 +1,53 @@
+-- Document 01, "The list of calls": what the check of a list says, and which bytes of a record count.
+--     ListMeans list          18 for a length that is no list's; an empty list has no record; of any other list 0 with the
+--                             length, 19 and 20 mean of the way from record 1 what the table says, and say it whenever
+--                             it is so
+--     LongRefused             every input longer than a list gives the line of 18: so does its beginning, where that is
+--                             longer than a list too
+--     SameUse k r q b         two records agree in the code, in the arguments that a call of the kind k uses, and in
+--                             whether they misfit
+--     UnusedBytes             such records do the same: unused bytes are ignored
+--     BadCode                 a code outside 1 to 9 is 3, whatever the other bytes are
+-- Assumes nothing.
+use mathlib.Core.Path.{_≡_}
+use mathlib.Core.Logic.{_↔_}
+use Prim.Native.Nat.{ℕ, _<_}
+use mathlib.Core.Bool.{true, false}
+use mathlib.Core.List.{List}
+use mathlib.Core.Option.{none, some}
+use lib.ListN.{length}
+use Rattle.calls.specs.Calls.{Kind, uses}
+use Rattle.chain.specs.Way.{linkNumber, loopNumber, done, refusal}
+use Rattle.chain.specs.Means.{Whole, Leaves, Again}
+use Rattle.chain.specs.Bytes.{count, nextIn}
+use Rattle.isolation.specs.Checks.{trimmed}
+use Rattle.lines.specs.Lines.{refusedLine}
+use Rattle.list.specs.Records.{recordBytes, mostBytes, codeOf, kindOf, argumentsOf}
+use Rattle.list.specs.Runs.{Bench, misfits, fieldNumber, refused, performed}
+use Rattle.list.specs.Texts.{lengthNumber, badLength, checked, output}
+
+pub record ListMeans (list : List ℕ) : Type 0 where
+  pub no-list : badLength (length list) ≡ true → checked list ≡ refusal lengthNumber
+  pub empty : length list ≡ 0 → checked list ≡ done 0
+  pub whole : badLength (length list) ≡ false → (length list ≡ 0 → ⊥) → (m : ℕ)
+      → (checked list ≡ done m) ↔ Whole (count list recordBytes) (nextIn list recordBytes) 1 m
+  pub leaves : badLength (length list) ≡ false → (length list ≡ 0 → ⊥)
+      → (checked list .number ≡ linkNumber) ↔ Leaves (count list recordBytes) (nextIn list recordBytes) 1
+  pub again : badLength (length list) ≡ false → (length list ≡ 0 → ⊥)
+      → (checked list .number ≡ loopNumber) ↔ Again (count list recordBytes) (nextIn list recordBytes) 1
+
+abbrev pub LongRefused : Type 0
+LongRefused = (list : List ℕ) → mostBytes < length list → output list ≡ refusedLine lengthNumber
+
+pub record SameUse (k : Kind) (r q b : List ℕ) : Type 0 where
+  pub codes : codeOf r ≡ codeOf q
+  pub arguments : trimmed (uses k) (argumentsOf k r b) ≡ trimmed (uses k) (argumentsOf k q b)
+  pub data-lengths : misfits k r ≡ misfits k q
+
+abbrev pub UnusedBytes : Type 0
+UnusedBytes =
+    (k : Kind) (r q : List ℕ) (b : Bench) → kindOf (codeOf r) ≡ some k → SameUse k r q (b .buffer)
+    → performed r b ≡ performed q b
+
+abbrev pub BadCode : Type 0
+BadCode = (r : List ℕ) (b : Bench) → kindOf (codeOf r) ≡ none → performed r b ≡ refused fieldNumber b
