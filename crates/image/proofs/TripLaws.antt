@@ -10,6 +10,8 @@ use borrow.Author.Tests.{eqb-true, leb-true, ne-eqb}
 use lib.Dec.{eqb, leb}
 use lib.ListN.{length, getD, take, drop, length-append, length-drop, take-append-drop, replicate}
 use lib.Seq.{take-at, drop-at, take-all, drop-drop}
+use mir.Val.{Fits}
+use mir.Syntax.{w8}
 use Rattle.bits.specs.Bytes.{bytes, word}
 use Rattle.bits.proofs.ByteLaws.{length-bytes, word-bytes, bytes-word}
 use Rattle.loops.proofs.BelowLaws.{and-left, and-right, and-both, every-at, every-in}
@@ -260,6 +262,12 @@ image-store b h g =
     ∙ record-back (slot recordBytes b n) (bytes-slot recordBytes records b n h l)
     (every-at records (λ k. goodRecord (slot recordBytes b k)) g n l))
     ∙ joined-slots recordBytes records b (h .long)
+
+-- the same, in the code's own terms
+pub image-held : (b : List ℕ) → length b ≡ imageBytes → ((i : ℕ) → Fits w8 (getD b i 0)) → (g : Bool) → g ≡ good b
+    → (s : Store) → s ≡ storeIn b → g ≡ true → imageOf s ≡ b
+image-held b l f g eg s es t =
+    ap imageOf es ∙ image-store b (record { long = l; below = λ i. f i .fits }) (sym eg ∙ t)
 
 -- the starting store's image is all zeros
 pub image-starting : imageOf startingStore ≡ replicate imageBytes 0

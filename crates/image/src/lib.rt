@@ -1,6 +1,7 @@
 // The image of a store: its records as 2,080 bytes, for callers who keep the store themselves.
 use store::Store;
 ghost use mathlib.Core.Path.{_≡_};
+ghost use mathlib.Core.Bool.{true};
 ghost use Rattle.image.specs.Images as images;
 
 mod reading; // reading.rt: from bytes
@@ -29,14 +30,14 @@ pub struct Decoded {
     pub store: Store,
 }
 
-// The store that the bytes hold, and whether they are the bytes of one.
+// The store that the bytes hold, and whether they are the bytes of one; if so, they are its image.
 pub fn decode(image: &[u8; IMAGE]) -> Decoded
     ensures good { λ r. ⌜ r .good ≡ images.good (now (image .entry)) ⌝ }
     ensures store { λ r. ⌜ r .store ≡ images.storeIn (now (image .entry)) ⌝ }
+    ensures whole { λ r. ⌜ (r .good ≡ true → images.imageOf (r .store) ≡ now (image .entry)) ⌝ }
 {
-    let good = reading::good(image);
-    let store = reading::store_in(image);
-    Decoded { good, store }
+    let all = &image[..];
+    reading::decoded(all)
 }
 
 // Writes the image of a store.

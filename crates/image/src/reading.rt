@@ -1,6 +1,6 @@
 // From bytes: whether they are those of places, records and a store, and which.
 use crate::BYTE;
-use crate::IMAGE;
+use crate::Decoded;
 use crate::PLACE;
 use crate::PLACES_AT;
 use crate::READ_AT;
@@ -14,6 +14,7 @@ use store::SEGMENTS;
 use store::Segment;
 use store::Store;
 ghost use mathlib.Core.Path.{_≡_};
+ghost use mathlib.Core.Bool.{true};
 ghost use mathlib.Core.List.{[], _∷_};
 ghost use Prim.Native.Nat.{_*_};
 ghost use lib.ListN.{length};
@@ -116,29 +117,41 @@ fn cluster_in(b: &[u8]) -> Cluster
 }
 
 // Whether the bytes are those of a store: each record is that of a cluster.
-pub fn good(image: &[u8; IMAGE]) -> bool
+fn good(image: &[u8]) -> bool
+    requires { ⌜ length (now image) ≡ images.imageBytes ⌝ }
     ensures { λ r. ⌜ r ≡ images.good (now (image .entry)) ⌝ }
 {
-    let all = &image[..];
     let mut good = true;
     for n in 0..RECORDS {
         let from = n * RECORD;
         let to = from + RECORD;
-        good = good_record(&all[from..to]) & good;
+        good = good_record(&image[from..to]) & good;
     }
     good
 }
 
 // The store that the bytes hold.
-pub fn store_in(image: &[u8; IMAGE]) -> Store
+fn store_in(image: &[u8]) -> Store
+    requires { ⌜ length (now image) ≡ images.imageBytes ⌝ }
     ensures { λ r. ⌜ r ≡ images.storeIn (now (image .entry)) ⌝ }
 {
-    let all = &image[..];
     let mut clusters = [store::inactive_cluster(); RECORDS];
     for n in 0..RECORDS {
         let from = n * RECORD;
         let to = from + RECORD;
-        clusters[n] = cluster_in(&all[from..to]);
+        clusters[n] = cluster_in(&image[from..to]);
     }
     Store { clusters }
+}
+
+// Both.
+pub fn decoded(image: &[u8]) -> Decoded
+    requires { ⌜ length (now image) ≡ images.imageBytes ⌝ }
+    ensures good { λ r. ⌜ r .good ≡ images.good (now (image .entry)) ⌝ }
+    ensures store { λ r. ⌜ r .store ≡ images.storeIn (now (image .entry)) ⌝ }
+    ensures whole { λ r. ⌜ (r .good ≡ true → images.imageOf (r .store) ≡ now (image .entry)) ⌝ }
+{
+    let good = good(image);
+    let store = store_in(image);
+    Decoded { good, store }
 }

@@ -10,10 +10,10 @@ use Rattle.image.proofs.reading.good.Statement.{statement}
 use Rattle.image.proofs.reading.good.Tie as tie
 
 abbrev Inv-loop : tie.InvT-loop
-Inv-loop image all good₀ n₀ good n = Running records (λ k. images.goodRecord (slot images.recordBytes image k)) n good
+Inv-loop image good₀ n₀ good n = Running records (λ k. images.goodRecord (slot images.recordBytes image k)) n good
 
 abbrev μ-loop : tie.MeasureT-loop
-μ-loop image all good₀ n₀ good n = records - n
+μ-loop image good₀ n₀ good n = records - n
 
 loop-holds : tie.Need-loop-holds Inv-loop μ-loop
 loop-holds c = running-none _ _

@@ -13,10 +13,10 @@ use Rattle.image.proofs.reading.store_in.Statement.{statement}
 use Rattle.image.proofs.reading.store_in.Tie as tie
 
 abbrev Inv-loop : tie.InvT-loop
-Inv-loop image all clusters₀ n₀ clusters n = Filled records (λ k. clusterIn (slot recordBytes image k)) noCluster n clusters
+Inv-loop image clusters₀ n₀ clusters n = Filled records (λ k. clusterIn (slot recordBytes image k)) noCluster n clusters
 
 abbrev μ-loop : tie.MeasureT-loop
-μ-loop image all clusters₀ n₀ clusters n = records - n
+μ-loop image clusters₀ n₀ clusters n = records - n
 
 loop-holds : tie.Need-loop-holds Inv-loop μ-loop
 loop-holds c = filled-none records _ noCluster _ refl
