@@ -14,7 +14,7 @@ use Rattle.front.specs.declared.Answer.{Answer}
 use Rattle.front.specs.Entries.{copyOf, replied, ended, numberAlone}
 use Rattle.calls.specs.Calls.{Copy, Call, Arguments, call, weaken, validate, buffer}
 use Rattle.calls.specs.Numbers.{number}
-use Rattle.calls.specs.Steps.{Reply, Outcome, zeroHandle, left as lefts, outcome, step, aesStep}
+use Rattle.calls.specs.Steps.{Reply, Outcome, plain, zeroHandle, left as lefts, outcome, step, aesStep}
 use Rattle.image.specs.Images.{good, storeIn, imageOf}
 use Rattle.gelmuszta.specs.Exported.{replyOf, Performed, answered, unsoundNumber, damaged, imaged}
 use Rattle.gelmuszta.specs.Exported.{performed, kept, Always}
@@ -22,7 +22,7 @@ use Rattle.gelmuszta.proofs.ReplyLaws.{Silent, OneHandle, TwoHandles, L
 use Rattle.gelmuszta.proofs.ReplyLaws.{handles-reply, count-reply, length-reply, silent-known}
 use Rattle.gelmuszta.proofs.ReplyLaws.{done-number, validate-silent, weaken-counts}
 
-abbrev picked : Call → List ℕ → List ℕ → Bool → Performed
+abbrev pub picked : Call → List ℕ → List ℕ → Bool → Performed
 picked x b m g = elim g [ true ↦ imaged (aesStep x (copyOf (storeIn b) m)) | false ↦ damaged x b m ]
 
 -- the image to keep
@@ -36,11 +36,14 @@ unfolding kept
 kept-done n s b after z e = e ∙ sym (ap (λ (k : ℕ). kept k s b) z)
 
 -- a step whose number is not 0 leaves the copy as it was
-copy-refused : (x : Call) (c : Copy) → (aesStep x c .reply .number ≡ 0 → ⊥) → aesStep x c .copy ≡ c
+pub step-leaves : (x : Call) (c : Copy) → (aesStep x c .reply .number ≡ 0 → ⊥)
+    → aesStep x c ≡ record { copy = c; reply = plain (aesStep x c .reply .number) (buffer x) }
 unfolding step
-copy-refused x c h = go (number (λ n. conversion) x (c .store) (length (c .memory))) h
+step-leaves x c h = go (number (λ n. conversion) x (c .store) (length (c .memory))) h
   where
-    go : (n : ℕ) → (outcome (λ n. conversion) n x c .reply .number ≡ 0 → ⊥) → outcome (λ n. conversion) n x c .copy ≡ c
+    go : (n : ℕ) → (outcome (λ n. conversion) n x c .reply .number ≡ 0 → ⊥)
+        → outcome (λ n. conversion) n x c
+        ≡ record { copy = c; reply = plain (outcome (λ n. conversion) n x c .reply .number) (buffer x) }
     go zero h = absurd (h (done-number (x .kind) x c))
     go (suc n) h = refl
 
@@ -88,7 +91,7 @@ module _ (x : Call) (b m : List ℕ) (g : Bool) (eg : g ≡ good b) where
             go (suc i) z f =
                 f
                 ∙ sym image-is
-                ∙ sym (ap (λ (c : Copy). imageOf (c .store)) (copy-refused x (copyOf s m) other))
+                ∙ sym (ap (λ (o : Outcome). imageOf (o .copy .store)) (step-leaves x (copyOf s m) other))
               where
                 above : (i : ℕ) → suc i ≡ 0 → ⊥
                 above i q = omega arith

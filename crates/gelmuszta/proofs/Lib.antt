@@ -1,3 +1,4 @@
 pub mod ReplyLaws
 pub mod ExportLaws
-pub mod BatchLaws
+pub mod ValidationLaws
+pub mod RowLaws

@@ -1,2 +1,3 @@
 pub mod Exported
-pub mod Batch
+pub mod Validation
+pub mod Rows

@@ -1,4 +1,4 @@
-// What concerns a handle and changes nothing: conversion, weakening, reduction, validation.
+// Conversion, weakening and reduction: new passwords and handles from old ones.
 use front::UNSOUND;
 use image::IMAGE;
 ghost use mathlib.Core.Path.{_≡_};
@@ -8,7 +8,6 @@ ghost use Rattle.calls.specs.Calls as calls;
 ghost use Rattle.calls.specs.Steps.{zeroHandle};
 ghost use Rattle.front.specs.Entries.{asked};
 ghost use Rattle.gelmuszta.specs.Exported.{replyOf, answered, performed, Always};
-ghost use Rattle.gelmuszta.specs.Batch.{validating};
 
 // The password that a parameter turns a password into.
 #[no_mangle]
@@ -63,24 +62,4 @@ pub extern "C" fn gelmuszta_reduce(
     let g = answer.first;
     *given = g;
     answer.number
-}
-
-// Validation asked for by itself: the number that reduction would give.
-#[no_mangle]
-pub extern "C" fn gelmuszta_validate(
-    image: &[u8; IMAGE],
-    memory: &[u8],
-    mode: u8,
-    handle: &[u8; 23],
-) -> u8
-    ensures { λ r. ⌜ answered r zeroHandle zeroHandle 0 0 [] (now (image .entry)) (now (memory .entry))
-        ≡ performed (validating mode (now (handle .entry))) (now (image .entry)) (now (memory .entry)) ⌝ }
-{
-    let opened = image::decode(image);
-    let good = opened.good;
-    if !good {
-        return UNSOUND;
-    }
-    let h = *handle;
-    guard::validate(opened.store, memory, mode, h)
 }

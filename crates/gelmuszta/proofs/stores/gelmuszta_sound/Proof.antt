@@ -1,6 +1,6 @@
 -- Both tests of the store.
 -- Assumes nothing.
-use Rattle.gelmuszta.proofs.BatchLaws.{both-sound}
+use Rattle.gelmuszta.proofs.ValidationLaws.{both-sound}
 use borrow.Author.Needs.{needs}
 use Rattle.gelmuszta.proofs.stores.gelmuszta_sound.Statement.{statement}
 use Rattle.gelmuszta.proofs.stores.gelmuszta_sound.Tie as tie

@@ -7,8 +7,8 @@ use Rattle.handle.specs.Sizes.{handleBytes}
 use Rattle.loops.proofs.TabulateLaws.{Filled, filled-none, filled-more}
 use Rattle.image.proofs.WrittenLaws.{filled-copy}
 use borrow.Author.Needs.{needs}
-use Rattle.gelmuszta.proofs.batch.handle_in.Statement.{statement}
-use Rattle.gelmuszta.proofs.batch.handle_in.Tie as tie
+use Rattle.gelmuszta.proofs.validation.handle_in.Statement.{statement}
+use Rattle.gelmuszta.proofs.validation.handle_in.Tie as tie
 
 abbrev Inv-loop : tie.InvT-loop
 Inv-loop b r₀ i₀ r i = Filled handleBytes (λ k. getD b k 0) 0 i r

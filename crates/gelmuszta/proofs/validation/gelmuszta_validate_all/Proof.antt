@@ -1,9 +1,9 @@
 -- As many as both hold; each number is the one that the handle gets by itself.
 -- Assumes nothing.
-use Rattle.gelmuszta.proofs.BatchLaws.{count-within, count-whole, both-sound, numbers-are}
+use Rattle.gelmuszta.proofs.ValidationLaws.{count-within, count-whole, both-sound, numbers-are}
 use borrow.Author.Needs.{needs}
-use Rattle.gelmuszta.proofs.batch.gelmuszta_validate_all.Statement.{statement}
-use Rattle.gelmuszta.proofs.batch.gelmuszta_validate_all.Tie as tie
+use Rattle.gelmuszta.proofs.validation.gelmuszta_validate_all.Statement.{statement}
+use Rattle.gelmuszta.proofs.validation.gelmuszta_validate_all.Tie as tie
 
 part-judge-end : tie.Need-part-judge-end
 part-judge-end c = search (needs, count-within)

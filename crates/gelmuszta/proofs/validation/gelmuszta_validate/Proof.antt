@@ -2,8 +2,8 @@
 -- Assumes nothing.
 use Rattle.gelmuszta.proofs.ExportLaws.{refused-damaged, validate-told}
 use borrow.Author.Needs.{needs}
-use Rattle.gelmuszta.proofs.handles.gelmuszta_validate.Statement.{statement}
-use Rattle.gelmuszta.proofs.handles.gelmuszta_validate.Tie as tie
+use Rattle.gelmuszta.proofs.validation.gelmuszta_validate.Statement.{statement}
+use Rattle.gelmuszta.proofs.validation.gelmuszta_validate.Tie as tie
 
 returns : tie.Need-returns
 returns c = search (needs, refused-damaged)

@@ -1,9 +1,9 @@
 -- One comparison.
 -- Assumes nothing.
-use Rattle.gelmuszta.proofs.BatchLaws.{fewer-first, fewer-second}
+use Rattle.gelmuszta.proofs.ValidationLaws.{fewer-first, fewer-second}
 use borrow.Author.Needs.{needs}
-use Rattle.gelmuszta.proofs.batch.fewer.Statement.{statement}
-use Rattle.gelmuszta.proofs.batch.fewer.Tie as tie
+use Rattle.gelmuszta.proofs.validation.fewer.Statement.{statement}
+use Rattle.gelmuszta.proofs.validation.fewer.Tie as tie
 
 returns : tie.Need-returns
 returns c = search (needs, fewer-first)

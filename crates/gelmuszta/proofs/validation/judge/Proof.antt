@@ -5,11 +5,11 @@ use lib.ListN.{length}
 use Rattle.handle.specs.Sizes.{handleBytes}
 use Rattle.loops.proofs.TabulateLaws.{Filled, filled-none}
 use Rattle.image.specs.Parts.{slot}
-use Rattle.gelmuszta.specs.Batch.{judged}
-use Rattle.gelmuszta.proofs.BatchLaws.{places-more, places-all, judged-is}
+use Rattle.gelmuszta.specs.Validation.{judged}
+use Rattle.gelmuszta.proofs.ValidationLaws.{places-more, places-all, judged-is}
 use borrow.Author.Needs.{needs}
-use Rattle.gelmuszta.proofs.batch.judge.Statement.{statement}
-use Rattle.gelmuszta.proofs.batch.judge.Tie as tie
+use Rattle.gelmuszta.proofs.validation.judge.Statement.{statement}
+use Rattle.gelmuszta.proofs.validation.judge.Tie as tie
 
 abbrev Inv-loop : tie.InvT-loop
 Inv-loop tables sound mode handles numbers₀ store i₀ numbers i = Filled (length numbers₀) (λ k. judged sound store mode (slot handleBytes handles k)) 0 i numbers

@@ -24,7 +24,7 @@ use Rattle.calls.specs.Steps.{aesStep}
 use Rattle.image.specs.Parts.{slot}
 use Rattle.image.specs.Images.{good, storeIn}
 use Rattle.gelmuszta.specs.Exported.{Performed, damaged, imaged, performed}
-use Rattle.gelmuszta.specs.Batch.{validating, numberOf, fewer, asMany, numbersOf, judged, ofHandle}
+use Rattle.gelmuszta.specs.Validation.{validating, numberOf, fewer, asMany, numbersOf, judged, ofHandle}
 
 -- ---- how many
 

@@ -1,5 +1,7 @@
-// Many handles validated against one store: it is decoded, judged sound and the cipher's tables are taken once.
+// Validation of one handle, and of many against one store: it is decoded and judged sound, and the cipher's tables are
+// taken, once.
 use aes::Tables;
+use front::UNSOUND;
 use front::bad_mode;
 use front::front;
 use front::record_at;
@@ -7,19 +9,42 @@ use handle::Handle;
 use image::IMAGE;
 use store::Store;
 ghost use mathlib.Core.Path.{_≡_};
+ghost use mathlib.Core.List.{[]};
 ghost use Prim.Native.Nat.{_*_, _≤_};
 ghost use lib.ListN.{length};
 ghost use Rattle.aes.specs.Tables.{IsTables};
 ghost use Rattle.loops.specs.Tabulate.{tabulate};
 ghost use Rattle.handle.specs.Sizes.{handleBytes};
+ghost use Rattle.calls.specs.Steps.{zeroHandle};
 ghost use Rattle.image.specs.Parts.{slot};
-ghost use Rattle.gelmuszta.specs.Batch as batch-spec;
+ghost use Rattle.gelmuszta.specs.Exported.{answered, performed};
+ghost use Rattle.gelmuszta.specs.Validation as spec;
 
 // Bytes of a handle.
 const HANDLE: usize = 23;
 
+// Validation asked for by itself: the number that reduction would give.
+#[no_mangle]
+pub extern "C" fn gelmuszta_validate(
+    image: &[u8; IMAGE],
+    memory: &[u8],
+    mode: u8,
+    handle: &[u8; 23],
+) -> u8
+    ensures { λ r. ⌜ answered r zeroHandle zeroHandle 0 0 [] (now (image .entry)) (now (memory .entry))
+        ≡ performed (spec.validating mode (now (handle .entry))) (now (image .entry)) (now (memory .entry)) ⌝ }
+{
+    let opened = image::decode(image);
+    let good = opened.good;
+    if !good {
+        return UNSOUND;
+    }
+    let h = *handle;
+    guard::validate(opened.store, memory, mode, h)
+}
+
 fn fewer(a: usize, b: usize) -> usize
-    ensures { λ r. ⌜ r ≡ batch-spec.fewer a b ⌝ }
+    ensures { λ r. ⌜ r ≡ spec.fewer a b ⌝ }
 {
     if a < b {
         return a;
@@ -43,7 +68,7 @@ fn handle_in(b: &[u8]) -> [u8; 23]
 fn judge(tables: &Tables, sound: bool, store: Store, mode: u8, handles: &[u8], numbers: &mut [u8])
     requires tables { ⌜ IsTables (now tables) ⌝ }
     requires enough { ⌜ length (now numbers) * handleBytes ≤ length (now handles) ⌝ }
-    ensures { λ _. ⌜ now (numbers .exit) ≡ tabulate (length (now (numbers .entry))) (λ i. batch-spec.judged sound store mode (slot handleBytes (now (handles .entry)) i)) ⌝ }
+    ensures { λ _. ⌜ now (numbers .exit) ≡ tabulate (length (now (numbers .entry))) (λ i. spec.judged sound store mode (slot handleBytes (now (handles .entry)) i)) ⌝ }
 {
     let mut i: usize = 0;
     while i < numbers.len() {
@@ -68,8 +93,8 @@ pub extern "C" fn gelmuszta_validate_all(
     handles: &[u8],
     numbers: &mut [u8],
 ) -> usize
-    ensures told { λ r. ⌜ r ≡ batch-spec.asMany (now (handles .entry)) (now (numbers .entry)) ⌝ }
-    ensures numbers { λ _. ⌜ now (numbers .exit) ≡ batch-spec.numbersOf (now (image .entry)) (now (memory .entry)) mode (now (handles .entry)) (now (numbers .entry)) ⌝ }
+    ensures told { λ r. ⌜ r ≡ spec.asMany (now (handles .entry)) (now (numbers .entry)) ⌝ }
+    ensures numbers { λ _. ⌜ now (numbers .exit) ≡ spec.numbersOf (now (image .entry)) (now (memory .entry)) mode (now (handles .entry)) (now (numbers .entry)) ⌝ }
 {
     let tables = aes::tables();
     let opened = image::decode(image);
