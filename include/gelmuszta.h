@@ -19,13 +19,13 @@
  *   memory   the four nodes' memories, node 0 first. The store is sound only with a length of exactly
  *            GELMUSZTA_MEMORY (16,384) bytes. In the starting store they are all zero, which is the caller's to do.
  *
- * A handle has GELMUSZTA_HANDLE (23) bytes: node (two, high byte first), local number (one), password (sixteen), selector
- * (four). A password has GELMUSZTA_PASSWORD (16). Modes are GELMUSZTA_MODE_READ and GELMUSZTA_MODE_WRITE.
+ * A handle has GELMUSZTA_HANDLE (23) bytes: node (two, high byte first), local number (one), password (sixteen),
+ * selector (four). A password has GELMUSZTA_PASSWORD (16). Modes are GELMUSZTA_MODE_READ and GELMUSZTA_MODE_WRITE.
  *
- * Each call returns a number, 0 for done. When several refusals apply, the first of them in the order below is given. On a
- * refusal the handles given are 23 zero bytes, counts and lengths are zero, and image, memory and buffer stay as they
- * were, byte for byte. Numeric arguments are not cut: a node, local number, segment or size out of its range is refused,
- * however large.
+ * Each call returns a number, 0 for done. When several refusals apply, the first of them in the order below is given.
+ * On a refusal the handles given are 23 zero bytes, counts and lengths are zero, and image, memory and buffer stay as
+ * they were, byte for byte. Numeric arguments are not cut: a node, local number, segment or size out of its range is
+ * refused, however large.
  *
  * What the caller must see to, since no proof can:
  *
@@ -34,8 +34,8 @@
  *   - bytes that a call may write overlap with nothing else that the call is given;
  *   - while a call runs, nobody else writes what it is given, or reads what it may write.
  *
- * Nothing is kept between calls and nothing is allocated, so calls on different stores may run at the same time. A call
- * uses about 20 kilobytes of stack.
+ * Nothing is kept between calls and nothing is allocated, so calls on different stores may run at the same time. A
+ * call uses about 20 kilobytes of stack.
  */
 #ifndef GELMUSZTA_H
 #define GELMUSZTA_H
@@ -137,9 +137,10 @@ uint8_t gelmuszta_new_password(uint8_t image[GELMUSZTA_IMAGE], const uint8_t *me
 uint8_t gelmuszta_validate(const uint8_t image[GELMUSZTA_IMAGE], const uint8_t *memory, size_t memory_length,
                            uint8_t mode, const uint8_t handle[GELMUSZTA_HANDLE]);
 
-/* Validation of many handles, 23 bytes each, one after the other: numbers[i] becomes what gelmuszta_validate gives for
- * handle i. As many are judged as `handles` has whole and `numbers` has places for; how many that is, is returned. Bytes
- * of a handle cut short are not looked at, and places of `numbers` without a handle stay as they were. */
+/* Validation of many handles, 23 bytes each, one after the other: numbers[i] becomes what gelmuszta_validate gives
+ * for handle i. As many are judged as `handles` has whole and `numbers` has places for; how many that is, is
+ * returned. Bytes of a handle cut short are not looked at, and places of `numbers` without a handle stay as they
+ * were. */
 size_t gelmuszta_validate_all(const uint8_t image[GELMUSZTA_IMAGE], const uint8_t *memory, size_t memory_length,
                               uint8_t mode, const uint8_t *handles, size_t handles_length, uint8_t *numbers,
                               size_t numbers_length);

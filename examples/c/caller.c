@@ -18,7 +18,8 @@ int main(void) {
     printf("weaken %d", gelmuszta_weaken(reader, 1u << segment, weaker, &count));
     printf(", %d segment\nhandle ", count);
     for (size_t i = 0; i < sizeof weaker; i++) printf("%02x", weaker[i]);
-    printf("\nread %d", gelmuszta_read(image, memory, sizeof memory, segment, weaker, buffer, sizeof buffer, &length));
+    printf("\nread %d",
+           gelmuszta_read(image, memory, sizeof memory, segment, weaker, buffer, sizeof buffer, &length));
     printf(", %zu bytes: %.*s\n", length, (int)length, (const char *)buffer);
     printf("write by the reader %d\n",
            gelmuszta_write(image, memory, sizeof memory, segment, weaker, (const uint8_t *)"spots", 5));

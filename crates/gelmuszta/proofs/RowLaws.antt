@@ -6,13 +6,12 @@ use mathlib.Core.Bool.{Bool, true, false}
 use mathlib.Core.List.{List, [], _∷_}
 use Prim.Native.Nat.{ℕ}
 use Rattle.handle.specs.Conversion.{conversion}
-use Rattle.handle.specs.Handles.{Bytes}
 use Rattle.store.specs.declared.Store.{Store}
 use Rattle.calls.specs.Calls.{Call}
-use Rattle.calls.specs.Steps.{Outcome, run, aesStep}
+use Rattle.calls.specs.Steps.{run, aesStep}
 use Rattle.front.specs.Entries.{copyOf}
-use Rattle.image.specs.Images.{imageBytes, good, storeIn, imageOf}
-use Rattle.image.specs.Ranges.{PasswordsFit, StoreFits}
+use Rattle.image.specs.Images.{good, storeIn, imageOf}
+use Rattle.image.specs.Ranges.{StoreFits}
 use Rattle.image.proofs.TripLaws.{good-image, store-image, image-store}
 use Rattle.image.proofs.RangeLaws.{store-held, step-fits}
 use Rattle.gelmuszta.specs.Exported.{Performed, damaged, imaged, performed}

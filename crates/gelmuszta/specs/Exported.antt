@@ -3,9 +3,11 @@
 --     Performed             the reply, and the image and the memory that are left
 --     answered ..           what an exported function gave and left: its number, two handles, count, length, buffer, image
 --                           and memory; where it gives no such value, zeros stand for it, as in every reply
+--     unsoundNumber         the table's number for unsound
 --     damaged x b m         an image that holds no store is refused as an unsound one is, with 1, and all stays as it was
 --     imaged o              what a step gave and left, the store as its image
 --     performed x b m       the call x on the image b and the memory m: the step on the store that b holds
+--                           (weakening, which sees no store, is stated by Always instead)
 --     kept n s b            the image to leave where the number is n and s is the store: as it was after a refusal
 --     Always x r            on every store and memory the call x gives the reply r, and leaves both as they were
 -- Assumes nothing.

@@ -1,8 +1,10 @@
 -- Rows of calls on an image, each on the image and the memory that the one before it left.
 --     AllFit xs          each password that a call of the list takes in has sixteen bytes, as an exported function's has
 --     Rowed              the replies of a row, and the image and the memory at its end
+--     followedBy r n     the reply r, and then the row's
 --     row xs b m         the row of the calls xs from the image b and the memory m on
 --     imagedRun n        a run of steps, the store at its end as its image
+--     refusedWith n      the reply of a refusal with n; image and memory are those given
 -- Statements:
 --     RowsAreRuns        on an image that holds a store a row gives and leaves what the run of steps on that store does, so
 --                        what is proved of runs, condition 3 with it, holds of rows

@@ -5,7 +5,9 @@
 --     fewer a b                  the smaller of the two
 --     asMany hs ns               how many handles are judged: as many as hs has whole and ns has places for
 --     numbersOf b m mode hs ns   ns afterwards: the numbers of the handles judged, in their order, and then what was there
---     judged sound s mode h      the number from the rows that validation has, where it is known whether the store is sound
+--     ofHandle sound s mode h    the number of a handle from the rows that validation has, where it is known whether the
+--                                store is sound
+--     judged sound s mode h      that of the handle of the bytes h
 -- Assumes nothing.
 use Prim.Native.Nat.{ℕ, _/_}
 use mathlib.Core.Bool.{Bool, true, false}

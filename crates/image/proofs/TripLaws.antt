@@ -158,10 +158,10 @@ module _ (f : ℕ) (r w s : List ℕ) (lr : length r ≡ passwordBytes) (lw : le
 
   part-places : part (f ∷ (r ++ (w ++ s))) placesAt recordBytes ≡ s
   part-places =
-      ap (λ (z : List ℕ). take 32 (drop 32 z)) (sym (append-assoc r w s))
-      ∙ ap (take 32)
-      (drop-at (r ++ w) s 32 (length-append r w ∙ ap₂ (λ (a b : ℕ). a + b) lr lw))
-      ∙ take-all 32 s (omega arith)
+      ap (λ (z : List ℕ). take (segments * placeBytes) (drop (passwordBytes + passwordBytes) z)) (sym (append-assoc r w s))
+      ∙ ap (take (segments * placeBytes))
+      (drop-at (r ++ w) s (passwordBytes + passwordBytes) (length-append r w ∙ ap₂ (λ (a b : ℕ). a + b) lr lw))
+      ∙ take-all (segments * placeBytes) s (omega arith)
 
   length-all : length (f ∷ (r ++ (w ++ s))) ≡ recordBytes
   length-all = simp (length-append, lr, lw, ls)
@@ -213,17 +213,17 @@ record-back (x ∷ q) h g =
     active (suc zero) b = refl
     active (suc (suc x)) b = absurd (omega arith)
 
-    last : placesOut (segmentsIn (part (x ∷ q) placesAt recordBytes)) ≡ drop 32 q
+    last : placesOut (segmentsIn (part (x ∷ q) placesAt recordBytes)) ≡ drop (passwordBytes + passwordBytes) q
     last =
         segments-back (part (x ∷ q) placesAt recordBytes) (bytes-part recordBytes (x ∷ q) placesAt recordBytes h (omega arith))
         (and-right (leb x 1) (goodPlaces (part (x ∷ q) placesAt recordBytes)) g)
-        ∙ take-all 32 (drop 32 q) (rw length-drop (let z = h .long in omega arith))
+        ∙ take-all (segments * placeBytes) (drop (passwordBytes + passwordBytes) q) (rw length-drop (let z = h .long in omega arith))
 
-    rest : take 16 q ++ (take 16 (drop 16 q) ++ placesOut (segmentsIn (part (x ∷ q) placesAt recordBytes))) ≡ q
+    rest : take passwordBytes q ++ (take passwordBytes (drop passwordBytes q) ++ placesOut (segmentsIn (part (x ∷ q) placesAt recordBytes))) ≡ q
     rest =
-        ap (λ (z : List ℕ). take 16 q ++ (take 16 (drop 16 q) ++ z)) (last ∙ sym (drop-drop 16 16 q))
-        ∙ ap (λ (z : List ℕ). take 16 q ++ z) (take-append-drop 16 (drop 16 q))
-        ∙ take-append-drop 16 q
+        ap (λ (z : List ℕ). take passwordBytes q ++ (take passwordBytes (drop passwordBytes q) ++ z)) (last ∙ sym (drop-drop passwordBytes passwordBytes q))
+        ∙ ap (λ (z : List ℕ). take passwordBytes q ++ z) (take-append-drop passwordBytes (drop passwordBytes q))
+        ∙ take-append-drop passwordBytes q
 
 -- ---- the store
 

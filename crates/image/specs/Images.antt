@@ -4,11 +4,15 @@
 --     wordBytes, placeBytes, recordBytes, imageBytes    how many bytes a base or a length has, a place, a record, an image
 --     readAt, writeAt, placesAt    where the passwords and the places begin in a record
 -- What the bytes hold:
---     placeIn, segmentsIn, clusterIn, storeIn      a place, eight segments, a record, the store
+--     baseIn, lengthIn                             the base and the length in four bytes
+--     placeWith zero base length                   a place from them: absent where the length is zero
+--     placeIn, segmentIn, segmentsIn, clusterIn, storeIn    a place, segment i, eight segments, a cluster, the store
 --     goodPlace, goodPlaces, goodRecord, good      the bytes are those of a place, of eight, of a record, of a store: no
 --                                                  active byte is above 1, no absent segment has a base
 -- The bytes of each:
---     placeOut, placesOut, recordOut, imageOf
+--     placeOut, segmentOut, placesOut              of a place, of the place of segment i, of eight
+--     activeOut, recordOut                         the active byte, and a record
+--     imageOf                                      the image of a store
 -- Assumes nothing.
 use Prim.Native.Nat.{ℕ, _+_, _*_}
 use mathlib.Core.Bool.{Bool, true, false, not, _&&_, _||_}

@@ -24,7 +24,7 @@ const PLACES_AT: usize = 33;
 // How many values a byte has.
 const BYTE: u16 = 256;
 
-// The store that an image holds, and whether it is one: a damaged image holds no store.
+// Whether an image is good, and the store that it holds; that of a damaged image means nothing.
 pub struct Decoded {
     pub good: bool,
     pub store: Store,
