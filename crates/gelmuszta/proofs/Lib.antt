@@ -1,0 +1,4 @@
+pub mod ReplyLaws
+pub mod ExportLaws
+pub mod ValidationLaws
+pub mod RowLaws

@@ -1,0 +1,67 @@
+-- On the image of a store in range a call is the step on that store, and what the step leaves is in range again: so a row
+-- of calls is a run of steps. A refusal leaves the store, whose image the bytes are.
+-- Assumes nothing.
+use mathlib.Core.Path.{_≡_, refl, sym, ap, _∙_}
+use mathlib.Core.Bool.{Bool, true, false}
+use mathlib.Core.List.{List, [], _∷_}
+use Prim.Native.Nat.{ℕ}
+use Rattle.handle.specs.Conversion.{conversion}
+use Rattle.store.specs.declared.Store.{Store}
+use Rattle.calls.specs.Calls.{Call}
+use Rattle.calls.specs.Steps.{run, aesStep}
+use Rattle.front.specs.Entries.{copyOf}
+use Rattle.image.specs.Images.{good, storeIn, imageOf}
+use Rattle.image.specs.Ranges.{StoreFits}
+use Rattle.image.proofs.TripLaws.{good-image, store-image, image-store}
+use Rattle.image.proofs.RangeLaws.{store-held, step-fits}
+use Rattle.gelmuszta.specs.Exported.{Performed, damaged, imaged, performed}
+use Rattle.gelmuszta.specs.Rows.{AllFit, row, followedBy, imagedRun, RowsAreRuns, refusedWith, RefusalLeaves}
+use Rattle.gelmuszta.proofs.ExportLaws.{picked, step-leaves}
+
+performed-good : (x : Call) (b m : List ℕ) → good b ≡ true → performed x b m ≡ imaged (aesStep x (copyOf (storeIn b) m))
+unfolding performed
+performed-good x b m g = ap (picked x b m) g
+
+performed-damaged : (x : Call) (b m : List ℕ) → good b ≡ false → performed x b m ≡ damaged x b m
+unfolding performed
+performed-damaged x b m g = ap (picked x b m) g
+
+performed-image : (s : Store) → StoreFits s → (x : Call) (m : List ℕ)
+    → performed x (imageOf s) m ≡ imaged (aesStep x (copyOf s m))
+performed-image s k x m =
+    performed-good x (imageOf s) m (good-image s k)
+    ∙ ap (λ (t : Store). imaged (aesStep x (copyOf t m))) (store-image s k)
+
+row-run : (xs : List Call) (s : Store) (m : List ℕ) → AllFit xs → StoreFits s
+    → row xs (imageOf s) m ≡ imagedRun (run (λ n. conversion) xs (copyOf s m))
+row-run [] s m p k = refl
+row-run (x ∷ xs) s m p k =
+    ap (λ (o : Performed). followedBy (o .reply) (row xs (o .image) (o .memory))) (performed-image s k x m)
+    ∙ ap (followedBy (aesStep x (copyOf s m) .reply))
+    (row-run xs (aesStep x (copyOf s m) .copy .store) (aesStep x (copyOf s m) .copy .memory) (p .1)
+    (step-fits (λ n. conversion) x (copyOf s m) (p .0) k))
+
+pub rows-are-runs : RowsAreRuns
+rows-are-runs xs b m p h g =
+    ap (λ (i : List ℕ). row xs i m) (sym (image-store b h g)) ∙ row-run xs (storeIn b) m p (store-held b h)
+
+-- ---- a refusal
+
+abbrev numberOf : Performed → ℕ
+numberOf o = o .reply .number
+
+-- what is refused with its own number
+told : (x : Call) (b m : List ℕ) (o : Performed) → performed x b m ≡ o → o ≡ refusedWith (numberOf o) x b m
+    → performed x b m ≡ refusedWith (numberOf (performed x b m)) x b m
+told x b m o e r = e ∙ r ∙ ap (λ (n : ℕ). refusedWith n x b m) (sym (ap numberOf e))
+
+pub refusal-leaves : RefusalLeaves
+refusal-leaves x b m h = go (good b) refl
+  where
+    go : (g : Bool) → good b ≡ g → (numberOf (performed x b m) ≡ 0 → ⊥)
+        → performed x b m ≡ refusedWith (numberOf (performed x b m)) x b m
+    go true e ne =
+        told x b m _ (performed-good x b m e)
+        (ap imaged (step-leaves x (copyOf (storeIn b) m) (λ z. ne (ap numberOf (performed-good x b m e) ∙ z)))
+        ∙ ap (λ (i : List ℕ). refusedWith (aesStep x (copyOf (storeIn b) m) .reply .number) x i m) (image-store b h e))
+    go false e ne = told x b m (damaged x b m) (performed-damaged x b m e) refl

@@ -1,0 +1,17 @@
+-- A damaged image, or the step with the length.
+-- Assumes nothing.
+use Rattle.gelmuszta.proofs.ReplyLaws.{read-length}
+use Rattle.gelmuszta.proofs.ExportLaws.{refused-damaged, same-told}
+use borrow.Author.Needs.{needs}
+use Rattle.gelmuszta.proofs.bytes.gelmuszta_read.Statement.{statement}
+use Rattle.gelmuszta.proofs.bytes.gelmuszta_read.Tie as tie
+
+returns : tie.Need-returns
+returns c = search (needs, refused-damaged)
+
+returns-2 : tie.Need-returns-2
+returns-2 c = search (needs, same-told, read-length)
+
+pub gelmuszta-read-spec : {M : Type 1} → statement M
+gelmuszta-read-spec =
+    tie.close (tie.spec (λ c κs. search needs) returns (λ c κs. search needs) (λ c. search needs) returns-2)

@@ -1,0 +1,57 @@
+-- Rows of calls on an image, each on the image and the memory that the one before it left.
+--     AllFit xs          each password that a call of the list takes in has sixteen bytes, as an exported function's has
+--     Rowed              the replies of a row, and the image and the memory at its end
+--     followedBy r n     the reply r, and then the row's
+--     row xs b m         the row of the calls xs from the image b and the memory m on
+--     imagedRun n        a run of steps, the store at its end as its image
+--     refusedWith n      the reply of a refusal with n; image and memory are those given
+-- Statements:
+--     RowsAreRuns        on an image that holds a store a row gives and leaves what the run of steps on that store does, so
+--                        what is proved of runs, condition 3 with it, holds of rows
+--     RefusalLeaves      a call whose number is not 0 gives nothing else, and leaves image, memory and buffer as they were
+-- Assumes nothing.
+use mathlib.Core.Path.{_≡_}
+use mathlib.Core.Logic.{_≢_}
+use mathlib.Core.Bool.{true}
+use mathlib.Core.List.{List, [], _∷_}
+use Prim.Native.Nat.{ℕ}
+use Rattle.handle.specs.Conversion.{conversion}
+use Rattle.handle.specs.Handles.{Bytes}
+use Rattle.calls.specs.Calls.{Call, buffer}
+use Rattle.calls.specs.Steps.{Reply, Ran, plain, run}
+use Rattle.front.specs.Entries.{copyOf}
+use Rattle.image.specs.Images.{imageBytes, good, storeIn, imageOf}
+use Rattle.image.specs.Ranges.{PasswordsFit}
+use Rattle.gelmuszta.specs.Exported.{Performed, performed}
+
+abbrev pub AllFit : List Call → Type 0
+AllFit [] = Unit {0}
+AllFit (x ∷ xs) = PasswordsFit x × AllFit xs
+
+pub record Rowed : Type 0 where
+  pub replies : List Reply
+  pub image : List ℕ
+  pub memory : List ℕ
+
+abbrev pub followedBy : Reply → Rowed → Rowed
+followedBy r n = record { replies = r ∷ n .replies; image = n .image; memory = n .memory }
+
+abbrev pub row : List Call → List ℕ → List ℕ → Rowed
+row [] b m = record { replies = []; image = b; memory = m }
+row (x ∷ xs) b m = followedBy (performed x b m .reply) (row xs (performed x b m .image) (performed x b m .memory))
+
+abbrev pub imagedRun : Ran → Rowed
+imagedRun n = record { replies = n .replies; image = imageOf (n .copy .store); memory = n .copy .memory }
+
+abbrev pub RowsAreRuns : Type 0
+RowsAreRuns =
+    (xs : List Call) (b m : List ℕ) → AllFit xs → Bytes imageBytes b → good b ≡ true
+    → row xs b m ≡ imagedRun (run (λ n. conversion) xs (copyOf (storeIn b) m))
+
+abbrev pub refusedWith : ℕ → Call → List ℕ → List ℕ → Performed
+refusedWith n x b m = record { reply = plain n (buffer x); image = b; memory = m }
+
+abbrev pub RefusalLeaves : Type 0
+RefusalLeaves =
+    (x : Call) (b m : List ℕ) → Bytes imageBytes b → performed x b m .reply .number ≢ 0
+    → performed x b m ≡ refusedWith (performed x b m .reply .number) x b m

@@ -1,0 +1,46 @@
+-- Stores that an image can hold: as many records, segments and password bytes as document 01 gives, bases and lengths that
+-- fit in two bytes, and no present segment of length zero. Whether the store is sound is another question.
+--     words                  how many values two bytes have
+--     WordsFit               a base and a length fit, and the length is not zero
+--     PlaceFits              an absent place, or one whose base and length fit
+--     ClusterFits, StoreFits    of a record, of a store
+--     PasswordsFit x         the passwords that a call takes in have sixteen bytes
+-- Assumes nothing.
+use mathlib.Core.Path.{_≡_}
+use Prim.Native.Nat.{ℕ, _^_, _≤_, _<_}
+use mathlib.Core.Bool.{true}
+use lib.ListN.{length}
+use Rattle.sizes.specs.Sizes.{records, segments, passwordBytes}
+use Rattle.store.specs.declared.Place.{Place}
+use Rattle.store.specs.declared.Place.the-variants.{Absent, Present}
+use Rattle.store.specs.declared.Cluster.{Cluster}
+use Rattle.store.specs.declared.Store.{Store}
+use Rattle.store.specs.Records.{clusterAt, tableOf, placeOf}
+use Rattle.calls.specs.Calls.{Call, uses}
+use Rattle.image.specs.Images.{wordBytes}
+
+abbrev pub words : ℕ
+words = 256 ^ wordBytes
+
+pub record WordsFit (base length : ℕ) : Type 0 where
+  pub starts : base < words
+  pub some : 1 ≤ length
+  pub ends : length < words
+
+unfoldable pub PlaceFits : Place → Type 0
+PlaceFits Absent = Unit {0}
+PlaceFits (Present base length) = WordsFit base length
+
+pub record ClusterFits (c : Cluster) : Type 0 where
+  pub read : length (c .read) ≡ passwordBytes
+  pub write : length (c .write) ≡ passwordBytes
+  pub eight : length (c .segments) ≡ segments
+  pub places : (i : ℕ) → i < segments → PlaceFits (placeOf (tableOf c) i)
+
+pub record StoreFits (s : Store) : Type 0 where
+  pub whole : length (s .clusters) ≡ records
+  pub each : (n : ℕ) → n < records → ClusterFits (clusterAt s n)
+
+pub record PasswordsFit (x : Call) : Type 0 where
+  pub first : uses (x .kind) .first ≡ true → length (x .args .first) ≡ passwordBytes
+  pub second : uses (x .kind) .second ≡ true → length (x .args .second) ≡ passwordBytes

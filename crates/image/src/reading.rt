@@ -1,0 +1,157 @@
+// From bytes: whether they are those of places, records and a store, and which.
+use crate::BYTE;
+use crate::Decoded;
+use crate::PLACE;
+use crate::PLACES_AT;
+use crate::READ_AT;
+use crate::RECORD;
+use crate::WRITE_AT;
+use store::Cluster;
+use store::PASSWORD_BYTES;
+use store::Place;
+use store::RECORDS;
+use store::SEGMENTS;
+use store::Segment;
+use store::Store;
+ghost use mathlib.Core.Path.{_≡_};
+ghost use mathlib.Core.Bool.{true};
+ghost use mathlib.Core.List.{[], _∷_};
+ghost use Prim.Native.Nat.{_*_};
+ghost use lib.ListN.{length};
+ghost use Rattle.bits.specs.Bytes as words;
+ghost use Rattle.sizes.specs.Sizes.{segments, passwordBytes};
+ghost use Rattle.image.specs.Images as images;
+
+// The number that two bytes hold, high byte first.
+fn word(high: u8, low: u8) -> u16
+    ensures { λ r. ⌜ r ≡ words.word (high ∷ low ∷ []) ⌝ }
+{
+    high as u16 * BYTE + low as u16
+}
+
+// Whether four bytes are those of a place: a length of zero comes with a base of zero.
+fn good_place(b: &[u8]) -> bool
+    requires { ⌜ length (now b) ≡ images.placeBytes ⌝ }
+    ensures { λ r. ⌜ r ≡ images.goodPlace (now (b .entry)) ⌝ }
+{
+    let base = word(b[0], b[1]);
+    let length = word(b[2], b[3]);
+    !(length == 0) | (base == 0)
+}
+
+// The place that four bytes hold.
+fn place_in(b: &[u8]) -> Place
+    requires { ⌜ length (now b) ≡ images.placeBytes ⌝ }
+    ensures { λ r. ⌜ r ≡ images.placeIn (now (b .entry)) ⌝ }
+{
+    let base = word(b[0], b[1]);
+    let length = word(b[2], b[3]);
+    if length == 0 {
+        return Place::Absent;
+    }
+    Place::Present { base, length }
+}
+
+fn good_places(b: &[u8]) -> bool
+    requires { ⌜ length (now b) ≡ segments * images.placeBytes ⌝ }
+    ensures { λ r. ⌜ r ≡ images.goodPlaces (now (b .entry)) ⌝ }
+{
+    let mut good = true;
+    for i in 0..SEGMENTS {
+        let from = i * PLACE;
+        let to = from + PLACE;
+        good = good_place(&b[from..to]) & good;
+    }
+    good
+}
+
+fn segments_in(b: &[u8]) -> [Segment; SEGMENTS]
+    requires { ⌜ length (now b) ≡ segments * images.placeBytes ⌝ }
+    ensures { λ r. ⌜ r ≡ images.segmentsIn (now (b .entry)) ⌝ }
+{
+    let absent = Segment {
+        place: Place::Absent,
+    };
+    let mut r = [absent; SEGMENTS];
+    for i in 0..SEGMENTS {
+        let from = i * PLACE;
+        let to = from + PLACE;
+        r[i] = Segment {
+            place: place_in(&b[from..to]),
+        };
+    }
+    r
+}
+
+fn password_in(b: &[u8]) -> [u8; PASSWORD_BYTES]
+    requires { ⌜ length (now b) ≡ passwordBytes ⌝ }
+    ensures { λ r. ⌜ r ≡ now (b .entry) ⌝ }
+{
+    let mut r = [0u8; PASSWORD_BYTES];
+    for i in 0..PASSWORD_BYTES {
+        r[i] = b[i];
+    }
+    r
+}
+
+fn good_record(b: &[u8]) -> bool
+    requires { ⌜ length (now b) ≡ images.recordBytes ⌝ }
+    ensures { λ r. ⌜ r ≡ images.goodRecord (now (b .entry)) ⌝ }
+{
+    (b[0] <= 1) & good_places(&b[PLACES_AT..RECORD])
+}
+
+fn cluster_in(b: &[u8]) -> Cluster
+    requires { ⌜ length (now b) ≡ images.recordBytes ⌝ }
+    ensures { λ r. ⌜ r ≡ images.clusterIn (now (b .entry)) ⌝ }
+{
+    let read = password_in(&b[READ_AT..WRITE_AT]);
+    let write = password_in(&b[WRITE_AT..PLACES_AT]);
+    let segments = segments_in(&b[PLACES_AT..RECORD]);
+    Cluster {
+        active: b[0] == 1,
+        read,
+        write,
+        segments,
+    }
+}
+
+// Whether the bytes are those of a store: each record is that of a cluster.
+fn good(image: &[u8]) -> bool
+    requires { ⌜ length (now image) ≡ images.imageBytes ⌝ }
+    ensures { λ r. ⌜ r ≡ images.good (now (image .entry)) ⌝ }
+{
+    let mut good = true;
+    for n in 0..RECORDS {
+        let from = n * RECORD;
+        let to = from + RECORD;
+        good = good_record(&image[from..to]) & good;
+    }
+    good
+}
+
+// The store that the bytes hold.
+fn store_in(image: &[u8]) -> Store
+    requires { ⌜ length (now image) ≡ images.imageBytes ⌝ }
+    ensures { λ r. ⌜ r ≡ images.storeIn (now (image .entry)) ⌝ }
+{
+    let mut clusters = [store::inactive_cluster(); RECORDS];
+    for n in 0..RECORDS {
+        let from = n * RECORD;
+        let to = from + RECORD;
+        clusters[n] = cluster_in(&image[from..to]);
+    }
+    Store { clusters }
+}
+
+// Both.
+pub fn decoded(image: &[u8]) -> Decoded
+    requires { ⌜ length (now image) ≡ images.imageBytes ⌝ }
+    ensures good { λ r. ⌜ r .good ≡ images.good (now (image .entry)) ⌝ }
+    ensures store { λ r. ⌜ r .store ≡ images.storeIn (now (image .entry)) ⌝ }
+    ensures whole { λ r. ⌜ (r .good ≡ true → images.imageOf (r .store) ≡ now (image .entry)) ⌝ }
+{
+    let good = good(image);
+    let store = store_in(image);
+    Decoded { good, store }
+}

@@ -1,0 +1,99 @@
+// To bytes: places, records and a store, each over a part of the image.
+use crate::BYTE;
+use crate::PLACE;
+use crate::PLACES_AT;
+use crate::READ_AT;
+use crate::RECORD;
+use crate::WRITE_AT;
+use store::Cluster;
+use store::PASSWORD_BYTES;
+use store::Place;
+use store::RECORDS;
+use store::SEGMENTS;
+use store::Segment;
+use store::Store;
+ghost use mathlib.Core.Path.{_≡_};
+ghost use Prim.Native.Nat.{_*_};
+ghost use lib.ListN.{length};
+ghost use Rattle.calls.specs.Calls.{baseOf, lengthOf};
+ghost use Rattle.sizes.specs.Sizes.{segments, passwordBytes};
+ghost use Rattle.image.specs.Images as images;
+
+fn base_of(place: Place) -> u16
+    ensures { λ r. ⌜ r ≡ baseOf place ⌝ }
+{
+    match place {
+        Place::Absent => 0,
+        Place::Present { base, length: _ } => base,
+    }
+}
+
+fn length_of(place: Place) -> u16
+    ensures { λ r. ⌜ r ≡ lengthOf place ⌝ }
+{
+    match place {
+        Place::Absent => 0,
+        Place::Present { base: _, length } => length,
+    }
+}
+
+// Base and length, two bytes each, high byte first; zeros for an absent segment.
+fn put_place(place: Place, out: &mut [u8])
+    requires { ⌜ length (now out) ≡ images.placeBytes ⌝ }
+    ensures { λ _. ⌜ now (out .exit) ≡ images.placeOut place ⌝ }
+{
+    let base = base_of(place);
+    let length = length_of(place);
+    out[0] = (base / BYTE) as u8;
+    out[1] = (base % BYTE) as u8;
+    out[2] = (length / BYTE) as u8;
+    out[3] = (length % BYTE) as u8;
+}
+
+fn put_places(table: [Segment; SEGMENTS], out: &mut [u8])
+    requires { ⌜ length (now out) ≡ segments * images.placeBytes ⌝ }
+    ensures { λ _. ⌜ now (out .exit) ≡ images.placesOut table ⌝ }
+{
+    for i in 0..SEGMENTS {
+        let segment = table[i];
+        let place = segment.place;
+        let from = i * PLACE;
+        let to = from + PLACE;
+        put_place(place, &mut out[from..to]);
+    }
+}
+
+fn put_password(password: [u8; PASSWORD_BYTES], out: &mut [u8])
+    requires { ⌜ length (now out) ≡ passwordBytes ⌝ }
+    ensures { λ _. ⌜ now (out .exit) ≡ password ⌝ }
+{
+    for i in 0..PASSWORD_BYTES {
+        out[i] = password[i];
+    }
+}
+
+fn put_record(cluster: Cluster, out: &mut [u8])
+    requires { ⌜ length (now out) ≡ images.recordBytes ⌝ }
+    ensures { λ _. ⌜ now (out .exit) ≡ images.recordOut cluster ⌝ }
+{
+    let read = cluster.read;
+    let write = cluster.write;
+    let segments = cluster.segments;
+    put_password(read, &mut out[READ_AT..WRITE_AT]);
+    put_password(write, &mut out[WRITE_AT..PLACES_AT]);
+    put_places(segments, &mut out[PLACES_AT..RECORD]);
+    out[0] = cluster.active as u8;
+}
+
+// The image of a store.
+pub fn put_store(store: Store, out: &mut [u8])
+    requires { ⌜ length (now out) ≡ images.imageBytes ⌝ }
+    ensures { λ _. ⌜ now (out .exit) ≡ images.imageOf store ⌝ }
+{
+    for n in 0..RECORDS {
+        let cluster = store.clusters[n];
+        let from = n * RECORD;
+        let to = from + RECORD;
+        put_record(cluster, &mut out[from..to]);
+    }
+}

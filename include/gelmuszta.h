@@ -1,0 +1,156 @@
+/*
+ * gelmuszta.h: the guard of shared bench memory, over bytes alone.
+ *
+ * The caller keeps two things and lends them to each call:
+ *
+ *   image    GELMUSZTA_IMAGE (2,080) bytes: the records of all 32 clusters, in the order node * 8 + local number. A
+ *            record has 65 bytes:
+ *
+ *              0        active: 1, or 0 for inactive
+ *              1 to 16  the read password
+ *             17 to 32  the write password
+ *             33 to 64  eight segments, four bytes each: base and length, two bytes each, high byte first;
+ *                       length zero for an absent segment, whose base is then zero too
+ *
+ *            A record with an active byte above 1, or with an absent segment that has a base, encodes no cluster: the
+ *            image is damaged, and every call that looks at it gets GELMUSZTA_UNSOUND. The starting store's image
+ *            is all zeros; gelmuszta_start writes it.
+ *
+ *   memory   the four nodes' memories, node 0 first. The store is sound only with a length of exactly
+ *            GELMUSZTA_MEMORY (16,384) bytes. In the starting store they are all zero, which is the caller's to do.
+ *
+ * A handle has GELMUSZTA_HANDLE (23) bytes: node (two, high byte first), local number (one), password (sixteen),
+ * selector (four). A password has GELMUSZTA_PASSWORD (16). Modes are GELMUSZTA_MODE_READ and GELMUSZTA_MODE_WRITE.
+ *
+ * Each call returns a number, 0 for done. When several refusals apply, the first of them in the order below is given.
+ * On a refusal the handles given are 23 zero bytes, counts and lengths are zero, and image, memory and buffer stay as
+ * they were, byte for byte. Numeric arguments are not cut: a node, local number, segment or size out of its range is
+ * refused, however large.
+ *
+ * What the caller must see to, since no proof can:
+ *
+ *   - every pointer is valid for as many bytes as its type or the length beside it says, and writable where it is not
+ *     const; none is NULL, not even beside a length of 0;
+ *   - bytes that a call may write overlap with nothing else that the call is given;
+ *   - while a call runs, nobody else writes what it is given, or reads what it may write.
+ *
+ * Nothing is kept between calls and nothing is allocated, so calls on different stores may run at the same time. A
+ * call uses about 20 kilobytes of stack.
+ */
+#ifndef GELMUSZTA_H
+#define GELMUSZTA_H
+
+#include <stdbool.h>
+#include <stddef.h>
+#include <stdint.h>
+
+#ifdef __cplusplus
+extern "C" {
+#endif
+
+#define GELMUSZTA_IMAGE 2080
+#define GELMUSZTA_MEMORY 16384
+#define GELMUSZTA_HANDLE 23
+#define GELMUSZTA_PASSWORD 16
+
+#define GELMUSZTA_MODE_READ 1
+#define GELMUSZTA_MODE_WRITE 2
+
+/* The numbers that a call may give. */
+enum gelmuszta_number {
+    GELMUSZTA_DONE = 0,
+    GELMUSZTA_UNSOUND = 1,         /* the image is damaged, or the store is not sound */
+    GELMUSZTA_NO_SUCH_PLACE = 2,   /* node above 3 or local number above 7, in the handle or the call */
+    GELMUSZTA_FIELD = 3,           /* mode not 1 or 2; segment above 7; size 0 or above 4,096 */
+    GELMUSZTA_GAPPED = 4,          /* the handle's selector is gapped */
+    GELMUSZTA_ELSEWHERE = 5,       /* current node is not the handle's */
+    GELMUSZTA_IN_USE = 6,          /* the cluster to be made is active */
+    GELMUSZTA_TWINS = 7,           /* its two passwords are equal */
+    GELMUSZTA_INACTIVE = 8,        /* the handle's cluster is inactive */
+    GELMUSZTA_VIOLATED = 9,        /* violated protection: the handle does not validate in the mode needed */
+    GELMUSZTA_NOT_PRIMARY = 10,    /* some subselector is not flat */
+    GELMUSZTA_NOT_REFERENCED = 11, /* the handle does not reference the segment */
+    GELMUSZTA_OLD_PASSWORD = 12,   /* the new password equals either current primary password */
+    GELMUSZTA_PRESENT = 13,        /* the segment to be made is present */
+    GELMUSZTA_ABSENT = 14,         /* the segment is absent */
+    GELMUSZTA_SHORT = 15,          /* buffer or data shorter than the segment */
+    GELMUSZTA_NO_ROOM = 16,        /* no base exists for the segment */
+    GELMUSZTA_SPENT = 17           /* something would be excluded and no subselector is flat */
+};
+
+/* ---- the store as a whole */
+
+/* Writes the starting store's image: all clusters inactive. Clear the memory beside it. */
+void gelmuszta_start(uint8_t image[GELMUSZTA_IMAGE]);
+
+/* Whether the image is not damaged and its store is sound with a memory of size bytes. */
+bool gelmuszta_sound(const uint8_t image[GELMUSZTA_IMAGE], size_t size);
+
+/* ---- the nine calls, by their codes */
+
+/* 1, new cluster: at the current node and local number, with its two passwords. Gives its read and its write primary
+ * handle. */
+uint8_t gelmuszta_new_cluster(uint8_t image[GELMUSZTA_IMAGE], const uint8_t *memory, size_t memory_length,
+                              size_t current, size_t local, const uint8_t read[GELMUSZTA_PASSWORD],
+                              const uint8_t write[GELMUSZTA_PASSWORD], uint8_t first[GELMUSZTA_HANDLE],
+                              uint8_t second[GELMUSZTA_HANDLE]);
+
+/* 2, delete cluster: by its write primary handle. */
+uint8_t gelmuszta_delete_cluster(uint8_t image[GELMUSZTA_IMAGE], const uint8_t *memory, size_t memory_length,
+                                 size_t current, const uint8_t handle[GELMUSZTA_HANDLE]);
+
+/* 3, new segment: by the write primary handle, at the smallest base at which it fits; its bytes become zero. */
+uint8_t gelmuszta_new_segment(uint8_t image[GELMUSZTA_IMAGE], uint8_t *memory, size_t memory_length, size_t current,
+                              size_t segment, size_t size, const uint8_t handle[GELMUSZTA_HANDLE]);
+
+/* 4, delete segment: by the write primary handle; memory bytes stay. */
+uint8_t gelmuszta_delete_segment(uint8_t image[GELMUSZTA_IMAGE], const uint8_t *memory, size_t memory_length,
+                                 size_t current, size_t segment, const uint8_t handle[GELMUSZTA_HANDLE]);
+
+/* 5, read: the first bytes of the buffer become the segment's, and its length goes to *length. The rest of the buffer
+ * stays. */
+uint8_t gelmuszta_read(const uint8_t image[GELMUSZTA_IMAGE], const uint8_t *memory, size_t memory_length,
+                       size_t segment, const uint8_t handle[GELMUSZTA_HANDLE], uint8_t *buffer, size_t buffer_length,
+                       size_t *length);
+
+/* 6, write: the segment becomes the first bytes of the data. */
+uint8_t gelmuszta_write(const uint8_t image[GELMUSZTA_IMAGE], uint8_t *memory, size_t memory_length, size_t segment,
+                        const uint8_t handle[GELMUSZTA_HANDLE], const uint8_t *data, size_t data_length);
+
+/* 7, weaken: gives the handle weakened by the mask, and how many segments it references. It needs no store. */
+uint8_t gelmuszta_weaken(const uint8_t handle[GELMUSZTA_HANDLE], uint8_t mask, uint8_t given[GELMUSZTA_HANDLE],
+                         uint8_t *count);
+
+/* 8, reduce: gives the handle reduced in the mode named. */
+uint8_t gelmuszta_reduce(const uint8_t image[GELMUSZTA_IMAGE], const uint8_t *memory, size_t memory_length,
+                         uint8_t mode, const uint8_t handle[GELMUSZTA_HANDLE], uint8_t given[GELMUSZTA_HANDLE]);
+
+/* 9, new password: by the primary handle of the mode named, whose primary password becomes the new one. Gives the new
+ * primary handle. */
+uint8_t gelmuszta_new_password(uint8_t image[GELMUSZTA_IMAGE], const uint8_t *memory, size_t memory_length,
+                               uint8_t mode, const uint8_t handle[GELMUSZTA_HANDLE],
+                               const uint8_t password[GELMUSZTA_PASSWORD], uint8_t given[GELMUSZTA_HANDLE]);
+
+/* ---- validation and conversion */
+
+/* Validation by itself: the number that reduce would give. */
+uint8_t gelmuszta_validate(const uint8_t image[GELMUSZTA_IMAGE], const uint8_t *memory, size_t memory_length,
+                           uint8_t mode, const uint8_t handle[GELMUSZTA_HANDLE]);
+
+/* Validation of many handles, 23 bytes each, one after the other: numbers[i] becomes what gelmuszta_validate gives
+ * for handle i. As many are judged as `handles` has whole and `numbers` has places for; how many that is, is
+ * returned. Bytes of a handle cut short are not looked at, and places of `numbers` without a handle stay as they
+ * were. */
+size_t gelmuszta_validate_all(const uint8_t image[GELMUSZTA_IMAGE], const uint8_t *memory, size_t memory_length,
+                              uint8_t mode, const uint8_t *handles, size_t handles_length, uint8_t *numbers,
+                              size_t numbers_length);
+
+/* The conversion f: AES-128, under the password as key, of fifteen zero bytes and the parameter. */
+void gelmuszta_convert(const uint8_t password[GELMUSZTA_PASSWORD], uint8_t parameter,
+                       uint8_t converted[GELMUSZTA_PASSWORD]);
+
+#ifdef __cplusplus
+}
+#endif
+
+#endif
