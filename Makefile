@@ -1,3 +1,6 @@
+SHELL = /bin/bash
+.SHELLFLAGS = -eo pipefail -c
+
 # make run LIST=FILE   prove and build benchrun where that is not done yet, and run a list of calls
 LIST ?= examples/sample.list
 BENCHRUN = target/bin/benchrun
@@ -24,7 +27,7 @@ test:
 	rt fmt --check
 	cargo test --quiet --offline --manifest-path tests/Cargo.toml
 	cargo test --quiet --offline --manifest-path tools/Cargo.toml
-	bash -c 'set -o pipefail; rt ci 2>&1 | tee tests/target/gate.log'
+	rt ci 2>&1 | tee tests/target/gate.log
 	$(MAKE) --no-print-directory compare
 	@tail -n 1 tests/target/gate.log
 
@@ -34,9 +37,26 @@ SEED ?= 1
 .PHONY: compare
 compare: $(BENCHRUN)
 	cargo build --quiet --release --offline --manifest-path tests/Cargo.toml
-	set -e; for list in examples/*.list examples/lists/*.list; do \
+	for list in examples/*.list examples/lists/*.list; do \
 		$(BENCHRUN) < $$list | cmp - $${list%.list}.out; done
 	$(MODEL)/lists-against $(BENCHRUN) $(SEED) $(LISTS)
+
+# make lib             prove and build the library for C, target/staticlib/libgelmuszta.a; its header is include/gelmuszta.h
+LIBRARY = target/staticlib/libgelmuszta.a
+
+.PHONY: lib
+lib:
+	rt staticlib gelmuszta
+
+$(LIBRARY):
+	rt staticlib gelmuszta
+
+# make caller          compile the caller in C that the README shows, and run it
+.PHONY: caller
+caller: $(LIBRARY)
+	cc -std=c99 -Wall -Wextra -pedantic -Werror -Iinclude examples/c/caller.c $(LIBRARY) -o target/caller
+	target/caller | cmp - examples/c/caller.out
+	sed -n '/^    #include "gelmuszta.h"/,/^    }$$/s/^    //p' README.md | cmp - <(grep . examples/c/caller.c)
 
 # make bench           the measurements of docs/PERFORMANCE.md
 .PHONY: bench
