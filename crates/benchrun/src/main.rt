@@ -4,11 +4,12 @@
 use libc::STDERR_FILENO;
 use libc::STDIN_FILENO;
 use libc::STDOUT_FILENO;
+use list::BRIEF_TEXT;
 use list::MOST_TEXT;
 ghost use mathlib.Core.Path.{_≡_};
-ghost use lib.ListN.{length, replicate};
+ghost use lib.ListN.{length};
 ghost use Rattle.io.specs.Counts.{Counts};
-ghost use Rattle.list.specs.Texts.{output, mostText};
+ghost use Rattle.list.specs.Texts.{output, mostText, briefText};
 
 // The bytes that are read at most: one record more than a list has, so that a longer input is seen to be none.
 const SPACE: usize = 16384;
@@ -60,10 +61,32 @@ fn blank_text() -> [u8; 2092283]
     [0; MOST_TEXT]
 }
 
-// Runs a list and writes its text.
-fn run(list: &[u8]) -> bool {
+// Runs a list in the large room and writes its text.
+fn run_large(list: &[u8]) -> bool {
     let mut out = blank_text();
     let r = list::run(list, &mut out);
+    write_text(list, &out[..r])
+}
+
+// Room for the text of a list with no read.
+fn blank_brief() -> [u8; 35235]
+    ensures { λ r. ⌜ length r ≡ briefText ⌝ }
+{
+    [0; BRIEF_TEXT]
+}
+
+// Runs a list and writes its text, in the small room unless `large` is asked for. Where the small room may be too little
+// no call is done there, and the list is run in the large one. That is a call of itself, so that the compiler leaves the
+// large room to a function of its own: touching its pages takes longer than most lists.
+fn run(list: &[u8], large: bool) -> bool {
+    if large {
+        return run_large(list);
+    }
+    let mut out = blank_brief();
+    let r = list::run(list, &mut out);
+    if r == 0 {
+        return run(list, true);
+    }
     write_text(list, &out[..r])
 }
 
@@ -75,7 +98,7 @@ fn main() {
         return;
     }
     let n = input.bytes;
-    if !run(&space[..n]) {
+    if !run(&space[..n], false) {
         io::write_all(
             STDERR_FILENO,
             b"benchrun: the text could not be written whole\n",

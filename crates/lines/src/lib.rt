@@ -10,7 +10,7 @@ ghost use Rattle.handle.specs.Sizes.{handleBytes};
 ghost use Rattle.lines.specs.Text as text;
 ghost use Rattle.lines.specs.Text.{decimal, hexadecimal};
 ghost use Rattle.lines.specs.Lines.{spaced, told, endWord, refusedWord};
-ghost use Rattle.lines.specs.Buffers.{byteDigits, longestHead, longest, longestWith};
+ghost use Rattle.lines.specs.Buffers.{byteDigits, longestHead, longest, brief, longestWith};
 ghost use Rattle.lines.specs.Buffers.{callLineWithin, wordLineWithin, Begins, Put, HasRoom};
 
 // The most decimal digits of a byte.
@@ -18,6 +18,12 @@ const BYTE_DIGITS: usize = 3;
 
 // The most bytes of a call's line: three numbers with a space after each, the longest segment, the line feed.
 pub const LONGEST: usize = 3 * (BYTE_DIGITS + 1) + 2 * NODE_MEMORY + 1;
+
+// The bytes of a handle.
+const HANDLE: usize = 23;
+
+// The most bytes of the line of any call but a read: three numbers and two handles, a space or the line feed after each.
+pub const BRIEF: usize = 3 * (BYTE_DIGITS + 1) + 2 * (2 * HANDLE + 1);
 
 // The most bytes after the word of a line: a space, a number, the line feed.
 const AFTER_WORD: usize = 1 + BYTE_DIGITS + 1;
@@ -147,6 +153,7 @@ fn put_told(out: &mut [u8], at: usize, code: u8, answer: Answer, segment: &[u8])
     ensures { λ r. ⌜ Put (now (out .entry)) (now (out .exit)) at r
         (spaced (told code answer (now (segment .entry)))) ⌝ }
     ensures { λ r. ⌜ r < longest ⌝ }
+    ensures { λ r. ⌜ ((code ≡ 5 → ⊥) → r < brief) ⌝ }
 {
     let refusal = answer.number;
     if refusal != 0 {
@@ -179,6 +186,7 @@ pub fn call_line(out: &mut [u8], record: u8, code: u8, answer: Answer, segment: 
     ensures { λ r. ⌜ Begins (now (out .entry)) (now (out .exit)) r
         (callLineWithin (length (now (out .entry))) «record» code answer (now (segment .entry))) ⌝ }
     ensures { λ r. ⌜ r ≤ longest ⌝ }
+    ensures { λ r. ⌜ ((code ≡ 5 → ⊥) → r ≤ brief) ⌝ }
 {
     if out.len() < LONGEST {
         return 0;

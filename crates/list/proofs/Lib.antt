@@ -3,6 +3,7 @@ pub mod CheckLaws
 pub mod ReadLaws
 pub mod LineLaws
 pub mod PartLaws
+pub mod RoomLaws
 pub mod RunLaws
 pub mod OutputLaws
 pub mod MeaningLaws

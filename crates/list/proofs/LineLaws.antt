@@ -11,7 +11,7 @@ use Rattle.sizes.specs.Sizes.{nodeMemory}
 use Rattle.store.specs.declared.Store.{Store}
 use Rattle.front.specs.declared.Done.{Done}
 use Rattle.lines.specs.Lines.{callLine}
-use Rattle.lines.specs.Buffers.{callLineWithin, Begins}
+use Rattle.lines.specs.Buffers.{brief, callLineWithin, Begins}
 use Rattle.lines.proofs.LineLaws.{callLine-fits}
 use Rattle.list.specs.Records.{recordBytes, recordIn, codeOf}
 use Rattle.list.specs.Runs.{Bench, bench, ran, bufferBytes, Performed, performed}
@@ -42,6 +42,9 @@ module _ (list : List ℕ) (k : ℕ) where
     where
       back : (n : ℕ) → n + recordBytes - n ≡ recordBytes
       back n = omega arith
+
+  pub one-brief : (w : ℕ) → ((codeOf cut ≡ 5 → ⊥) → w ≤ brief) → (codeOf (recordIn list k) ≡ 5 → ⊥) → w ≤ brief
+  one-brief w = subst (λ (r : List ℕ). (codeOf r ≡ 5 → ⊥) → w ≤ brief) cut-is
 
   module _ (s : Store) (m b out : List ℕ) (reach : Reach list k b out) (d : Done) (n l : List ℕ)
       (e : ran d n l ≡ performed cut (bench s m b)) (same : length l ≡ length b) where

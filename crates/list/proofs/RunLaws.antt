@@ -16,16 +16,17 @@ use Rattle.store.specs.Records.{startingStore}
 use Rattle.calls.proofs.CallLaws.{or-left, or-right}
 use Rattle.chain.specs.declared.Walked.{Walked}
 use Rattle.chain.specs.Way.{reached, done, refusal, records}
-use Rattle.chain.specs.Means.{Whole}
+use Rattle.chain.specs.Means.{IsRecord, Whole}
 use Rattle.chain.specs.Bytes.{count, nextIn, wayIn}
 use Rattle.chain.proofs.WayLaws.{reached-none, reached-more}
 use Rattle.chain.proofs.MeansLaws.{number-whole, whole-few}
-use Rattle.lines.specs.Buffers.{longest, Begins}
-use Rattle.list.specs.Records.{recordBytes, mostBytes, recordIn}
+use Rattle.lines.specs.Buffers.{longest, brief, Begins}
+use Rattle.list.specs.Records.{recordBytes, mostBytes, recordIn, codeOf}
 use Rattle.list.specs.Runs.{Bench, bench, bufferBytes, starting, Performed, performed}
-use Rattle.list.specs.Texts.{lengthNumber, badLength, checked, chain, recordLine, recordLines, mostText}
-use Rattle.list.specs.Loops.{Reach, Lined, Ready}
+use Rattle.list.specs.Texts.{lengthNumber, badLength, checked, chain, recordLine, recordLines}
+use Rattle.list.specs.Loops.{Reach, Lined, Ends, Ready}
 use Rattle.list.proofs.PartLaws.{part-start, part-rest}
+use Rattle.list.proofs.RoomLaws.{quiet-at, ends-none, ends-more, room-line, room-last}
 
 -- the loop at record number i of the chain, which is record `at`; the lines so far end at `end`
 pub record Going (list : List ℕ) (total : ℕ) (m₀ b₀ out₀ : List ℕ) (s : Store) (m b out : List ℕ) (at i end : ℕ) : Type 0 where
@@ -33,7 +34,7 @@ pub record Going (list : List ℕ) (total : ℕ) (m₀ b₀ out₀ : List ℕ) (
   pub placed : at ≡ reached (nextIn list recordBytes) 1 i
   pub joined : take end out ++ recordLines list (records (nextIn list recordBytes) at (total - i)) (bench s m b)
       ≡ recordLines list (chain list total) starting
-  pub ends : end ≤ i * longest
+  pub ends : Ends list i end
   pub same-memory : length m ≡ length m₀
   pub same-buffer : length b ≡ length b₀
   pub same-out : length out ≡ length out₀
@@ -103,7 +104,7 @@ module _ (list : List ℕ) (total : ℕ) (m₀ b₀ out₀ : List ℕ) (ready : 
         placed = sym (reached-none next 1);
         joined =
             λ j. recordLines list (records next 1 (none-gone j)) (bench (es j) (ready .memory j) (ready .buffer j));
-        ends = omega arith;
+        ends = ends-none list;
         same-memory = refl;
         same-buffer = refl;
         same-out = refl;
@@ -117,9 +118,8 @@ module _ (list : List ℕ) (total : ℕ) (m₀ b₀ out₀ : List ℕ) (ready : 
     pub going-inside : end ≤ length out
     going-inside =
         let n : i ≤ total = going .some in
-        let e : end ≤ i * longest = going .ends in
         let f : total ≤ 255 = total-few list total (ready .whole) in
-        let r : mostText ≤ length out₀ = ready .wide in
+        let r = room-last list (length out₀) i end (ready .wide) (going .ends) (omega arith) in
         let o : length out ≡ length out₀ = going .same-out in
         omega arith
 
@@ -141,31 +141,33 @@ module _ (list : List ℕ) (total : ℕ) (m₀ b₀ out₀ : List ℕ) (ready : 
             ∙ ap (λ (k : ℕ). take end out ++ recordLines list (records next at k) (bench s m b)) (sym z)
             ∙ going .joined
 
-    pub going-ends : end ≤ total * longest
-    going-ends =
+    pub going-ends : total ≤ i → Ends list total end
+    going-ends t =
         let n : i ≤ total = going .some in
-        let e : end ≤ i * longest = going .ends in
-        omega arith
+        let e : i ≡ total = omega arith in
+        subst (λ (k : ℕ). Ends list k end) e (going .ends)
 
     pub going-fits : (w : ℕ) → w ≤ longest → end + w < 2 ^ 64
     going-fits w l =
         let n : i ≤ total = going .some in
-        let e : end ≤ i * longest = going .ends in
+        let e : end ≤ i * longest = going .ends .long in
         let f : total ≤ 255 = total-few list total (ready .whole) in
         omega arith
 
     module _ (h : i < total) where
+      on-record : IsRecord (count list recordBytes) at
+      on-record =
+          subst (IsRecord (count list recordBytes)) (sym (going .placed)) (whole list total (ready .whole) (omega arith) .on i h)
+
       pub going-reach : Reach list at b (take (length out - end) (drop end out))
       going-reach =
           let c = chained list total (ready .whole) (omega arith) in
-          let w = subst (λ (k : ℕ). (1 ≤ k) × (k ≤ count list recordBytes)) (sym (going .placed)) (whole list total (ready .whole) (omega arith) .on i h) in
-          let e : end ≤ i * longest = going .ends in
           let f : total ≤ 255 = total-few list total (ready .whole) in
-          let r : mostText ≤ length out₀ = ready .wide in
+          let r = room-line list (length out₀) i end (ready .wide) (going .ends) (omega arith) in
           let o : length out ≡ length out₀ = going .same-out in
           let few : length list ≤ mostBytes = c .few in
-          let u : 1 ≤ at = w .0 in
-          let v : at ≤ length list / recordBytes = w .1 in
+          let u : 1 ≤ at = on-record .0 in
+          let v : at ≤ length list / recordBytes = on-record .1 in
           let b0 : length b₀ ≡ bufferBytes = ap length (ready .buffer) ∙ length-replicate {A = ℕ} bufferBytes 0 in
           record {
             from = u;
@@ -177,7 +179,7 @@ module _ (list : List ℕ) (total : ℕ) (m₀ b₀ out₀ : List ℕ) (ready : 
 
       module _ (s′ : Store) (m′ b′ part : List ℕ) (w n : ℕ)
           (lined : Lined list at (bench s m b) (bench s′ m′ b′) (take (length out - end) (drop end out)) part w n)
-          (short : w ≤ longest) (km : length m′ ≡ length m) (kb : length b′ ≡ length b)
+          (long : w ≤ longest) (short : (codeOf (recordIn list at) ≡ 5 → ⊥) → w ≤ brief) (km : length m′ ≡ length m) (kb : length b′ ≡ length b)
           (kp : length part ≡ length (midOf end (length out - end) out)) where
         abbrev after : List ℕ
         after = putMid end (length out - end) out part
@@ -206,7 +208,9 @@ module _ (list : List ℕ) (total : ℕ) (m₀ b₀ out₀ : List ℕ) (ready : 
                   (part-start out part (recordLine list at p) end w going-inside (lined .line) kp)
                   ∙ append-assoc (take end out) (recordLine list at p) (recordLines list (records next n (total - (i + 1))) (bench s′ m′ b′))
                   ∙ ap (λ (l : List ℕ). take end out ++ l) (sym ahead) ∙ going .joined;
-              ends = let e : end ≤ i * longest = going .ends in omega arith;
+              ends =
+                  ends-more list i end w (going .ends) long
+                  (λ q. short (quiet-at list q at (on-record .0) (on-record .1)));
               same-memory = km ∙ going .same-memory;
               same-buffer = kb ∙ going .same-buffer;
               same-out = same-len-mid end (length out - end) out part kp ∙ going .same-out;

@@ -9,6 +9,11 @@
 --     output list             the text of a run: the lines of the chain in its order and the last one, or that of a
 --                             refused list
 --     mostText                the bytes of the longest text: a line for each of 255 records, and the last
+--     briefText               the bytes that do for a text with no read: a brief line for each of 255 records, and the
+--                             longest line once, since a line is put only where the longest one fits
+--     isRead list k           record k is a read: its code is 5
+--     quiet list              no record of the list, reached or not, is a read
+--     roomFor list            the bytes that do for the text of a list: fewer where it is quiet
 --     outputWithin n list     what is put into n bytes: the text; nothing where they may not hold it
 -- Assumes nothing.
 use Prim.Native.Nat.{ℕ, zero, suc, _+_, _*_, _/_, _%_}
@@ -16,11 +21,12 @@ use mathlib.Core.Bool.{Bool, true, false, not, _||_, cond}
 use mathlib.Core.List.{List, [], _∷_, _++_}
 use lib.Dec.{eqb, leb, ltb}
 use lib.ListN.{length, take}
+use Rattle.loops.specs.Below.{every}
 use Rattle.chain.specs.declared.Walked.{Walked}
 use Rattle.chain.specs.Way.{done, refusal, records}
-use Rattle.chain.specs.Bytes.{nextIn, wayIn}
+use Rattle.chain.specs.Bytes.{count, nextIn, wayIn}
 use Rattle.lines.specs.Lines.{callLine, endWord, endLine, refusedLine}
-use Rattle.lines.specs.Buffers.{longest, longestWith}
+use Rattle.lines.specs.Buffers.{longest, brief, longestWith}
 use Rattle.list.specs.Records.{recordBytes, mostBytes, recordIn, codeOf}
 use Rattle.list.specs.Runs.{Bench, starting, Performed, performed}
 
@@ -64,5 +70,17 @@ output list = textOf list (checked list .number) (checked list .records)
 abbrev pub mostText : ℕ
 mostText = mostBytes / recordBytes * longest + longestWith endWord
 
+abbrev pub briefText : ℕ
+briefText = mostBytes / recordBytes * brief + longest
+
+abbrev pub isRead : List ℕ → ℕ → Bool
+isRead list k = eqb (codeOf (recordIn list k)) 5
+
+unfoldable pub quiet : List ℕ → Bool
+quiet list = every (count list recordBytes) (λ i. not (isRead list (suc i)))
+
+unfoldable pub roomFor : List ℕ → ℕ
+roomFor list = cond (quiet list) briefText mostText
+
 unfoldable pub outputWithin : ℕ → List ℕ → List ℕ
-outputWithin n list = cond (leb mostText n) (output list) []
+outputWithin n list = cond (leb (roomFor list) n) (output list) []

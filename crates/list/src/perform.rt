@@ -42,7 +42,7 @@ const NEW_SEGMENT: u8 = 3;
 
 const DELETE_SEGMENT: u8 = 4;
 
-const READ: u8 = 5;
+pub const READ: u8 = 5;
 
 const WRITE: u8 = 6;
 

@@ -2,16 +2,19 @@
 use crate::fields::CODE;
 use crate::fields::RECORD;
 use crate::fields::wide;
+use crate::perform::READ;
 use crate::perform::perform;
 use chain::Walked;
+use lines::BRIEF;
 use lines::LONGEST;
 use store::MEMORY;
 use store::Store;
 ghost use mathlib.Core.Path.{_≡_};
-ghost use Prim.Native.Nat.{_*_, _≤_};
+ghost use Prim.Native.Nat.{_≤_};
 ghost use lib.ListN.{length, replicate};
 ghost use Rattle.sizes.specs.Sizes.{memory};
 ghost use Rattle.lines.specs.Buffers as buffers;
+ghost use Rattle.list.specs.Records as records;
 ghost use Rattle.list.specs.Runs as runs;
 ghost use Rattle.list.specs.Texts as texts;
 ghost use Rattle.list.specs.Loops as loops;
@@ -27,6 +30,10 @@ pub const BUFFER: usize = 4096;
 
 // The bytes of the longest text: a line for each of 255 records, and the last.
 pub const MOST_TEXT: usize = 2092283;
+
+// The bytes that do for the text of a list with no read: a brief line for each of 255 records, and the longest line once,
+// since a line is put only where the longest one fits.
+pub const BRIEF_TEXT: usize = MOST_BYTES / RECORD * BRIEF + LONGEST;
 
 // The chain of a list from record 1: its number, and how many records it has. An empty list has none.
 pub fn check(list: &[u8]) -> Walked
@@ -76,6 +83,8 @@ fn one(
         (runs.bench (r .store) (now (memory .exit)) (now (buffer .exit)))
         (now (out .entry)) (now (out .exit)) (r .written) (r .next) ⌝ }
     ensures { λ r. ⌜ r .written ≤ buffers.longest ⌝ }
+    ensures { λ r. ⌜ ((records.codeOf (records.recordIn (now (list .entry)) k) ≡ 5 → ⊥)
+        → r .written ≤ buffers.brief) ⌝ }
 {
     let from = (k - 1) * RECORD;
     let record = &list[from..from + RECORD];
@@ -115,7 +124,7 @@ fn run_calls(
 ) -> usize
     requires { ⌜ loops.Ready (now list) total (now memory) (now buffer) (now out) ⌝ }
     ensures { λ r. ⌜ buffers.Begins (now (out .entry)) (now (out .exit)) r (texts.recordLines (now (list .entry)) (texts.chain (now (list .entry)) total) runs.starting) ⌝ }
-    ensures { λ r. ⌜ r ≤ total * buffers.longest ⌝ }
+    ensures { λ r. ⌜ loops.Ends (now (list .entry)) total r ⌝ }
 {
     let mut store = store::starting();
     let mut at: usize = 1;
@@ -132,12 +141,35 @@ fn run_calls(
     end
 }
 
-// Puts the text of the run of a list at the start of `out` and tells how many bytes it has; 0 where `out` is shorter than
-// the longest text.
+// Whether no record of a list is a read.
+fn quiet(list: &[u8]) -> bool
+    ensures { λ r. ⌜ r ≡ texts.quiet (now (list .entry)) ⌝ }
+{
+    let n = list.len() / RECORD;
+    let mut ok = true;
+    let mut i: usize = 0;
+    while i < n {
+        let code = list[i * RECORD + CODE];
+        ok = (code != READ) & ok;
+        i += 1;
+    }
+    ok
+}
+
+// The bytes that do for the text of a list.
+fn room_for(list: &[u8]) -> usize
+    ensures { λ r. ⌜ r ≡ texts.roomFor (now (list .entry)) ⌝ }
+{
+    if quiet(list) { BRIEF_TEXT } else { MOST_TEXT }
+}
+
+// Puts the text of the run of a list at the start of `out` and tells how many bytes it has; 0 where `out` has less than
+// the list's room, and then no call is done.
 pub fn run(list: &[u8], out: &mut [u8]) -> usize
     ensures { λ r. ⌜ buffers.Begins (now (out .entry)) (now (out .exit)) r (texts.outputWithin (length (now (out .entry))) (now (list .entry))) ⌝ }
 {
-    if out.len() < MOST_TEXT {
+    let room = room_for(list);
+    if out.len() < room {
         return 0;
     }
     let walked = check(list);

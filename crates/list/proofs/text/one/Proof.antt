@@ -1,6 +1,6 @@
 -- The record's call, and the line of what it answers.
 -- Assumes nothing.
-use Rattle.list.proofs.LineLaws.{told-fits, told-taken, one-lined}
+use Rattle.list.proofs.LineLaws.{told-fits, told-taken, one-brief, one-lined}
 use borrow.Author.Needs.{needs}
 use Rattle.list.proofs.text.one.Statement.{statement}
 use Rattle.list.proofs.text.one.Tie as tie
@@ -16,7 +16,9 @@ slice-aggregate-call-line : tie.Need-slice-aggregate-call-line
 slice-aggregate-call-line c = search (needs, told-taken)
 
 returns : tie.Need-returns
-returns c = (search (needs, one-lined), search needs)
+returns c =
+    let line = c .before .before .before .before .before .call-line .ensures in
+    (search (needs, one-lined), (search needs, search (needs, one-brief, line .1 .1)))
 
 pub one-spec : {M : Type 1} → statement M
 one-spec =

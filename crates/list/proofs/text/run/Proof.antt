@@ -10,6 +10,7 @@ use Rattle.lines.proofs.refused_line.Reads as refused-line-reads
 use Rattle.list.proofs.text.blank_buffer.Reads as blank-buffer-reads
 use Rattle.list.proofs.text.blank_memory.Reads as blank-memory-reads
 use Rattle.list.proofs.text.check.Reads as check-reads
+use Rattle.list.proofs.text.room_for.Reads as room-for-reads
 use Rattle.list.proofs.text.run_calls.Reads as run-calls-reads
 
 returns : tie.Need-returns
@@ -31,6 +32,7 @@ pub run-spec : {M : Type 1} → statement M
 run-spec =
     tie.close
     (tie.spec
+    (λ c κs. search needs)
     returns
     (λ c κs. search needs)
     (λ c κs. search needs)
