@@ -7,8 +7,10 @@ use libc::STDOUT_FILENO;
 use list::BRIEF_TEXT;
 use list::MOST_TEXT;
 ghost use mathlib.Core.Path.{_≡_};
+ghost use Prim.Native.Nat.{_<_};
 ghost use lib.ListN.{length};
 ghost use Rattle.io.specs.Counts.{Counts};
+ghost use Rattle.list.specs.Records.{mostBytes};
 ghost use Rattle.list.specs.Texts.{output, mostText, briefText};
 
 // The bytes that are read at most: one record more than a list has, so that a longer input is seen to be none.
@@ -19,8 +21,10 @@ struct Input {
     bytes: usize,
 }
 
-// Reads standard input to its end, or until the space is full, and tells whether no read failed.
+// Reads standard input to its end, or until the space is full, and tells whether no read failed. The space is larger than
+// any list, so that an input which is cut there is refused as the whole of it would be.
 fn read_list(space: &mut [u8]) -> Input
+    requires { ⌜ mostBytes < length (now space) ⌝ }
     ensures { λ r. ⌜ Counts (r .bytes) (now (space .exit)) ⌝ }
 {
     let mut have: usize = 0;

@@ -7,7 +7,7 @@ use Prim.Native.Nat.{ℕ, _%_}
 use native.Mathlib.Omega.{arith}
 use mathlib.Core.Bool.{Bool, true, false, not, _||_, cond}
 use mathlib.Core.List.{List}
-use mathlib.Core.Option.{Option, none, some}
+use mathlib.Core.Option.{Option}
 use borrow.Author.Tests.{lt-ltb, ne-eqb}
 use lib.Dec.{eqb}
 use lib.ListN.{length}
@@ -24,11 +24,11 @@ use Rattle.chain.specs.Bytes.{count, nextIn, wayIn}
 use Rattle.chain.proofs.MeansLaws.{means}
 use Rattle.isolation.specs.Checks.{trimmed}
 use Rattle.isolation.proofs.UnusedLaws.{unused-ignored}
-use Rattle.list.specs.Records.{recordBytes, mostBytes, codeOf, kindOf, argumentsOf}
-use Rattle.list.specs.Runs.{Bench, Performed, misfits, misfitRows, refused, afterStep, stepped, performedAs}
+use Rattle.list.specs.Records.{recordBytes, mostBytes, kindOf, argumentsOf}
+use Rattle.list.specs.Runs.{Performed, misfits, misfitRows, refused, afterStep, stepped, performedAs}
 use Rattle.list.specs.Runs.{performed}
 use Rattle.list.specs.Texts.{badLength, checked, textOf, output}
-use Rattle.list.specs.Meanings.{ListMeans, LongRefused, SameUse, UnusedBytes, BadCode}
+use Rattle.list.specs.Meanings.{ListMeans, LongRefused, UnusedBytes, BadCode}
 use Rattle.list.proofs.CheckLaws.{by-length, check-empty}
 
 -- ---- the check
