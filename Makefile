@@ -51,12 +51,16 @@ lib:
 $(LIBRARY):
 	rt staticlib gelmuszta
 
-# make caller          compile the caller in C that the README shows, and run it
+# make caller          compile and run the caller in C that the README shows, and one that calls every function
 .PHONY: caller
 caller: $(LIBRARY)
 	cc -std=c99 -Wall -Wextra -pedantic -Werror -Iinclude examples/c/caller.c $(LIBRARY) -o target/caller
 	target/caller | cmp - examples/c/caller.out
 	sed -n '/^    #include "gelmuszta.h"/,/^    }$$/s/^    //p' README.md | cmp - <(grep . examples/c/caller.c)
+	cc -std=c99 -Wall -Wextra -pedantic -Werror -Iinclude examples/c/every.c $(LIBRARY) -o target/every
+	target/every
+	c++ -x c++ -std=c++11 -Wall -Wextra -pedantic -Werror -Iinclude examples/c/every.c -x none $(LIBRARY) -o target/every
+	target/every
 
 # make bench           the measurements of docs/PERFORMANCE.md
 .PHONY: bench

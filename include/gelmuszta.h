@@ -19,23 +19,35 @@
  *   memory   the four nodes' memories, node 0 first. The store is sound only with a length of exactly
  *            GELMUSZTA_MEMORY (16,384) bytes. In the starting store they are all zero, which is the caller's to do.
  *
- * A handle has GELMUSZTA_HANDLE (23) bytes: node (two, high byte first), local number (one), password (sixteen),
- * selector (four). A password has GELMUSZTA_PASSWORD (16). Modes are GELMUSZTA_MODE_READ and GELMUSZTA_MODE_WRITE.
+ * A handle has GELMUSZTA_HANDLE (23) bytes: node (two, high byte first), local number (one), password (sixteen), selector
+ * (four). Byte k of the selector is subselector k; bit i of it, 0 the least, stands for segment i. The handle references
+ * segment i if bit i is set in all four. A subselector of 255 is flat; a primary handle has four flat ones; a selector in
+ * which a flat one stands below one that is not is gapped. A password has GELMUSZTA_PASSWORD (16) bytes.
  *
- * Each call returns a number, 0 for done. When several refusals apply, the first of them in the order below is given.
- * On a refusal the handles given are 23 zero bytes, counts and lengths are zero, and image, memory and buffer stay as
- * they were, byte for byte. Numeric arguments are not cut: a node, local number, segment or size out of its range is
- * refused, however large.
+ * A handle is valid in a mode, GELMUSZTA_MODE_READ or GELMUSZTA_MODE_WRITE, if its password comes of that mode's primary
+ * password. Reading needs a handle that is valid for reading, and one that is valid for writing does not do; everything
+ * else that opens a cluster needs one that is valid for writing, or in the mode that the call names.
+ *
+ * The nine calls and gelmuszta_validate return a number, 0 for done. When several refusals apply, the first of them in the
+ * order below is given. On a refusal the handles given are 23 zero bytes, counts and lengths are zero, and image, memory and
+ * buffer stay as they were, byte for byte. Arguments of type size_t are judged whole: a node, local number, segment or
+ * size out of its range is refused, however large. Modes, masks and parameters are bytes, and C cuts a larger value to a
+ * byte without a word.
+ *
+ * Calls 3 and 6 write to the memory and no other does; call 5 alone reads its bytes; the rest look at its length.
  *
  * What the caller must see to, since no proof can:
  *
- *   - every pointer is valid for as many bytes as its type or the length beside it says, and writable where it is not
- *     const; none is NULL, not even beside a length of 0;
- *   - bytes that a call may write overlap with nothing else that the call is given;
- *   - while a call runs, nobody else writes what it is given, or reads what it may write.
+ *   - every pointer is valid for as many bytes as its type or the length beside it says, writable where it is not const,
+ *     aligned where it points to a size_t, and not NULL even where the length is 0; bytes that are only written need not
+ *     be initialised, those of a read's buffer are kept where the segment does not reach;
+ *   - bytes that a call may write overlap with nothing else that the call is given: a handle is not weakened in place;
+ *   - nobody else writes to the image, the memory or the arguments, or reads what is written, while the call runs. Calls
+ *     that write nothing in common, as reads and validations on one store, may run at the same time;
+ *   - the image holds every primary password and the memory every byte: whoever can read them needs no handle.
  *
- * Nothing is kept between calls and nothing is allocated, so calls on different stores may run at the same time. A
- * call uses about 20 kilobytes of stack.
+ * Nothing is kept between calls and nothing is allocated. A call uses about 20 kilobytes of stack (measured on x86-64, not
+ * proved).
  */
 #ifndef GELMUSZTA_H
 #define GELMUSZTA_H
@@ -56,26 +68,27 @@ extern "C" {
 #define GELMUSZTA_MODE_READ 1
 #define GELMUSZTA_MODE_WRITE 2
 
-/* The numbers that a call may give. */
+/* The numbers that a call may give, and which calls may give them. 18 to 20 belong to lists of calls; no function here gives
+ * them. */
 enum gelmuszta_number {
     GELMUSZTA_DONE = 0,
-    GELMUSZTA_UNSOUND = 1,         /* the image is damaged, or the store is not sound */
-    GELMUSZTA_NO_SUCH_PLACE = 2,   /* node above 3 or local number above 7, in the handle or the call */
-    GELMUSZTA_FIELD = 3,           /* mode not 1 or 2; segment above 7; size 0 or above 4,096 */
-    GELMUSZTA_GAPPED = 4,          /* the handle's selector is gapped */
-    GELMUSZTA_ELSEWHERE = 5,       /* current node is not the handle's */
-    GELMUSZTA_IN_USE = 6,          /* the cluster to be made is active */
-    GELMUSZTA_TWINS = 7,           /* its two passwords are equal */
-    GELMUSZTA_INACTIVE = 8,        /* the handle's cluster is inactive */
-    GELMUSZTA_VIOLATED = 9,        /* violated protection: the handle does not validate in the mode needed */
-    GELMUSZTA_NOT_PRIMARY = 10,    /* some subselector is not flat */
-    GELMUSZTA_NOT_REFERENCED = 11, /* the handle does not reference the segment */
-    GELMUSZTA_OLD_PASSWORD = 12,   /* the new password equals either current primary password */
-    GELMUSZTA_PRESENT = 13,        /* the segment to be made is present */
-    GELMUSZTA_ABSENT = 14,         /* the segment is absent */
-    GELMUSZTA_SHORT = 15,          /* buffer or data shorter than the segment */
-    GELMUSZTA_NO_ROOM = 16,        /* no base exists for the segment */
-    GELMUSZTA_SPENT = 17           /* something would be excluded and no subselector is flat */
+    GELMUSZTA_UNSOUND = 1,         /* unsound, all but 7: the image is damaged, or the store is not sound */
+    GELMUSZTA_NO_SUCH_PLACE = 2,   /* no such place: node above 3 or local number above 7, in the handle or the call */
+    GELMUSZTA_FIELD = 3,           /* field: mode not 1 or 2; segment above 7; size 0 or above 4,096 */
+    GELMUSZTA_GAPPED = 4,          /* gapped: the handle's selector is gapped */
+    GELMUSZTA_ELSEWHERE = 5,       /* elsewhere, 2, 3, 4: the current node is not the handle's */
+    GELMUSZTA_IN_USE = 6,          /* in use, 1: the cluster is active */
+    GELMUSZTA_TWINS = 7,           /* twins, 1: the two passwords are equal */
+    GELMUSZTA_INACTIVE = 8,        /* inactive, 2 to 6, 8, 9: the handle's cluster is inactive */
+    GELMUSZTA_VIOLATED = 9,        /* violated protection, 2 to 6, 8, 9: the handle is not valid in the mode needed */
+    GELMUSZTA_NOT_PRIMARY = 10,    /* not primary, 2, 3, 4, 9: some subselector is not flat */
+    GELMUSZTA_NOT_REFERENCED = 11, /* not referenced, 5, 6: the handle does not reference the segment */
+    GELMUSZTA_OLD_PASSWORD = 12,   /* old password, 9: the new one equals either current primary password */
+    GELMUSZTA_PRESENT = 13,        /* present, 3: the segment is present */
+    GELMUSZTA_ABSENT = 14,         /* absent, 4, 5, 6: the segment is absent */
+    GELMUSZTA_SHORT = 15,          /* short, 5, 6: buffer or data shorter than the segment */
+    GELMUSZTA_NO_ROOM = 16,        /* no room, 3: no base exists */
+    GELMUSZTA_SPENT = 17           /* spent, 7: something would be excluded and no subselector is flat */
 };
 
 /* ---- the store as a whole */
@@ -117,11 +130,13 @@ uint8_t gelmuszta_read(const uint8_t image[GELMUSZTA_IMAGE], const uint8_t *memo
 uint8_t gelmuszta_write(const uint8_t image[GELMUSZTA_IMAGE], uint8_t *memory, size_t memory_length, size_t segment,
                         const uint8_t handle[GELMUSZTA_HANDLE], const uint8_t *data, size_t data_length);
 
-/* 7, weaken: gives the handle weakened by the mask, and how many segments it references. It needs no store. */
+/* 7, weaken: gives a handle that references those of the segments which the mask keeps, bit i for segment i, and how many
+ * these are; where nothing is excluded, the handle itself. It needs no store, and a damaged one does not matter. */
 uint8_t gelmuszta_weaken(const uint8_t handle[GELMUSZTA_HANDLE], uint8_t mask, uint8_t given[GELMUSZTA_HANDLE],
                          uint8_t *count);
 
-/* 8, reduce: gives the handle reduced in the mode named. */
+/* 8, reduce: gives a handle that references the same segments with subselector 0 alone; a primary handle comes back as it
+ * is. */
 uint8_t gelmuszta_reduce(const uint8_t image[GELMUSZTA_IMAGE], const uint8_t *memory, size_t memory_length,
                          uint8_t mode, const uint8_t handle[GELMUSZTA_HANDLE], uint8_t given[GELMUSZTA_HANDLE]);
 

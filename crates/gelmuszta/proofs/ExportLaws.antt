@@ -3,7 +3,7 @@
 -- Assumes nothing.
 use mathlib.Core.Path.{_≡_, refl, sym, ap, _∙_}
 use mathlib.Core.Bool.{Bool, true, false, not}
-use mathlib.Core.List.{List, []}
+use mathlib.Core.List.{List, [], _∷_}
 use Prim.Native.Nat.{ℕ, zero, suc}
 use native.Mathlib.Omega.{arith}
 use borrow.Author.Tests.{not-true, not-false}
@@ -12,7 +12,7 @@ use Rattle.handle.specs.Conversion.{conversion}
 use Rattle.store.specs.declared.Store.{Store}
 use Rattle.front.specs.declared.Answer.{Answer}
 use Rattle.front.specs.Entries.{copyOf, replied, ended, numberAlone}
-use Rattle.calls.specs.Calls.{Copy, Call, Arguments, call, weaken, validate, buffer}
+use Rattle.calls.specs.Calls.{Copy, Call, Arguments, call, weaken, validate, among, buffer}
 use Rattle.calls.specs.Numbers.{number}
 use Rattle.calls.specs.Steps.{Reply, Outcome, plain, zeroHandle, left as lefts, outcome, step, aesStep}
 use Rattle.image.specs.Images.{good, storeIn, imageOf}
@@ -21,6 +21,15 @@ use Rattle.gelmuszta.specs.Exported.{performed, kept, Always}
 use Rattle.gelmuszta.proofs.ReplyLaws.{Silent, OneHandle, TwoHandles, Length, silent-reply, handle-reply}
 use Rattle.gelmuszta.proofs.ReplyLaws.{handles-reply, count-reply, length-reply, silent-known}
 use Rattle.gelmuszta.proofs.ReplyLaws.{done-number, validate-silent, weaken-counts}
+
+-- a damaged image, where it is known whether the call is a weakening
+abbrev pub damagedBy : Bool → Call → List ℕ → List ℕ → Performed
+damagedBy u x b m =
+    record {
+      reply = elim u [ true ↦ aesStep x (copyOf (storeIn b) m) .reply | false ↦ plain unsoundNumber (buffer x) ];
+      image = b;
+      memory = m;
+    }
 
 abbrev pub picked : Call → List ℕ → List ℕ → Bool → Performed
 picked x b m g = elim g [ true ↦ imaged (aesStep x (copyOf (storeIn b) m)) | false ↦ damaged x b m ]
@@ -50,11 +59,12 @@ step-leaves x c h = go (number (λ n. conversion) x (c .store) (length (c .memor
 -- ---- a damaged image, and a good one
 
 module _ (x : Call) (b m : List ℕ) (g : Bool) (eg : g ≡ good b) where
-  pub refused-damaged : (buf : List ℕ) → buf ≡ buffer x → not g ≡ true
+  pub refused-damaged : among (7 ∷ []) (x .kind) ≡ false → (buf : List ℕ) → buf ≡ buffer x → not g ≡ true
       → answered unsoundNumber zeroHandle zeroHandle 0 0 buf b m ≡ performed x b m
   unfolding performed
-  refused-damaged buf e t =
+  refused-damaged looks buf e t =
       ap (λ (l : List ℕ). answered unsoundNumber zeroHandle zeroHandle 0 0 l b m) e
+      ∙ sym (ap (λ (u : Bool). damagedBy u x b m) looks)
       ∙ sym (ap (picked x b m) (sym eg ∙ not-true g t))
 
   module _ (t : not g ≡ false) (s : Store) (es : s ≡ storeIn b) (whole : g ≡ true → imageOf s ≡ b) where

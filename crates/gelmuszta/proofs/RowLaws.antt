@@ -7,16 +7,18 @@ use mathlib.Core.List.{List, [], _∷_}
 use Prim.Native.Nat.{ℕ}
 use Rattle.handle.specs.Conversion.{conversion}
 use Rattle.store.specs.declared.Store.{Store}
-use Rattle.calls.specs.Calls.{Call}
-use Rattle.calls.specs.Steps.{run, aesStep}
+use Rattle.calls.specs.Calls.{Call, among}
+use Rattle.calls.specs.Steps.{Outcome, run, aesStep}
 use Rattle.front.specs.Entries.{copyOf}
+use Rattle.isolation.proofs.TwoCopies.{two-copies}
 use Rattle.image.specs.Images.{good, storeIn, imageOf}
 use Rattle.image.specs.Ranges.{StoreFits}
 use Rattle.image.proofs.TripLaws.{good-image, store-image, image-store}
 use Rattle.image.proofs.RangeLaws.{store-held, step-fits}
 use Rattle.gelmuszta.specs.Exported.{Performed, damaged, imaged, performed}
-use Rattle.gelmuszta.specs.Rows.{AllFit, row, followedBy, imagedRun, RowsAreRuns, refusedWith, RefusalLeaves}
-use Rattle.gelmuszta.proofs.ExportLaws.{picked, step-leaves}
+use Rattle.gelmuszta.specs.Rows.{AllFit, Rowed, row, followedBy, imagedRun, RowsAreRuns, f, held, TwoImages, refusedWith}
+use Rattle.gelmuszta.specs.Rows.{RefusalLeaves}
+use Rattle.gelmuszta.proofs.ExportLaws.{damagedBy, picked, step-leaves}
 
 performed-good : (x : Call) (b m : List ℕ) → good b ≡ true → performed x b m ≡ imaged (aesStep x (copyOf (storeIn b) m))
 unfolding performed
@@ -45,6 +47,16 @@ pub rows-are-runs : RowsAreRuns
 rows-are-runs xs b m p h g =
     ap (λ (i : List ℕ). row xs i m) (sym (image-store b h g)) ∙ row-run xs (storeIn b) m p (store-held b h)
 
+pub two-images : TwoImages
+two-images node local v l xs b m d n p hb gb hd gd sb sd active alike shut-b shut-d =
+    let agreed = two-copies node local f v l xs (held b m) (held d n) sb sd active alike shut-b shut-d in
+    record {
+      replies =
+          ap (λ (r : Rowed). r .replies) (rows-are-runs xs b m p hb gb) ∙ agreed .replies
+          ∙ sym (ap (λ (r : Rowed). r .replies) (rows-are-runs xs d n p hd gd));
+      agreed = agreed;
+    }
+
 -- ---- a refusal
 
 abbrev numberOf : Performed → ℕ
@@ -64,4 +76,10 @@ refusal-leaves x b m h = go (good b) refl
         told x b m _ (performed-good x b m e)
         (ap imaged (step-leaves x (copyOf (storeIn b) m) (λ z. ne (ap numberOf (performed-good x b m e) ∙ z)))
         ∙ ap (λ (i : List ℕ). refusedWith (aesStep x (copyOf (storeIn b) m) .reply .number) x i m) (image-store b h e))
-    go false e ne = told x b m (damaged x b m) (performed-damaged x b m e) refl
+    go false e ne = told x b m (damaged x b m) (performed-damaged x b m e) (left-damaged (among (7 ∷ []) (x .kind)) (λ z. ne (ap numberOf (performed-damaged x b m e) ∙ z)))
+      where
+        left-damaged : (u : Bool) → (numberOf (damagedBy u x b m) ≡ 0 → ⊥)
+            → damagedBy u x b m ≡ refusedWith (numberOf (damagedBy u x b m)) x b m
+        left-damaged true ne =
+            ap (λ (o : Outcome). record { reply = o .reply; image = b; memory = m }) (step-leaves x (copyOf (storeIn b) m) ne)
+        left-damaged false ne = refl

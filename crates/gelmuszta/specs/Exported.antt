@@ -4,19 +4,19 @@
 --     answered ..           what an exported function gave and left: its number, two handles, count, length, buffer, image
 --                           and memory; where it gives no such value, zeros stand for it, as in every reply
 --     unsoundNumber         the table's number for unsound
---     damaged x b m         an image that holds no store is refused as an unsound one is, with 1, and all stays as it was
+--     damaged x b m         an image that holds no store is refused as an unsound one is, with 1, and all stays as it was;
+--                           weakening alone, which looks at no store, is answered as ever
 --     imaged o              what a step gave and left, the store as its image
 --     performed x b m       the call x on the image b and the memory m: the step on the store that b holds
---                           (weakening, which sees no store, is stated by Always instead)
 --     kept n s b            the image to leave where the number is n and s is the store: as it was after a refusal
 --     Always x r            on every store and memory the call x gives the reply r, and leaves both as they were
 -- Assumes nothing.
 use mathlib.Core.Path.{_≡_}
 use Prim.Native.Nat.{ℕ, zero, suc}
 use mathlib.Core.Bool.{true, false}
-use mathlib.Core.List.{List}
+use mathlib.Core.List.{List, [], _∷_}
 use Rattle.store.specs.declared.Store.{Store}
-use Rattle.calls.specs.Calls.{Call, buffer}
+use Rattle.calls.specs.Calls.{Call, among, buffer}
 use Rattle.calls.specs.Steps.{Reply, Outcome, plain, aesStep}
 use Rattle.front.specs.Entries.{copyOf}
 use Rattle.image.specs.Images.{good, storeIn, imageOf}
@@ -38,7 +38,16 @@ abbrev pub unsoundNumber : ℕ
 unsoundNumber = 1
 
 abbrev pub damaged : Call → List ℕ → List ℕ → Performed
-damaged x b m = record { reply = plain unsoundNumber (buffer x); image = b; memory = m }
+damaged x b m =
+    record {
+      reply =
+          elim (among (7 ∷ []) (x .kind)) [
+            | true ↦ aesStep x (copyOf (storeIn b) m) .reply
+            | false ↦ plain unsoundNumber (buffer x)
+          ];
+      image = b;
+      memory = m;
+    }
 
 abbrev pub imaged : Outcome → Performed
 imaged o = record { reply = o .reply; image = imageOf (o .copy .store); memory = o .copy .memory }

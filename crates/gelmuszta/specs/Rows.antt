@@ -8,18 +8,25 @@
 -- Statements:
 --     RowsAreRuns        on an image that holds a store a row gives and leaves what the run of steps on that store does, so
 --                        what is proved of runs, condition 3 with it, holds of rows
+--     TwoImages          condition 3 of images: where the stores that two images hold, with their memories, differ only in
+--                        one cluster's secrets, and no call shows a handle that opens it, the replies of a row are equal,
+--                        and the runs agree as the copies of the stores do
 --     RefusalLeaves      a call whose number is not 0 gives nothing else, and leaves image, memory and buffer as they were
 -- Assumes nothing.
 use mathlib.Core.Path.{_≡_}
 use mathlib.Core.Logic.{_≢_}
 use mathlib.Core.Bool.{true}
 use mathlib.Core.List.{List, [], _∷_}
-use Prim.Native.Nat.{ℕ}
+use Prim.Native.Nat.{ℕ, _<_}
+use Rattle.sizes.specs.Sizes.{nodes, clusters}
 use Rattle.handle.specs.Conversion.{conversion}
-use Rattle.handle.specs.Handles.{Bytes}
-use Rattle.calls.specs.Calls.{Call, buffer}
+use Rattle.handle.specs.Handles.{Name, Bytes}
+use Rattle.store.specs.Records.{tableAt}
+use Rattle.calls.specs.Calls.{Copy, Call, buffer}
 use Rattle.calls.specs.Steps.{Reply, Ran, plain, run}
 use Rattle.front.specs.Entries.{copyOf}
+use Rattle.isolation.specs.Copies.{SoundCopy, setApart, Alike, AllShut}
+use Rattle.isolation.specs.Statements.{Agreed}
 use Rattle.image.specs.Images.{imageBytes, good, storeIn, imageOf}
 use Rattle.image.specs.Ranges.{PasswordsFit}
 use Rattle.gelmuszta.specs.Exported.{Performed, performed}
@@ -47,6 +54,25 @@ abbrev pub RowsAreRuns : Type 0
 RowsAreRuns =
     (xs : List Call) (b m : List ℕ) → AllFit xs → Bytes imageBytes b → good b ≡ true
     → row xs b m ≡ imagedRun (run (λ n. conversion) xs (copyOf (storeIn b) m))
+
+abbrev pub f : Name → List ℕ → ℕ → List ℕ
+f n = conversion
+
+abbrev pub held : List ℕ → List ℕ → Copy
+held b m = copyOf (storeIn b) m
+
+pub record ImagesAgree (node local : ℕ) (xs : List Call) (b m d n : List ℕ) : Type 0 where
+  pub replies : row xs b m .replies ≡ row xs d n .replies
+  pub agreed : Agreed node local f xs (held b m) (held d n)
+
+abbrev pub TwoImages : Type 0
+TwoImages =
+    (node local : ℕ) → node < nodes → local < clusters → (xs : List Call) (b m d n : List ℕ) → AllFit xs
+    → Bytes imageBytes b → good b ≡ true → Bytes imageBytes d → good d ≡ true
+    → SoundCopy (held b m) → SoundCopy (held d n)
+    → tableAt (storeIn b) (setApart node local) .active ≡ true → Alike node local (held b m) (held d n)
+    → AllShut node local f xs (held b m) → AllShut node local f xs (held d n)
+    → ImagesAgree node local xs b m d n
 
 abbrev pub refusedWith : ℕ → Call → List ℕ → List ℕ → Performed
 refusedWith n x b m = record { reply = plain n (buffer x); image = b; memory = m }
