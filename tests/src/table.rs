@@ -119,6 +119,13 @@ pub fn refusal_above(row: u8, call: &Call, found: &Found) -> Option<u8> {
     first_of(&ROWS[..above], call, found)
 }
 
+/// The first number that applies of those standing below `row`, where neither `row` nor any above
+/// it applies.
+pub fn refusal_below(row: u8, call: &Call, found: &Found) -> Option<u8> {
+    let above = ROWS.iter().take_while(|(number, _)| *number != row).count();
+    first_of(&ROWS[above + 1..], call, found)
+}
+
 fn first_of(rows: &[(u8, Test)], call: &Call, found: &Found) -> Option<u8> {
     let row = rows.iter().find(|(_, applies)| applies(call, found))?;
     Some(row.0)

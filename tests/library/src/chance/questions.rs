@@ -1,0 +1,277 @@
+//! Questions by chance, each made in knowledge of the store that it is asked of.
+
+use super::handles::{self, Wish};
+use super::stores::gaps;
+use super::{below, bytes, password};
+use crate::question::{Question, BEYOND, VALIDATION};
+use model::call::{self, Call};
+use model::handle::{Handle, Password, FLAT};
+use model::random::Random;
+use model::sizes::{CLUSTERS, NODES, NODE_BYTES, SEGMENTS};
+use model::store::{Cluster, Mode, Segment, Store};
+
+/// Codes for single calls: all alike.
+pub const EVENLY: [u8; 10] = [1, 2, 3, 4, 5, 6, 7, 8, 9, VALIDATION];
+/// Codes for rows of calls: what fills the store comes more often than what empties it.
+pub const FILLING: [u8; 25] = [
+    1, 1, 1, 2, 3, 3, 3, 3, 3, 4, 5, 5, 5, 5, 6, 6, 6, 6, 7, 7, 8, 8, 9, 9, VALIDATION,
+];
+
+/// Buffers where there is no segment to go by.
+const SMALL_BUFFER_BYTES: usize = 64;
+
+/// What a question is made from; `given` are handles that earlier calls gave.
+pub struct Maker<'a> {
+    pub random: &'a mut Random,
+    pub store: &'a Store,
+    pub given: &'a [Handle],
+}
+
+impl Maker<'_> {
+    pub fn question(&mut self, codes: &[u8]) -> Question {
+        let code = *self.random.pick(codes).expect("there are codes");
+        let call = match code {
+            call::NEW_CLUSTER => self.new_cluster(),
+            call::DELETE_CLUSTER => self.delete_cluster(),
+            call::NEW_SEGMENT => self.new_segment(),
+            call::DELETE_SEGMENT => self.delete_segment(),
+            call::READ => self.read(),
+            call::WRITE => self.write(),
+            call::WEAKEN => self.weaken(),
+            call::REDUCE => self.reduce(),
+            call::NEW_PASSWORD => self.new_password(),
+            _ => self.validate(),
+        };
+        let buffer_bytes = self.buffer_bytes(&call);
+        Question {
+            call,
+            beyond: self.beyond(),
+            buffer: bytes(self.random, buffer_bytes),
+        }
+    }
+
+    /// A number that no `u32` holds. In fewer bytes some of them would be small.
+    fn beyond(&mut self) -> usize {
+        let small = below(self.random, SEGMENTS + 1);
+        match self.random.below(4) {
+            0 => usize::MAX,
+            1 => 1 << 63 | small,
+            2 => 1 << 48 | small,
+            _ => 1 << 32 | small,
+        }
+    }
+
+    /// Mostly `likely`; else a number out of range, or a little above or below `bound`.
+    fn near(&mut self, likely: usize, bound: usize) -> u32 {
+        let likely = likely as u32;
+        match self.random.below(40) {
+            0 => BEYOND,
+            1 => likely + (1 << 8),
+            2 => likely + (1 << 16),
+            3 => self.random.number() as u32,
+            4 | 5 => below(self.random, bound + 2) as u32,
+            _ => likely,
+        }
+    }
+
+    fn mode(&mut self) -> (Mode, u32) {
+        let (mode, number) = match self.random.one_in(2) {
+            true => (Mode::Read, 1),
+            false => (Mode::Write, 2),
+        };
+        match self.random.below(20) {
+            0 => (mode, self.random.byte().into()),
+            1 => (mode, self.random.below(4) as u32),
+            _ => (mode, number),
+        }
+    }
+
+    fn handle(&mut self, mode: Mode, primary: bool, segments: bool) -> Handle {
+        let wish = Wish {
+            mode,
+            primary,
+            segments,
+        };
+        handles::handle(self.random, self.store, self.given, wish)
+    }
+
+    fn cluster(&self, handle: &Handle) -> Option<&Cluster> {
+        let (node, local) = (usize::from(handle.node), usize::from(handle.local));
+        self.store.cluster(node, local)
+    }
+
+    fn current_node(&mut self, handle: &Handle) -> u32 {
+        match self.random.one_in(16) {
+            true => below(self.random, NODES) as u32,
+            false => self.near(handle.node.into(), NODES),
+        }
+    }
+
+    /// A segment of the handle's cluster that is present, or is not, if there is one.
+    fn segment(&mut self, handle: &Handle, present: bool) -> u32 {
+        let referenced_only = !self.random.one_in(4);
+        let cluster = self.cluster(handle);
+        let fits = |&segment: &usize| {
+            let is_present =
+                cluster.is_some_and(|cluster| cluster.segments[segment] != Segment::Absent);
+            is_present == present && (!referenced_only || handle.selector.references(segment))
+        };
+        let fitting: Vec<usize> = (0..SEGMENTS).filter(fits).collect();
+        let any = below(self.random, SEGMENTS);
+        let likely = self.random.pick(&fitting).copied().unwrap_or(any);
+        self.near(likely, SEGMENTS)
+    }
+
+    /// Often just what a gap of the node has room for, or one byte more.
+    fn size(&mut self, handle: &Handle) -> u32 {
+        let node = usize::from(handle.node) % NODES;
+        let gap = self
+            .random
+            .pick(&gaps(self.store, node))
+            .map(|gap| gap.length);
+        let likely = match (self.random.below(8), gap) {
+            (0, Some(gap)) => gap,
+            (1, Some(gap)) => gap + 1,
+            (2, _) => NODE_BYTES - 1 + below(self.random, 3),
+            (3, _) => 1 + below(self.random, NODE_BYTES),
+            (4, _) => below(self.random, 2),
+            _ => 1 + below(self.random, 100),
+        };
+        self.near(likely, NODE_BYTES)
+    }
+
+    /// For reads and writes, mostly about as many bytes as the segment has; nothing else is lent
+    /// a buffer.
+    fn buffer_bytes(&mut self, call: &Call) -> usize {
+        let (true, Some(handle), Some(segment)) =
+            (call.moves_bytes(), call.handle(), call.segment())
+        else {
+            return 0;
+        };
+        let cluster = self.cluster(handle);
+        let found = cluster.and_then(|cluster| cluster.segments.get(segment as usize));
+        match (found.and_then(Segment::extent), self.random.below(8)) {
+            (_, 0) => 0,
+            (Some(extent), 1) => extent.length - 1,
+            (Some(extent), 2) => below(self.random, extent.length),
+            (Some(extent), 3) => extent.length + 1,
+            (Some(extent), 4) => extent.length + below(self.random, NODE_BYTES),
+            (Some(extent), _) => extent.length,
+            (None, _) => below(self.random, SMALL_BUFFER_BYTES),
+        }
+    }
+
+    fn new_cluster(&mut self) -> Call {
+        let inactive = match self.random.one_in(5) {
+            true => None,
+            false => handles::place(self.random, self.store, |cluster| !cluster.active),
+        };
+        let any = (below(self.random, NODES), below(self.random, CLUSTERS));
+        let (node, local) = inactive.unwrap_or(any);
+        let read = password(self.random);
+        let write = match self.random.one_in(6) {
+            true => read,
+            false => password(self.random),
+        };
+        Call::NewCluster {
+            node: self.near(node, NODES),
+            local: self.near(local, CLUSTERS),
+            read,
+            write,
+        }
+    }
+
+    fn delete_cluster(&mut self) -> Call {
+        let segments = self.random.one_in(2);
+        let handle = self.handle(Mode::Write, true, segments);
+        let node = self.current_node(&handle);
+        Call::DeleteCluster { node, handle }
+    }
+
+    fn new_segment(&mut self) -> Call {
+        let segments = self.random.one_in(2);
+        let handle = self.handle(Mode::Write, true, segments);
+        let present = self.random.one_in(10);
+        Call::NewSegment {
+            node: self.current_node(&handle),
+            segment: self.segment(&handle, present),
+            size: self.size(&handle),
+            handle,
+        }
+    }
+
+    fn delete_segment(&mut self) -> Call {
+        let handle = self.handle(Mode::Write, true, true);
+        let present = !self.random.one_in(8);
+        Call::DeleteSegment {
+            node: self.current_node(&handle),
+            segment: self.segment(&handle, present),
+            handle,
+        }
+    }
+
+    fn read(&mut self) -> Call {
+        let handle = self.handle(Mode::Read, false, true);
+        let present = !self.random.one_in(8);
+        let segment = self.segment(&handle, present);
+        Call::Read { segment, handle }
+    }
+
+    fn write(&mut self) -> Call {
+        let handle = self.handle(Mode::Write, false, true);
+        let present = !self.random.one_in(8);
+        let segment = self.segment(&handle, present);
+        Call::Write { segment, handle }
+    }
+
+    fn weaken(&mut self) -> Call {
+        let (mode, _) = self.mode();
+        let handle = self.handle(mode, false, true);
+        let mask = match self.random.below(6) {
+            0 => FLAT,
+            1 => 0,
+            2 => !(1 << self.random.below(8)),
+            3 => handle.selector.referenced(),
+            _ => self.random.byte(),
+        };
+        Call::Weaken { mask, handle }
+    }
+
+    fn reduce(&mut self) -> Call {
+        let (mode, number) = self.mode();
+        let handle = self.handle(mode, false, true);
+        Call::Reduce {
+            mode: number,
+            handle,
+        }
+    }
+
+    fn validate(&mut self) -> Call {
+        let (mode, number) = self.mode();
+        let handle = self.handle(mode, false, true);
+        Call::Validate {
+            mode: number,
+            handle,
+        }
+    }
+
+    fn new_password(&mut self) -> Call {
+        let (mode, number) = self.mode();
+        let handle = self.handle(mode, true, true);
+        let password = self.next_password(&handle);
+        Call::NewPassword {
+            mode: number,
+            handle,
+            password,
+        }
+    }
+
+    /// Sometimes one of those that the handle's cluster has already.
+    fn next_password(&mut self, handle: &Handle) -> Password {
+        match (self.cluster(handle).copied(), self.random.below(8)) {
+            (Some(cluster), 0) => cluster.read,
+            (Some(cluster), 1) => cluster.write,
+            _ => password(self.random),
+        }
+    }
+}

@@ -1,0 +1,182 @@
+//! Sound stores by chance, from empty ones to ones in which nothing is left.
+
+use super::{below, bytes, password};
+use crate::image::encode;
+use crate::question::Held;
+use model::random::Random;
+use model::sizes::{CLUSTERS, MEMORY_BYTES, NODE_BYTES, SEGMENTS};
+use model::store::{Cluster, Extent, Segment, Store};
+use std::collections::BTreeSet;
+
+#[derive(Clone, Copy, Debug, PartialEq, Eq, PartialOrd, Ord)]
+pub enum Fill {
+    /// The starting store's records.
+    Empty,
+    /// Some clusters are active and some segments present.
+    Partial,
+    /// Segments take every byte of every node; some are absent.
+    NoByteFree,
+    /// Every cluster is active and every segment present.
+    NoSegmentAbsent,
+}
+
+impl Fill {
+    pub const ALL: [Fill; 4] = [
+        Fill::Empty,
+        Fill::Partial,
+        Fill::NoByteFree,
+        Fill::NoSegmentAbsent,
+    ];
+
+    /// One of them, the partial one most often.
+    pub fn by_chance(random: &mut Random) -> Fill {
+        match random.below(16) {
+            0 => Fill::Empty,
+            1..=3 => Fill::NoByteFree,
+            4 | 5 => Fill::NoSegmentAbsent,
+            _ => Fill::Partial,
+        }
+    }
+}
+
+pub fn store(random: &mut Random, fill: Fill) -> Store {
+    let mut store = Store::starting();
+    for clusters in &mut store.clusters {
+        match fill {
+            Fill::Empty => {}
+            Fill::Partial => partial(random, clusters),
+            Fill::NoByteFree => no_byte_free(random, clusters),
+            Fill::NoSegmentAbsent => no_segment_absent(random, clusters),
+        }
+    }
+    store
+}
+
+/// The store with a memory that has any bytes.
+pub fn held(random: &mut Random, store: &Store) -> Held {
+    Held {
+        image: encode(store),
+        memory: bytes(random, MEMORY_BYTES),
+    }
+}
+
+fn partial(random: &mut Random, clusters: &mut [Cluster; CLUSTERS]) {
+    activate(random, clusters, CLUSTERS * 2 / 3);
+    let mut places = places(random, clusters);
+    let most = if random.one_in(4) { places.len() } else { 12 };
+    places.truncate(below(random, most + 1));
+    // As many parts are left free as are taken.
+    let mut parts = parts(random, 2 * places.len());
+    random.shuffle(&mut parts);
+    put(clusters, &places, &parts);
+}
+
+fn no_byte_free(random: &mut Random, clusters: &mut [Cluster; CLUSTERS]) {
+    activate(random, clusters, CLUSTERS / 2);
+    let mut places = places(random, clusters);
+    let most = places.len().min(12);
+    places.truncate(1 + below(random, most));
+    let parts = parts(random, places.len());
+    put(clusters, &places, &parts);
+}
+
+fn no_segment_absent(random: &mut Random, clusters: &mut [Cluster; CLUSTERS]) {
+    activate(random, clusters, CLUSTERS);
+    let places = places(random, clusters);
+    let more = below(random, 2) * places.len();
+    let mut parts = parts(random, places.len() + more);
+    random.shuffle(&mut parts);
+    put(clusters, &places, &parts);
+}
+
+/// Makes about `wanted` clusters active, and at least one.
+fn activate(random: &mut Random, clusters: &mut [Cluster; CLUSTERS], wanted: usize) {
+    let certain = below(random, CLUSTERS);
+    for (local, cluster) in clusters.iter_mut().enumerate() {
+        if local == certain || below(random, CLUSTERS) < wanted {
+            *cluster = active(random);
+        }
+    }
+}
+
+/// An active cluster without segments.
+pub fn active(random: &mut Random) -> Cluster {
+    Cluster {
+        active: true,
+        read: password(random),
+        write: password(random),
+        ..Cluster::INACTIVE
+    }
+}
+
+/// The active clusters' segments, as local number and segment, in any order.
+fn places(random: &mut Random, clusters: &[Cluster; CLUSTERS]) -> Vec<(usize, usize)> {
+    let active = (0..CLUSTERS).filter(|&local| clusters[local].active);
+    let mut places: Vec<(usize, usize)> = active
+        .flat_map(|local| (0..SEGMENTS).map(move |segment| (local, segment)))
+        .collect();
+    random.shuffle(&mut places);
+    places
+}
+
+/// A node's memory cut into `count` parts, of one byte at least.
+fn parts(random: &mut Random, count: usize) -> Vec<Extent> {
+    let mut ends = BTreeSet::new();
+    while ends.len() + 1 < count {
+        ends.insert(match random.below(8) {
+            0 => 1 + below(random, 3),
+            1 => NODE_BYTES - 1 - below(random, 3),
+            _ => 1 + below(random, NODE_BYTES - 1),
+        });
+    }
+    ends.insert(NODE_BYTES);
+    let mut base = 0;
+    let part = |end| {
+        let length = end - base;
+        let part = Extent { base, length };
+        base = end;
+        part
+    };
+    ends.into_iter().map(part).collect()
+}
+
+fn put(clusters: &mut [Cluster; CLUSTERS], places: &[(usize, usize)], parts: &[Extent]) {
+    for (&(local, segment), part) in places.iter().zip(parts) {
+        clusters[local].segments[segment] = present(part.base, part.length);
+    }
+}
+
+pub fn present(base: usize, length: usize) -> Segment {
+    Segment::Present {
+        base: base as u16,
+        length: length as u16,
+    }
+}
+
+/// The present segments of a node in the order of their bases.
+pub fn extents(store: &Store, node: usize) -> Vec<Extent> {
+    let segments = store.clusters[node]
+        .iter()
+        .flat_map(|cluster| &cluster.segments);
+    let mut extents: Vec<Extent> = segments.filter_map(Segment::extent).collect();
+    extents.sort();
+    extents
+}
+
+/// The parts of a sound store's node that no segment takes.
+pub fn gaps(store: &Store, node: usize) -> Vec<Extent> {
+    let mut base = 0;
+    let mut gaps = Vec::new();
+    let end = Extent {
+        base: NODE_BYTES,
+        length: 0,
+    };
+    for taken in extents(store, node).into_iter().chain([end]) {
+        if base < taken.base {
+            let length = taken.base - base;
+            gaps.push(Extent { base, length });
+        }
+        base = taken.end();
+    }
+    gaps
+}

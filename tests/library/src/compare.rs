@@ -1,0 +1,121 @@
+//! One question put to the library and to the model, and everything that has to be equal then.
+
+use crate::image::{decode, encode, Image};
+use crate::question::{Answer, Held, Question};
+use model::call::{Call, Reply};
+use model::model::run;
+use model::store::Store;
+use model::table::UNSOUND;
+
+/// Something that answers questions; [`crate::guard::ask`] is the one to be compared.
+pub type Guard = fn(&mut Held, &Question) -> Answer;
+
+/// What the guard and the model work on, each on its own.
+#[derive(Clone)]
+pub struct Sides {
+    pub guard: Held,
+    pub model: Held,
+}
+
+impl Sides {
+    pub fn both(held: Held) -> Sides {
+        Sides {
+            guard: held.clone(),
+            model: held,
+        }
+    }
+}
+
+/// The model's answer.
+pub fn by_model(held: &mut Held, question: &Question) -> Answer {
+    let mut buffer = question.buffer.clone();
+    let (image, memory) = (&mut held.image, &mut held.memory);
+    let reply = over_image(image, memory, &mut buffer, &question.call);
+    Answer { reply, buffer }
+}
+
+/// Runs the model on the store of an image. The model has no store for a damaged image: every call
+/// that looks at the store is refused with 1 then.
+pub fn over_image(image: &mut Image, memory: &mut [u8], buffer: &mut [u8], call: &Call) -> Reply {
+    if let Call::Weaken { .. } = call {
+        return run(&mut Store::starting(), memory, buffer, call);
+    }
+    let Some(mut store) = decode(image) else {
+        return Reply::refused(UNSOUND);
+    };
+    let reply = run(&mut store, memory, buffer, call);
+    if reply.is_done() {
+        *image = encode(&store);
+    }
+    reply
+}
+
+/// Whether the model holds the store for sound; a damaged image has no sound store.
+pub fn is_sound(held: &Held) -> bool {
+    decode(&held.image).is_some_and(|store| store.is_sound(held.memory.len()))
+}
+
+/// Puts the question to both. Gives their answer, or tells in what they differ.
+pub fn ask(guard: Guard, sides: &mut Sides, question: &Question) -> Result<Answer, String> {
+    let before = sides.guard.clone();
+    let expected = by_model(&mut sides.model, question);
+    let found = guard(&mut sides.guard, question);
+    let compared = refusal_changes_nothing(&before, question, &sides.guard, &found)
+        .and_then(|()| same_answer(&expected, &found))
+        .and_then(|()| same_held(&sides.model, &sides.guard));
+    match compared {
+        Ok(()) => Ok(found),
+        Err(what) => Err(format!(
+            "{what}\n  asked:   {question}\n  model:   {expected}\n  library: {found}"
+        )),
+    }
+}
+
+fn same_answer(expected: &Answer, found: &Answer) -> Result<(), String> {
+    if expected.reply != found.reply {
+        return Err("the replies differ".to_string());
+    }
+    same_bytes("the buffers", &expected.buffer, &found.buffer)
+}
+
+fn same_held(expected: &Held, found: &Held) -> Result<(), String> {
+    same_bytes("the images", &expected.image, &found.image)?;
+    same_bytes("the memories", &expected.memory, &found.memory)
+}
+
+/// Looked at on the library's side alone, so that it does not hang on the model.
+fn refusal_changes_nothing(
+    before: &Held,
+    question: &Question,
+    after: &Held,
+    found: &Answer,
+) -> Result<(), String> {
+    if found.reply.is_done() {
+        return Ok(());
+    }
+    if found.reply != Reply::refused(found.reply.number) {
+        return Err("a refusal gives more than its number".to_string());
+    }
+    same_held(before, after)
+        .and_then(|()| same_bytes("the buffers", &question.buffer, &found.buffer))
+        .map_err(|what| format!("a refusal changes something: {what}"))
+}
+
+/// `Err` tells the first place at which the two differ.
+pub fn same_bytes(what: &str, expected: &[u8], found: &[u8]) -> Result<(), String> {
+    if expected == found {
+        return Ok(());
+    }
+    let mut pairs = expected.iter().zip(found);
+    match pairs.position(|(expected, found)| expected != found) {
+        Some(at) => Err(format!(
+            "{what} differ at byte {at}: {} and {}",
+            expected[at], found[at]
+        )),
+        None => Err(format!(
+            "{what} differ in length: {} and {}",
+            expected.len(),
+            found.len()
+        )),
+    }
+}

@@ -1,0 +1,209 @@
+//! Two copies of a store that differ in the secrets of one cluster: whoever has no handle of that
+//! cluster gets the same from both.
+
+use crate::chance::questions::{Maker, FILLING};
+use crate::chance::stores::{self, Fill};
+use crate::chance::{below, bytes, cases, fill, handles, password};
+use crate::compare::{by_model, same_bytes, Guard};
+use crate::image::{decode, encode, passwords_at, record_at};
+use crate::question::{Held, Question};
+use model::call::Call;
+use model::handle::{Handle, Password};
+use model::random::Random;
+use model::sizes::MEMORY_BYTES;
+use model::store::{Segment, Store};
+
+/// Calls of one list.
+pub const LIST_CALLS: u64 = 100;
+/// The modes' numbers.
+const MODES: [u32; 2] = [1, 2];
+
+/// A pair of copies and the place of the cluster that is set apart.
+struct Pair {
+    copies: [Held; 2],
+    apart: (usize, usize),
+    /// The parts of the memory that are the segments of the cluster set apart.
+    own: Vec<std::ops::Range<usize>>,
+}
+
+/// How many calls there were, and how many of them named the cluster set apart.
+#[derive(Debug, Default)]
+pub struct Count {
+    pub calls: u64,
+    pub naming: u64,
+}
+
+pub fn compare(guard: Guard, seed: u64, pairs: u64) -> Result<Count, String> {
+    let mut count = Count::default();
+    cases(seed, pairs, |random| one(guard, random, &mut count))?;
+    Ok(count)
+}
+
+fn one(guard: Guard, random: &mut Random, count: &mut Count) -> Result<(), String> {
+    let mut pair = by_chance(random);
+    let start = pair.copies.clone();
+    let mut given = Vec::new();
+    for at in 1..=LIST_CALLS {
+        let question = pair.question(random, &given)?;
+        count.calls += 1;
+        count.naming += u64::from(pair.names_apart(&question));
+        let [first, second] = pair.copies.each_mut().map(|copy| guard(copy, &question));
+        if first != second {
+            return Err(format!(
+                "call {at}: the copies answer differently\n  asked:  {question}\n  first:  {first}\n  second: {second}"
+            ));
+        }
+        given.extend(first.handles(&question));
+    }
+    pair.agree()?;
+    pair.kept_apart(&start)
+}
+
+fn by_chance(random: &mut Random) -> Pair {
+    let mut store = stores::store(random, Fill::Partial);
+    let with_segments = handles::place(random, &store, |cluster| cluster.has_segments());
+    let active = handles::place(random, &store, |cluster| cluster.active);
+    let apart = with_segments.or(active).expect("some cluster is active");
+    let own = parts_of(&store, apart);
+    let first = Held {
+        image: encode(&store),
+        memory: bytes(random, MEMORY_BYTES),
+    };
+    let cluster = &mut store.clusters[apart.0][apart.1];
+    (cluster.read, cluster.write) = (password(random), password(random));
+    let mut second = Held {
+        image: encode(&store),
+        memory: first.memory.clone(),
+    };
+    for part in &own {
+        fill(random, &mut second.memory[part.clone()]);
+    }
+    Pair {
+        copies: [first, second],
+        apart,
+        own,
+    }
+}
+
+fn parts_of(store: &Store, (node, local): (usize, usize)) -> Vec<std::ops::Range<usize>> {
+    let segments = store.clusters[node][local].segments.iter();
+    let extents = segments.filter_map(Segment::extent);
+    extents.map(|extent| extent.in_memory(node)).collect()
+}
+
+impl Pair {
+    /// A question that a list of calls may have: whatever handle of the cluster set apart it
+    /// presents validates in neither mode and in neither copy. Weakening may present any.
+    fn question(&self, random: &mut Random, given: &[Handle]) -> Result<Question, String> {
+        let stores = self.copies.each_ref().map(|copy| decode(&copy.image));
+        let [Some(first), Some(second)] = stores else {
+            return Err("a copy is damaged".to_string());
+        };
+        let seen = [&first, &second];
+        loop {
+            let store = seen[below(random, seen.len())];
+            let maker = &mut Maker {
+                random,
+                store,
+                given,
+            };
+            let mut question = maker.question(&FILLING);
+            if random.one_in(4) {
+                self.aim(random, store, &mut question);
+            }
+            let weakening = matches!(question.call, Call::Weaken { .. });
+            if weakening || !self.names_apart(&question) || !self.opens(&question) {
+                return Ok(question);
+            }
+        }
+    }
+
+    /// Makes the question name the cluster set apart, mostly with a password that does not open it.
+    fn aim(&self, random: &mut Random, store: &Store, question: &mut Question) {
+        let secret = password(random);
+        let cluster = &store.clusters[self.apart.0][self.apart.1];
+        let near = |mut password: Password| {
+            password[0] ^= 1;
+            password
+        };
+        let choices = [
+            secret,
+            near(cluster.read),
+            near(cluster.write),
+            cluster.read,
+        ];
+        let chosen = choices[below(random, choices.len())];
+        if let Some(handle) = handle_mut(&mut question.call) {
+            handle.node = self.apart.0 as u16;
+            handle.local = self.apart.1 as u8;
+            if random.one_in(2) {
+                handle.password = chosen;
+            }
+        }
+    }
+
+    fn names_apart(&self, question: &Question) -> bool {
+        let place = |handle: &Handle| (usize::from(handle.node), usize::from(handle.local));
+        question.call.handle().map(place) == Some(self.apart)
+    }
+
+    /// Whether the question's handle validates in some mode in some copy, as the model judges.
+    fn opens(&self, question: &Question) -> bool {
+        let Some(&handle) = question.call.handle() else {
+            return false;
+        };
+        let validates = |copy: &Held, mode: u32| {
+            let question = Question::of(Call::Validate { mode, handle });
+            by_model(&mut copy.clone(), &question).reply.is_done()
+        };
+        let mut copies = self.copies.iter();
+        copies.any(|copy| MODES.iter().any(|&mode| validates(copy, mode)))
+    }
+
+    /// Everything but the secrets of the cluster set apart is equal in both copies.
+    fn agree(&self) -> Result<(), String> {
+        let [first, second] = self.copies.each_ref().map(|copy| {
+            let mut others = copy.clone();
+            others.image[passwords_at(self.apart.0, self.apart.1)].fill(0);
+            for part in &self.own {
+                others.memory[part.clone()].fill(0);
+            }
+            others
+        });
+        same_bytes("images of the copies", &first.image, &second.image)?;
+        same_bytes("memories of the copies", &first.memory, &second.memory)
+    }
+
+    /// The cluster set apart is in each copy what it was at the start.
+    fn kept_apart(&self, start: &[Held; 2]) -> Result<(), String> {
+        let record = record_at(self.apart.0, self.apart.1);
+        for (before, after) in start.iter().zip(&self.copies) {
+            let (image, memory) = (&before.image, &before.memory);
+            same_bytes(
+                "records set apart",
+                &image[record.clone()],
+                &after.image[record.clone()],
+            )?;
+            for part in &self.own {
+                let now = &after.memory[part.clone()];
+                same_bytes("segments set apart", &memory[part.clone()], now)?;
+            }
+        }
+        Ok(())
+    }
+}
+
+fn handle_mut(call: &mut Call) -> Option<&mut Handle> {
+    match call {
+        Call::NewCluster { .. } => None,
+        Call::DeleteCluster { handle, .. }
+        | Call::NewSegment { handle, .. }
+        | Call::DeleteSegment { handle, .. }
+        | Call::Read { handle, .. }
+        | Call::Write { handle, .. }
+        | Call::Weaken { handle, .. }
+        | Call::Reduce { handle, .. }
+        | Call::NewPassword { handle, .. }
+        | Call::Validate { handle, .. } => Some(handle),
+    }
+}

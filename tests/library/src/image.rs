@@ -1,0 +1,108 @@
+//! The records of all clusters as the bytes that the header lays out.
+
+use model::handle::Password;
+use model::sizes::{CLUSTERS, NODES, PASSWORD_BYTES, SEGMENTS};
+use model::store::{Cluster, Segment, Store};
+use std::ops::Range;
+
+pub const READ_AT: usize = 1;
+pub const WRITE_AT: usize = READ_AT + PASSWORD_BYTES;
+pub const SEGMENTS_AT: usize = WRITE_AT + PASSWORD_BYTES;
+/// Base and length, two bytes each.
+pub const SEGMENT_BYTES: usize = 4;
+pub const RECORD_BYTES: usize = SEGMENTS_AT + SEGMENTS * SEGMENT_BYTES;
+pub const IMAGE_BYTES: usize = NODES * CLUSTERS * RECORD_BYTES;
+
+const INACTIVE: u8 = 0;
+const ACTIVE: u8 = 1;
+
+pub type Image = [u8; IMAGE_BYTES];
+
+/// Where a cluster's record lies; its first byte tells whether the cluster is active.
+pub fn record_at(node: usize, local: usize) -> Range<usize> {
+    let start = (node * CLUSTERS + local) * RECORD_BYTES;
+    start..start + RECORD_BYTES
+}
+
+/// Where the base and the length of a segment lie.
+pub fn segment_at(node: usize, local: usize, segment: usize) -> Range<usize> {
+    let start = record_at(node, local).start + SEGMENTS_AT + segment * SEGMENT_BYTES;
+    start..start + SEGMENT_BYTES
+}
+
+/// Where a cluster's two passwords lie, read before write.
+pub fn passwords_at(node: usize, local: usize) -> Range<usize> {
+    let start = record_at(node, local).start;
+    start + READ_AT..start + SEGMENTS_AT
+}
+
+/// The image of a store. A present segment of length zero has none: it is written down all the
+/// same, and comes out as an absent segment with a base.
+pub fn encode(store: &Store) -> Image {
+    let mut image = [0; IMAGE_BYTES];
+    let clusters = store.clusters.as_flattened();
+    for (record, cluster) in image.chunks_exact_mut(RECORD_BYTES).zip(clusters) {
+        encode_cluster(cluster, record);
+    }
+    image
+}
+
+fn encode_cluster(cluster: &Cluster, record: &mut [u8]) {
+    record[0] = if cluster.active { ACTIVE } else { INACTIVE };
+    record[READ_AT..WRITE_AT].copy_from_slice(&cluster.read);
+    record[WRITE_AT..SEGMENTS_AT].copy_from_slice(&cluster.write);
+    let places = record[SEGMENTS_AT..].chunks_exact_mut(SEGMENT_BYTES);
+    for (place, segment) in places.zip(&cluster.segments) {
+        place.copy_from_slice(&encode_segment(segment));
+    }
+}
+
+fn encode_segment(segment: &Segment) -> [u8; SEGMENT_BYTES] {
+    match *segment {
+        Segment::Absent => [0; SEGMENT_BYTES],
+        Segment::Present { base, length } => {
+            let ([b0, b1], [l0, l1]) = (base.to_be_bytes(), length.to_be_bytes());
+            [b0, b1, l0, l1]
+        }
+    }
+}
+
+/// The store of an image; `None` where a record encodes no cluster.
+pub fn decode(image: &Image) -> Option<Store> {
+    let mut store = Store::starting();
+    let clusters = store.clusters.as_flattened_mut();
+    for (record, cluster) in image.chunks_exact(RECORD_BYTES).zip(clusters) {
+        *cluster = decode_cluster(record)?;
+    }
+    Some(store)
+}
+
+fn decode_cluster(record: &[u8]) -> Option<Cluster> {
+    let active = match record[0] {
+        INACTIVE => false,
+        ACTIVE => true,
+        _ => return None,
+    };
+    let password = |at: usize| Password::try_from(&record[at..at + PASSWORD_BYTES]).ok();
+    let mut segments = [Segment::Absent; SEGMENTS];
+    let places = record[SEGMENTS_AT..].chunks_exact(SEGMENT_BYTES);
+    for (segment, place) in segments.iter_mut().zip(places) {
+        *segment = decode_segment(place)?;
+    }
+    Some(Cluster {
+        active,
+        read: password(READ_AT)?,
+        write: password(WRITE_AT)?,
+        segments,
+    })
+}
+
+fn decode_segment(place: &[u8]) -> Option<Segment> {
+    let base = u16::from_be_bytes([place[0], place[1]]);
+    let length = u16::from_be_bytes([place[2], place[3]]);
+    match (base, length) {
+        (0, 0) => Some(Segment::Absent),
+        (_, 0) => None,
+        _ => Some(Segment::Present { base, length }),
+    }
+}

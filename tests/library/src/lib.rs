@@ -1,0 +1,22 @@
+//! The proved C library, and the comparison of what it does with what the model does.
+//!
+//! - [`ffi`], [`guard`]: the functions of `include/gelmuszta.h`, and a safe way to call them.
+//! - [`image`]: the records of all clusters as the header lays them out.
+//! - [`question`]: a call with everything it is asked with, and what is answered.
+//! - [`compare`]: one question put to both, and everything that has to be equal afterwards.
+//! - [`chance`]: stores, damage, handles and questions made by chance from a seed.
+//! - [`single`], [`runs`], [`batch`], [`copies`], [`published`]: what is compared.
+//! - [`tally`]: which answers, fills, damages and selectors were met.
+
+pub mod batch;
+pub mod chance;
+pub mod compare;
+pub mod copies;
+pub mod ffi;
+pub mod guard;
+pub mod image;
+pub mod published;
+pub mod question;
+pub mod runs;
+pub mod single;
+pub mod tally;

@@ -1,0 +1,207 @@
+//! The published handles, each line confirmed through the library on a store made for it.
+
+use crate::guard;
+use crate::image::encode;
+use crate::question::{Held, Question};
+use model::call::{Call, Reply};
+use model::handle::{Handle, HandleBytes, Password, FLAT};
+use model::hexadecimal::decode;
+use model::sizes::MEMORY_BYTES;
+use model::store::{Cluster, Store};
+use model::table::DONE;
+use std::collections::HashMap;
+
+/// What `docs/vectors/README.md` explains.
+pub const TEXT: &str = include_str!("../../../docs/vectors/handles.txt");
+
+/// Gives how many lines were confirmed.
+pub fn confirm(text: &str) -> Result<usize, String> {
+    let lines = text
+        .lines()
+        .filter(|line| !line.is_empty() && !line.starts_with('#'));
+    let mut confirmed = 0;
+    for text in lines {
+        let held = Line::read(text).and_then(|line| line.holds());
+        match held {
+            Some(true) => confirmed += 1,
+            Some(false) => return Err(format!("the library does not confirm: {text}")),
+            None => return Err(format!("not a line of published handles: {text}")),
+        }
+    }
+    Ok(confirmed)
+}
+
+struct Line<'a> {
+    kind: &'a str,
+    values: HashMap<&'a str, &'a str>,
+}
+
+impl<'a> Line<'a> {
+    fn read(text: &'a str) -> Option<Line<'a>> {
+        let (kind, pairs) = text.split_once(' ')?;
+        let pairs = pairs.split(' ').map(|pair| pair.split_once('='));
+        let values = pairs.collect::<Option<HashMap<&str, &str>>>()?;
+        Some(Line { kind, values })
+    }
+
+    /// Whether the library says the same; `None` where the line says nothing that could be asked.
+    fn holds(&self) -> Option<bool> {
+        match self.kind {
+            "conversion" => self.conversion(),
+            "primary" => self.primary(),
+            "weakened" => self.weakened(),
+            "reduced" => self.reduced(),
+            "spent" => self.spent(),
+            "validation" => self.validation(),
+            _ => None,
+        }
+    }
+
+    fn conversion(&self) -> Option<bool> {
+        let converted = guard::convert(&self.password("password")?, self.byte("parameter")?);
+        Some(converted == self.password("outcome")?)
+    }
+
+    /// The handle is what making the cluster gives for the mode.
+    fn primary(&self) -> Option<bool> {
+        let handle = self.handle("handle")?;
+        let cluster = self.cluster()?;
+        let call = Call::NewCluster {
+            node: u32::from_str_radix(self.values.get("node")?, 16).ok()?,
+            local: u32::from_str_radix(self.values.get("local")?, 16).ok()?,
+            read: cluster.read,
+            write: cluster.write,
+        };
+        let made = ask(&mut held(&Store::starting()), call);
+        let given = match self.mode()? {
+            1 => made.first,
+            _ => made.second,
+        };
+        Some(
+            made.number == DONE
+                && given == handle.to_bytes()
+                && self.counts(&handle)?
+                && self.validates(handle)? == DONE,
+        )
+    }
+
+    fn weakened(&self) -> Option<bool> {
+        let (old, new) = (self.handle("old")?, self.handle("new")?);
+        let mask = self.byte("mask")?;
+        let expected = Reply {
+            count: self.number("count")?.into(),
+            ..Reply::with_handle(&new)
+        };
+        let call = Call::Weaken { mask, handle: old };
+        Some(
+            ask(&mut held(&Store::starting()), call) == expected
+                && self.validates(old)? == DONE
+                && self.validates(new)? == DONE,
+        )
+    }
+
+    fn reduced(&self) -> Option<bool> {
+        let (old, new) = (self.handle("old")?, self.handle("new")?);
+        let call = Call::Reduce {
+            mode: self.mode()?,
+            handle: old,
+        };
+        Some(
+            ask(&mut held(&self.store(&old)?), call) == Reply::with_handle(&new)
+                && self.counts(&new)?
+                && self.validates(new)? == DONE,
+        )
+    }
+
+    fn spent(&self) -> Option<bool> {
+        let call = Call::Weaken {
+            mask: self.byte("mask")?,
+            handle: self.handle("old")?,
+        };
+        let reply = ask(&mut held(&Store::starting()), call);
+        Some(reply == Reply::refused(self.number("number")?))
+    }
+
+    fn validation(&self) -> Option<bool> {
+        Some(self.validates(self.handle("handle")?)? == self.number("number")?)
+    }
+
+    /// The number that validating in the line's mode gives.
+    fn validates(&self, handle: Handle) -> Option<u8> {
+        let mode = self.mode()?;
+        let call = Call::Validate { mode, handle };
+        Some(ask(&mut held(&self.store(&handle)?), call).number)
+    }
+
+    /// Whether the handle references as many segments as the line says: a mask that excludes
+    /// nothing makes weakening tell it.
+    fn counts(&self, handle: &Handle) -> Option<bool> {
+        let call = Call::Weaken {
+            mask: FLAT,
+            handle: *handle,
+        };
+        let reply = ask(&mut held(&Store::starting()), call);
+        let unchanged = reply.number == DONE && reply.first == handle.to_bytes();
+        Some(unchanged && reply.count == self.number("count")?.into())
+    }
+
+    /// A store in which the handle's cluster is active and has the line's primary password.
+    fn store(&self, handle: &Handle) -> Option<Store> {
+        let mut store = Store::starting();
+        let clusters = store.clusters.get_mut(usize::from(handle.node))?;
+        *clusters.get_mut(usize::from(handle.local))? = self.cluster()?;
+        Some(store)
+    }
+
+    /// Active, with the line's primary password for its mode and another one for the other mode.
+    fn cluster(&self) -> Option<Cluster> {
+        let primary = self.password("primary")?;
+        let other = primary.map(|byte| !byte);
+        let (read, write) = match self.mode()? {
+            1 => (primary, other),
+            _ => (other, primary),
+        };
+        Some(Cluster {
+            active: true,
+            read,
+            write,
+            ..Cluster::INACTIVE
+        })
+    }
+
+    fn mode(&self) -> Option<u32> {
+        match *self.values.get("mode")? {
+            "read" => Some(1),
+            "write" => Some(2),
+            _ => None,
+        }
+    }
+
+    fn password(&self, key: &str) -> Option<Password> {
+        decode(self.values.get(key)?)?.try_into().ok()
+    }
+
+    fn handle(&self, key: &str) -> Option<Handle> {
+        let bytes: HandleBytes = decode(self.values.get(key)?)?.try_into().ok()?;
+        Some(Handle::from_bytes(&bytes))
+    }
+
+    fn byte(&self, key: &str) -> Option<u8> {
+        u8::from_str_radix(self.values.get(key)?, 16).ok()
+    }
+
+    fn number(&self, key: &str) -> Option<u8> {
+        self.values.get(key)?.parse().ok()
+    }
+}
+
+fn held(store: &Store) -> Held {
+    Held {
+        image: encode(store),
+        memory: vec![0; MEMORY_BYTES],
+    }
+}
+
+fn ask(held: &mut Held, call: Call) -> Reply {
+    guard::ask(held, &Question::of(call)).reply
+}

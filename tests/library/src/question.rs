@@ -1,0 +1,105 @@
+//! A call with everything it is asked with, what it is asked of, and what is answered.
+
+use crate::image::Image;
+use model::call::{self, Call, Reply};
+use model::handle::Handle;
+use std::fmt;
+
+/// The number of a call's argument that stands for [`Question::beyond`].
+pub const BEYOND: u32 = u32::MAX;
+/// Validation has no code; in tables it stands below the nine calls.
+pub const VALIDATION: u8 = 10;
+
+/// What a caller keeps and lends to each call.
+#[derive(Clone, PartialEq, Eq)]
+pub struct Held {
+    pub image: Image,
+    pub memory: Vec<u8>,
+}
+
+#[derive(Clone, PartialEq, Eq)]
+pub struct Question {
+    /// The call as the model gets it.
+    pub call: Call,
+    /// What the library gets for an argument that is [`BEYOND`] in the model's call. Both are out
+    /// of every range; the library's numbers are wider.
+    pub beyond: usize,
+    /// A read's buffer or a write's data.
+    pub buffer: Vec<u8>,
+}
+
+impl Question {
+    pub fn of(call: Call) -> Question {
+        Question {
+            call,
+            beyond: BEYOND as usize,
+            buffer: Vec::new(),
+        }
+    }
+
+    /// The call's code, or [`VALIDATION`].
+    pub fn code(&self) -> u8 {
+        match self.call {
+            Call::NewCluster { .. } => call::NEW_CLUSTER,
+            Call::DeleteCluster { .. } => call::DELETE_CLUSTER,
+            Call::NewSegment { .. } => call::NEW_SEGMENT,
+            Call::DeleteSegment { .. } => call::DELETE_SEGMENT,
+            Call::Read { .. } => call::READ,
+            Call::Write { .. } => call::WRITE,
+            Call::Weaken { .. } => call::WEAKEN,
+            Call::Reduce { .. } => call::REDUCE,
+            Call::NewPassword { .. } => call::NEW_PASSWORD,
+            Call::Validate { .. } => VALIDATION,
+        }
+    }
+}
+
+impl fmt::Display for Question {
+    fn fmt(&self, to: &mut fmt::Formatter) -> fmt::Result {
+        write!(
+            to,
+            "{:?}, {BEYOND} standing for {}, buffer of {} bytes",
+            self.call,
+            self.beyond,
+            self.buffer.len()
+        )
+    }
+}
+
+/// The reply, and with it all bytes of the buffer (or the data) afterwards.
+#[derive(Clone, PartialEq, Eq)]
+pub struct Answer {
+    pub reply: Reply,
+    pub buffer: Vec<u8>,
+}
+
+impl Answer {
+    /// The handles that a call done has given.
+    pub fn handles(&self, question: &Question) -> Vec<Handle> {
+        let count = match question.code() {
+            _ if !self.reply.is_done() => 0,
+            call::NEW_CLUSTER => 2,
+            call::WEAKEN | call::REDUCE | call::NEW_PASSWORD => 1,
+            _ => 0,
+        };
+        let handles = [self.reply.first, self.reply.second];
+        handles[..count].iter().map(Handle::from_bytes).collect()
+    }
+}
+
+impl fmt::Display for Answer {
+    fn fmt(&self, to: &mut fmt::Formatter) -> fmt::Result {
+        let Reply {
+            number,
+            first,
+            second,
+            count,
+            length,
+        } = &self.reply;
+        let [first, second] = [first, second].map(|handle| model::hexadecimal::encode(handle));
+        write!(
+            to,
+            "number {number}, handles {first} {second}, count {count}, length {length}"
+        )
+    }
+}

@@ -1,0 +1,48 @@
+//! Long rows of calls from the starting store: handles that were given are weakened, reduced,
+//! revoked and presented again, and each call works on what the last one left.
+
+use crate::chance::cases;
+use crate::chance::questions::{Maker, FILLING};
+use crate::compare::{ask, same_bytes, Guard, Sides};
+use crate::guard;
+use crate::image::{decode, encode, IMAGE_BYTES};
+use crate::question::Held;
+use crate::tally::Tally;
+use model::random::Random;
+use model::sizes::MEMORY_BYTES;
+use model::store::Store;
+
+/// Calls of one row.
+pub const RUN_CALLS: u64 = 400;
+
+pub fn compare(guard: Guard, seed: u64, runs: u64, tally: &mut Tally) -> Result<(), String> {
+    cases(seed, runs, |random| one(guard, random, tally))
+}
+
+fn one(guard: Guard, random: &mut Random, tally: &mut Tally) -> Result<(), String> {
+    let mut sides = Sides::both(starting()?);
+    let mut given = Vec::new();
+    for at in 1..=RUN_CALLS {
+        let store = decode(&sides.model.image).ok_or("the model leaves no store")?;
+        let maker = &mut Maker {
+            random,
+            store: &store,
+            given: &given,
+        };
+        let question = maker.question(&FILLING);
+        let answer = ask(guard, &mut sides, &question)
+            .map_err(|what| format!("call {at} of the row: {what}"))?;
+        tally.note(&question, &answer);
+        given.extend(answer.handles(&question));
+    }
+    Ok(())
+}
+
+/// What the library starts from, over an image that held something else.
+fn starting() -> Result<Held, String> {
+    let mut image = [u8::MAX; IMAGE_BYTES];
+    guard::start(&mut image);
+    same_bytes("starting images", &encode(&Store::starting()), &image)?;
+    let memory = vec![0; MEMORY_BYTES];
+    Ok(Held { image, memory })
+}

@@ -1,0 +1,84 @@
+//! What is made by chance is what it says it is, and images read back as the stores they are of.
+
+use library::chance::damage::{inflict, Damage};
+use library::chance::stores::{extents, gaps, held, store, Fill};
+use library::compare::is_sound;
+use library::image::{decode, encode, IMAGE_BYTES};
+use library::tally::Tally;
+use model::random::Random;
+use model::sizes::{MEMORY_BYTES, NODES, NODE_BYTES, NODE_SEGMENTS};
+use model::store::Store;
+
+const TIMES: usize = 200;
+
+#[test]
+fn images_have_the_header_s_size_and_read_back() {
+    assert_eq!(IMAGE_BYTES, 2080);
+    assert_eq!(encode(&Store::starting()), [0; IMAGE_BYTES]);
+    let mut random = Random::from_seed(1);
+    for _ in 0..TIMES {
+        for fill in Fill::ALL {
+            let store = store(&mut random, fill);
+            assert_eq!(decode(&encode(&store)), Some(store));
+        }
+    }
+}
+
+#[test]
+fn stores_are_sound_and_as_full_as_they_say() {
+    let mut random = Random::from_seed(2);
+    for _ in 0..TIMES {
+        for fill in Fill::ALL {
+            let store = store(&mut random, fill);
+            assert!(store.is_sound(MEMORY_BYTES));
+            for node in 0..NODES {
+                let taken: usize = extents(&store, node).iter().map(|part| part.length).sum();
+                let free: usize = gaps(&store, node).iter().map(|part| part.length).sum();
+                assert_eq!(taken + free, NODE_BYTES);
+                match fill {
+                    Fill::Empty => assert_eq!(taken, 0),
+                    Fill::Partial => {}
+                    Fill::NoByteFree => assert_eq!(free, 0),
+                    Fill::NoSegmentAbsent => {
+                        assert_eq!(extents(&store, node).len(), NODE_SEGMENTS)
+                    }
+                }
+            }
+        }
+    }
+}
+
+#[test]
+fn damage_is_damage_whatever_it_is_done_to() {
+    let mut random = Random::from_seed(3);
+    for _ in 0..TIMES {
+        for (fill, damage) in Fill::ALL
+            .iter()
+            .flat_map(|fill| Damage::ALL.map(|damage| (fill, damage)))
+        {
+            let store = store(&mut random, *fill);
+            let mut held = held(&mut random, &store);
+            let node = random.below(NODES as u64) as usize;
+            inflict(&mut random, &mut held, damage, node);
+            assert!(!is_sound(&held), "{damage:?} of {fill:?}");
+        }
+    }
+}
+
+#[test]
+fn what_is_not_reached_is_told() {
+    let faults = Tally::default().faults();
+    assert_eq!(
+        faults
+            .iter()
+            .filter(|fault| fault.starts_with("not reached"))
+            .count(),
+        81
+    );
+    assert!(faults.contains(&"not reached: new segment with 16 (no room)".to_string()));
+    let mut tally = Tally::default();
+    tally.pairs.insert((7, 1), 1);
+    assert!(tally
+        .faults()
+        .contains(&"not allowed: weaken with 1 (unsound)".to_string()));
+}
