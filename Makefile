@@ -5,6 +5,7 @@ SHELL = /bin/bash
 LIST ?= examples/sample.list
 BENCHRUN = target/bin/benchrun
 MODEL = tests/target/release
+LIBRARY = target/staticlib/libgelmuszta.a
 
 .PHONY: run
 run: $(BENCHRUN)
@@ -25,25 +26,30 @@ show: $(BENCHRUN)
 .PHONY: test
 test:
 	rt fmt --check
+	cargo fmt --check --manifest-path tests/Cargo.toml
+	cargo fmt --check --manifest-path tests/library/Cargo.toml
+	cargo fmt --check --manifest-path tools/Cargo.toml
 	cargo test --quiet --offline --manifest-path tests/Cargo.toml
 	cargo test --quiet --offline --manifest-path tools/Cargo.toml
 	rt ci 2>&1 | tee tests/target/gate.log
-	$(MAKE) --no-print-directory compare
+	$(MAKE) --no-print-directory caller compare
 	@tail -n 1 tests/target/gate.log
 
-# make compare         benchrun against the separately written model: every example, and lists made by chance
+# make compare         benchrun and the library against the separately written model: every example, lists and calls made
+#                      by chance, the published handles
 LISTS ?= 2000
+CALLS ?= 100000
 SEED ?= 1
 .PHONY: compare
-compare: $(BENCHRUN)
+compare: $(BENCHRUN) $(LIBRARY)
 	cargo build --quiet --release --offline --manifest-path tests/Cargo.toml
 	for list in examples/*.list examples/lists/*.list; do \
 		$(BENCHRUN) < $$list | cmp - $${list%.list}.out; done
 	$(MODEL)/lists-against $(BENCHRUN) $(SEED) $(LISTS)
+	cargo test --quiet --release --offline --manifest-path tests/library/Cargo.toml
+	cargo run --quiet --release --offline --manifest-path tests/library/Cargo.toml --bin against-library $(SEED) $(CALLS)
 
 # make lib             prove and build the library for C, target/staticlib/libgelmuszta.a; its header is include/gelmuszta.h
-LIBRARY = target/staticlib/libgelmuszta.a
-
 .PHONY: lib
 lib:
 	rt staticlib gelmuszta
