@@ -16,9 +16,9 @@ use std::hint::black_box;
 use std::time::Instant;
 use typical::{calls, full, held, many_handles, typical, weakest, READ_MODE};
 
-const ROUNDS: usize = 300;
+const ROUNDS: usize = 1000;
 const CALLS: usize = 200;
-const BATCH_ROUNDS: usize = 15;
+const BATCH_ROUNDS: usize = 40;
 const BATCH_HANDLES: usize = 10_000;
 
 const PREFACE: &str = "\
