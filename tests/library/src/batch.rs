@@ -6,7 +6,7 @@ use crate::chance::stores::{self, Fill};
 use crate::chance::{below, bytes, cases};
 use crate::compare::{ask, same_bytes, Sides};
 use crate::guard;
-use crate::question::{Held, Question};
+use crate::question::{Held, Question, READ_MODE, WRITE_MODE};
 use model::call::Call;
 use model::handle::{Handle, HandleBytes};
 use model::random::Random;
@@ -103,7 +103,8 @@ fn by_chance(random: &mut Random) -> Batch {
 fn mode(random: &mut Random) -> u8 {
     match random.below(8) {
         0 => random.byte(),
-        _ => 1 + random.below(2) as u8,
+        1..=3 => READ_MODE as u8,
+        _ => WRITE_MODE as u8,
     }
 }
 

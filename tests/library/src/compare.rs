@@ -1,6 +1,6 @@
 //! One question put to the library and to the model, and everything that has to be equal then.
 
-use crate::image::{decode, encode, Image};
+use crate::image::{decode, encode};
 use crate::question::{Answer, Held, Question};
 use model::call::{Call, Reply};
 use model::model::run;
@@ -26,28 +26,22 @@ impl Sides {
     }
 }
 
-/// The model's answer.
+/// The model's answer. The model has no store for a damaged image: every call that looks at the
+/// store is refused with 1 then.
 pub fn by_model(held: &mut Held, question: &Question) -> Answer {
     let mut buffer = question.buffer.clone();
     let (image, memory) = (&mut held.image, &mut held.memory);
-    let reply = over_image(image, memory, &mut buffer, &question.call);
-    Answer { reply, buffer }
-}
-
-/// Runs the model on the store of an image. The model has no store for a damaged image: every call
-/// that looks at the store is refused with 1 then.
-pub fn over_image(image: &mut Image, memory: &mut [u8], buffer: &mut [u8], call: &Call) -> Reply {
-    if let Call::Weaken { .. } = call {
-        return run(&mut Store::starting(), memory, buffer, call);
-    }
-    let Some(mut store) = decode(image) else {
-        return Reply::refused(UNSOUND);
+    let needs_no_store = matches!(question.call, Call::Weaken { .. });
+    let reply = match decode(image) {
+        None if needs_no_store => run(&mut Store::starting(), memory, &mut buffer, &question.call),
+        None => Reply::refused(UNSOUND),
+        Some(mut store) => {
+            let reply = run(&mut store, memory, &mut buffer, &question.call);
+            *image = encode(&store);
+            reply
+        }
     };
-    let reply = run(&mut store, memory, buffer, call);
-    if reply.is_done() {
-        *image = encode(&store);
-    }
-    reply
+    Answer { reply, buffer }
 }
 
 /// Whether the model holds the store for sound; a damaged image has no sound store.
@@ -71,7 +65,8 @@ pub fn ask(guard: Guard, sides: &mut Sides, question: &Question) -> Result<Answe
     }
 }
 
-fn same_answer(expected: &Answer, found: &Answer) -> Result<(), String> {
+/// The same reply and the same bytes in the buffer.
+pub fn same_answer(expected: &Answer, found: &Answer) -> Result<(), String> {
     if expected.reply != found.reply {
         return Err("the replies differ".to_string());
     }

@@ -3,33 +3,32 @@
 
 use crate::chance::questions::{Maker, FILLING};
 use crate::chance::stores::{self, Fill};
-use crate::chance::{below, bytes, cases, fill, handles, password};
-use crate::compare::{by_model, same_bytes, Guard};
+use crate::chance::{below, cases, fill, handles, password};
+use crate::compare::{by_model, same_answer, same_bytes, Guard};
 use crate::image::{decode, encode, passwords_at, record_at};
-use crate::question::{Held, Question};
+use crate::question::{Held, Question, READ_MODE, WRITE_MODE};
 use model::call::Call;
 use model::handle::{Handle, Password};
 use model::random::Random;
-use model::sizes::MEMORY_BYTES;
 use model::store::{Segment, Store};
+use std::ops::Range;
 
 /// Calls of one list.
 pub const LIST_CALLS: u64 = 100;
-/// The modes' numbers.
-const MODES: [u32; 2] = [1, 2];
 
 /// A pair of copies and the place of the cluster that is set apart.
 struct Pair {
     copies: [Held; 2],
     apart: (usize, usize),
     /// The parts of the memory that are the segments of the cluster set apart.
-    own: Vec<std::ops::Range<usize>>,
+    own: Vec<Range<usize>>,
 }
 
-/// How many calls there were, and how many of them named the cluster set apart.
+/// How many calls there were, how many were done, and how many named the cluster set apart.
 #[derive(Debug, Default)]
 pub struct Count {
     pub calls: u64,
+    pub done: u64,
     pub naming: u64,
 }
 
@@ -48,11 +47,10 @@ fn one(guard: Guard, random: &mut Random, count: &mut Count) -> Result<(), Strin
         count.calls += 1;
         count.naming += u64::from(pair.names_apart(&question));
         let [first, second] = pair.copies.each_mut().map(|copy| guard(copy, &question));
-        if first != second {
-            return Err(format!(
-                "call {at}: the copies answer differently\n  asked:  {question}\n  first:  {first}\n  second: {second}"
-            ));
-        }
+        same_answer(&first, &second).map_err(|what| {
+            format!("call {at} of the list: {what}\n  asked:  {question}\n  first:  {first}\n  second: {second}")
+        })?;
+        count.done += u64::from(first.reply.is_done());
         given.extend(first.handles(&question));
     }
     pair.agree()?;
@@ -65,10 +63,7 @@ fn by_chance(random: &mut Random) -> Pair {
     let active = handles::place(random, &store, |cluster| cluster.active);
     let apart = with_segments.or(active).expect("some cluster is active");
     let own = parts_of(&store, apart);
-    let first = Held {
-        image: encode(&store),
-        memory: bytes(random, MEMORY_BYTES),
-    };
+    let first = stores::held(random, &store);
     let cluster = &mut store.clusters[apart.0][apart.1];
     (cluster.read, cluster.write) = (password(random), password(random));
     let mut second = Held {
@@ -85,7 +80,7 @@ fn by_chance(random: &mut Random) -> Pair {
     }
 }
 
-fn parts_of(store: &Store, (node, local): (usize, usize)) -> Vec<std::ops::Range<usize>> {
+fn parts_of(store: &Store, (node, local): (usize, usize)) -> Vec<Range<usize>> {
     let segments = store.clusters[node][local].segments.iter();
     let extents = segments.filter_map(Segment::extent);
     extents.map(|extent| extent.in_memory(node)).collect()
@@ -157,7 +152,7 @@ impl Pair {
             by_model(&mut copy.clone(), &question).reply.is_done()
         };
         let mut copies = self.copies.iter();
-        copies.any(|copy| MODES.iter().any(|&mode| validates(copy, mode)))
+        copies.any(|copy| validates(copy, READ_MODE) || validates(copy, WRITE_MODE))
     }
 
     /// Everything but the secrets of the cluster set apart is equal in both copies.

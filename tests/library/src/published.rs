@@ -2,7 +2,7 @@
 
 use crate::guard;
 use crate::image::encode;
-use crate::question::{Held, Question};
+use crate::question::{Held, Question, READ_MODE, WRITE_MODE};
 use model::call::{Call, Reply};
 use model::handle::{Handle, HandleBytes, Password, FLAT};
 use model::hexadecimal::decode;
@@ -74,7 +74,7 @@ impl<'a> Line<'a> {
         };
         let made = ask(&mut held(&Store::starting()), call);
         let given = match self.mode()? {
-            1 => made.first,
+            READ_MODE => made.first,
             _ => made.second,
         };
         Some(
@@ -158,7 +158,7 @@ impl<'a> Line<'a> {
         let primary = self.password("primary")?;
         let other = primary.map(|byte| !byte);
         let (read, write) = match self.mode()? {
-            1 => (primary, other),
+            READ_MODE => (primary, other),
             _ => (other, primary),
         };
         Some(Cluster {
@@ -171,8 +171,8 @@ impl<'a> Line<'a> {
 
     fn mode(&self) -> Option<u32> {
         match *self.values.get("mode")? {
-            "read" => Some(1),
-            "write" => Some(2),
+            "read" => Some(READ_MODE),
+            "write" => Some(WRITE_MODE),
             _ => None,
         }
     }

@@ -7,6 +7,9 @@ use std::fmt;
 
 /// The number of a call's argument that stands for [`Question::beyond`].
 pub const BEYOND: u32 = u32::MAX;
+/// The modes as callers name them.
+pub const READ_MODE: u32 = 1;
+pub const WRITE_MODE: u32 = 2;
 /// Validation has no code; in tables it stands below the nine calls.
 pub const VALIDATION: u8 = 10;
 

@@ -3,25 +3,52 @@
 use crate::chance::damage::Damage;
 use crate::chance::stores::Fill;
 use crate::question::{Answer, Question, VALIDATION};
-use model::call::{self, CALLS};
+use model::call::{self, Call, CALLS};
 use model::handle::FLAT;
 use model::sizes::SUBSELECTORS;
-use model::table::{word, SPENT};
-use std::collections::BTreeMap;
+use model::table::{
+    word, ABSENT, DONE, ELSEWHERE, FIELD, GAPPED, INACTIVE, IN_USE, NOT_PRIMARY, NOT_REFERENCED,
+    NO_ROOM, NO_SUCH_PLACE, OLD_PASSWORD, PRESENT, SHORT, SPENT, TWINS, UNSOUND,
+    VIOLATED_PROTECTION,
+};
+use std::collections::{BTreeMap, BTreeSet};
 use std::fmt;
 
 /// The numbers that the table of refusals allows each call, 0 for done among them.
+#[rustfmt::skip]
 const ALLOWED: [(u8, &[u8]); 10] = [
-    (call::NEW_CLUSTER, &[0, 1, 2, 6, 7]),
-    (call::DELETE_CLUSTER, &[0, 1, 2, 4, 5, 8, 9, 10]),
-    (call::NEW_SEGMENT, &[0, 1, 2, 3, 4, 5, 8, 9, 10, 13, 16]),
-    (call::DELETE_SEGMENT, &[0, 1, 2, 3, 4, 5, 8, 9, 10, 14]),
-    (call::READ, &[0, 1, 2, 3, 4, 8, 9, 11, 14, 15]),
-    (call::WRITE, &[0, 1, 2, 3, 4, 8, 9, 11, 14, 15]),
-    (call::WEAKEN, &[0, 2, 4, 17]),
-    (call::REDUCE, &[0, 1, 2, 3, 4, 8, 9]),
-    (call::NEW_PASSWORD, &[0, 1, 2, 3, 4, 8, 9, 10, 12]),
-    (VALIDATION, &[0, 1, 2, 3, 4, 8, 9]),
+    (call::NEW_CLUSTER, &[DONE, UNSOUND, NO_SUCH_PLACE, IN_USE, TWINS]),
+    (call::DELETE_CLUSTER, &[
+        DONE, UNSOUND, NO_SUCH_PLACE, GAPPED, ELSEWHERE, INACTIVE, VIOLATED_PROTECTION, NOT_PRIMARY,
+    ]),
+    (call::NEW_SEGMENT, &[
+        DONE, UNSOUND, NO_SUCH_PLACE, FIELD, GAPPED, ELSEWHERE, INACTIVE, VIOLATED_PROTECTION,
+        NOT_PRIMARY, PRESENT, NO_ROOM,
+    ]),
+    (call::DELETE_SEGMENT, &[
+        DONE, UNSOUND, NO_SUCH_PLACE, FIELD, GAPPED, ELSEWHERE, INACTIVE, VIOLATED_PROTECTION,
+        NOT_PRIMARY, ABSENT,
+    ]),
+    (call::READ, MOVING_BYTES),
+    (call::WRITE, MOVING_BYTES),
+    (call::WEAKEN, &[DONE, NO_SUCH_PLACE, GAPPED, SPENT]),
+    (call::REDUCE, VALIDATING),
+    (call::NEW_PASSWORD, &[
+        DONE, UNSOUND, NO_SUCH_PLACE, FIELD, GAPPED, INACTIVE, VIOLATED_PROTECTION, NOT_PRIMARY,
+        OLD_PASSWORD,
+    ]),
+    (VALIDATION, VALIDATING),
+];
+
+#[rustfmt::skip]
+const MOVING_BYTES: &[u8] = &[
+    DONE, UNSOUND, NO_SUCH_PLACE, FIELD, GAPPED, INACTIVE, VIOLATED_PROTECTION, NOT_REFERENCED,
+    ABSENT, SHORT,
+];
+
+#[rustfmt::skip]
+const VALIDATING: &[u8] = &[
+    DONE, UNSOUND, NO_SUCH_PLACE, FIELD, GAPPED, INACTIVE, VIOLATED_PROTECTION,
 ];
 
 /// Where damage was done, as seen from the call that came upon it.
@@ -39,6 +66,7 @@ pub struct Tally {
     damages: BTreeMap<(Damage, Where), u64>,
     /// Calls done, by how many subselectors of their handle are not flat.
     weakened: [u64; SUBSELECTORS + 1],
+    masks: BTreeSet<u8>,
 }
 
 impl Tally {
@@ -49,6 +77,9 @@ impl Tally {
             let subselectors = handle.selector.0.iter();
             let converting = subselectors.filter(|&&subselector| subselector != FLAT);
             self.weakened[converting.count()] += 1;
+        }
+        if let Call::Weaken { mask, .. } = question.call {
+            self.masks.insert(mask);
         }
     }
 
@@ -92,7 +123,10 @@ impl Tally {
         let weakened = (0..=SUBSELECTORS)
             .filter(|&count| self.weakened[count] == 0)
             .map(|count| format!("not done: a call with {count} subselectors not flat"));
-        fills.chain(damages).chain(weakened)
+        let masks = (0..=u8::MAX)
+            .filter(|mask| !self.masks.contains(mask))
+            .map(|mask| format!("not tried: mask {mask}"));
+        fills.chain(damages).chain(weakened).chain(masks)
     }
 }
 
@@ -133,6 +167,7 @@ impl fmt::Display for Tally {
             });
             writeln!(to, "damage {damage:?}:{}", counts.collect::<String>())?;
         }
+        writeln!(to, "masks: {}", self.masks.len())?;
         let weakened = &self.weakened;
         write!(
             to,

@@ -17,7 +17,7 @@ fn an_answer_that_tells_a_secret() {
         answer
     };
     let told = copies::compare(telling, SEED, PAIRS).expect_err("the count tells passwords");
-    assert!(told.contains("the copies answer differently"), "{told}");
+    assert!(told.contains("the replies differ"), "{told}");
 }
 
 #[test]
@@ -34,9 +34,11 @@ fn a_cluster_set_apart_that_is_changed() {
 #[test]
 fn a_secret_byte_kept_elsewhere() {
     let keeping: Guard = |held, question| {
-        let answer = guard::ask(held, question);
+        let mut answer = guard::ask(held, question);
         let secrets = held.memory[..NODE_BYTES].iter();
         held.memory[MEMORY_BYTES - 1] = secrets.fold(0, |sum, byte| sum ^ byte);
+        // Else a read would tell it before the list ends.
+        answer.buffer.clear();
         answer
     };
     let told = copies::compare(keeping, SEED, PAIRS).expect_err("the last byte tells others");

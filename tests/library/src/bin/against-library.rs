@@ -51,8 +51,8 @@ fn compare(task: &Task, tally: &mut Tally) -> Result<(), String> {
     let count = calls.div_ceil(CALLS_PER_PAIR);
     let in_copies = copies::compare(guard::ask, seed, count).map_err(named("two copies"))?;
     println!(
-        "two copies: {count} pairs, with {} calls, {} of them naming the cluster set apart",
-        in_copies.calls, in_copies.naming
+        "two copies: {count} pairs, with {} calls, {} of them done, {} naming the cluster set apart",
+        in_copies.calls, in_copies.done, in_copies.naming
     );
 
     let lines = published::confirm(published::TEXT)?;

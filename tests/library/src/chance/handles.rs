@@ -97,7 +97,8 @@ fn wrong(random: &mut Random, store: &Store, mut handle: Handle) -> Handle {
         1 => handle.password = password(random),
         2 => handle.node = random.number() as u16,
         3 => handle.node = (NODES + below(random, 2)) as u16,
-        4 => handle.node |= 0x100,
+        // Right in the lower byte, or in the lower three bits, alone.
+        4 => handle.node |= 1 << (8 + random.below(8)),
         5 => handle.local = (CLUSTERS + below(random, 2)) as u8,
         6 => handle.local |= 1 << (3 + random.below(5)),
         7 => handle.selector = gapped(random),

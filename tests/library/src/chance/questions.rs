@@ -3,7 +3,7 @@
 use super::handles::{self, Wish};
 use super::stores::gaps;
 use super::{below, bytes, password};
-use crate::question::{Question, BEYOND, VALIDATION};
+use crate::question::{Question, BEYOND, READ_MODE, VALIDATION, WRITE_MODE};
 use model::call::{self, Call};
 use model::handle::{Handle, Password, FLAT};
 use model::random::Random;
@@ -76,8 +76,8 @@ impl Maker<'_> {
 
     fn mode(&mut self) -> (Mode, u32) {
         let (mode, number) = match self.random.one_in(2) {
-            true => (Mode::Read, 1),
-            false => (Mode::Write, 2),
+            true => (Mode::Read, READ_MODE),
+            false => (Mode::Write, WRITE_MODE),
         };
         match self.random.below(20) {
             0 => (mode, self.random.byte().into()),

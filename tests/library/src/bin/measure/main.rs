@@ -1,0 +1,188 @@
+//! The library's measurements for docs/PERFORMANCE.md: the proved library and the model, turn about,
+//! in one run.
+
+mod repeated;
+mod typical;
+
+use library::guard;
+use library::image::{decode, Image};
+use model::call::Call;
+use model::handle::{convert, Handle, HandleBytes, Password};
+use model::sizes::{HANDLE_BYTES, MEMORY_BYTES};
+use model::store::Store;
+use model::table::{refusal_below, Found, DONE, UNSOUND};
+use repeated::{OnImage, OnRecords};
+use std::hint::black_box;
+use std::time::Instant;
+use typical::{calls, full, held, many_handles, typical, weakest, READ_MODE};
+
+const ROUNDS: usize = 1000;
+const CALLS: usize = 200;
+const BATCH_ROUNDS: usize = 40;
+const BATCH_HANDLES: usize = 10_000;
+
+const PREFACE: &str = "\
+The library, the model on the same image, and the model on records that it keeps decoded take turns.
+Ratios are library to model. Buffers are not cleared between calls. After each call on the typical
+store the record of its cluster is put back, which is in the figures. Typical: on each node ten
+segments of 400 bytes in five clusters.";
+
+/// The best times of a call: the library's, the model's on the image, the model's on its records.
+type Times = [f64; 3];
+
+fn beside(
+    rounds: usize,
+    calls: usize,
+    mut library: impl FnMut(),
+    mut on_image: impl FnMut(),
+    mut on_records: impl FnMut(),
+) -> Times {
+    let mut best = [f64::MAX; 3];
+    for _ in 0..rounds {
+        best[0] = best[0].min(round(calls, &mut library));
+        best[1] = best[1].min(round(calls, &mut on_image));
+        best[2] = best[2].min(round(calls, &mut on_records));
+    }
+    best
+}
+
+fn round(calls: usize, job: &mut impl FnMut()) -> f64 {
+    let start = Instant::now();
+    for _ in 0..calls {
+        job();
+    }
+    start.elapsed().as_nanos() as f64 / calls as f64
+}
+
+fn report(name: &str, [library, on_image, on_records]: Times) {
+    println!(
+        "{name:<44}{library:>10.1}{on_image:>10.1}{:>7.2}{on_records:>10.1}{:>7.2}",
+        library / on_image,
+        library / on_records
+    );
+}
+
+/// Each conversion takes the last one's outcome as its password.
+fn conversion() {
+    let [mut first, mut second, mut third]: [Password; 3] = [[7; 16]; 3];
+    let times = beside(
+        ROUNDS,
+        CALLS,
+        || first = guard::convert(black_box(&first), black_box(3)),
+        || second = convert(black_box(&second), black_box(3)),
+        || third = convert(black_box(&third), black_box(3)),
+    );
+    assert!(
+        first == second && second == third,
+        "all give the same password"
+    );
+    report("conversion", times);
+}
+
+fn soundness(name: &str, store: &Store) {
+    let mut held = held(store);
+    let image: Image = held.image;
+    let mut sound = [true; 3];
+    let [first, second, third] = &mut sound;
+    let times = beside(
+        ROUNDS,
+        CALLS,
+        || *first &= guard::is_sound(black_box(&mut held.image), MEMORY_BYTES),
+        || *second &= decode(black_box(&image)).is_some_and(|store| store.is_sound(MEMORY_BYTES)),
+        || *third &= black_box(store).is_sound(MEMORY_BYTES),
+    );
+    assert_eq!(sound, [true; 3], "the store is sound");
+    report(name, times);
+}
+
+/// One call, done again and again on the same store.
+fn one_call(name: &str, store: &Store, call: Call, place: (usize, usize)) {
+    let [mut first, mut second] = [(); 2].map(|()| OnImage::new(store, place));
+    let mut third = OnRecords::new(store, place);
+    let times = beside(
+        ROUNDS,
+        CALLS,
+        || first.by_library(black_box(&call)),
+        || second.by_model(black_box(&call)),
+        || third.by_model(black_box(&call)),
+    );
+    assert_eq!(first.reply.number, DONE, "{name} is done");
+    assert!(
+        first.reply == second.reply && second.reply == third.reply,
+        "all reply the same"
+    );
+    assert!(first.held.memory == second.held.memory && second.held.memory == third.memory);
+    report(name, times);
+}
+
+/// What the model does for a batch: soundness once, then for every handle the rows of the table
+/// below the first, in their order.
+fn validate_all(store: &Store, mode: u32, handles: &[u8], numbers: &mut [u8]) {
+    let found = Found {
+        store,
+        memory_bytes: MEMORY_BYTES,
+        buffer_bytes: 0,
+    };
+    let sound = store.is_sound(found.memory_bytes);
+    for (number, bytes) in numbers.iter_mut().zip(handles.chunks_exact(HANDLE_BYTES)) {
+        let bytes = HandleBytes::try_from(bytes).expect("chunks are whole handles");
+        let handle = Handle::from_bytes(&bytes);
+        let call = Call::Validate { mode, handle };
+        *number = match sound {
+            true => refusal_below(UNSOUND, &call, &found).unwrap_or(DONE),
+            false => UNSOUND,
+        };
+    }
+}
+
+/// A figure is for one handle of the batch.
+fn batch(store: &Store) {
+    let mut held = held(store);
+    let image = held.image;
+    let handles = many_handles(store, BATCH_HANDLES);
+    let mut numbers = [(); 3].map(|()| vec![u8::MAX; BATCH_HANDLES]);
+    let [first, second, third] = &mut numbers;
+    let times = beside(
+        BATCH_ROUNDS,
+        1,
+        || {
+            guard::validate_all(&mut held, READ_MODE, black_box(&handles), first);
+        },
+        || {
+            let store = decode(black_box(&image)).expect("the image is not damaged");
+            validate_all(&store, READ_MODE.into(), &handles, second);
+        },
+        || validate_all(store, READ_MODE.into(), black_box(&handles), third),
+    );
+    let done = |numbers: &Vec<u8>| numbers.iter().all(|&number| number == DONE);
+    assert!(numbers.iter().all(done), "every handle validates");
+    let each = times.map(|time| time / BATCH_HANDLES as f64);
+    report("batch of 10,000, 4 not flat, for each handle", each);
+}
+
+fn main() {
+    println!("Nanoseconds a call: the best of {ROUNDS} rounds of {CALLS} calls, {BATCH_ROUNDS} of a batch.");
+    println!("{PREFACE}\n");
+    println!(
+        "{:<44}{:>10}{:>10}{:>7}{:>10}{:>7}",
+        "", "library", "on image", "ratio", "records", "ratio"
+    );
+    let store = typical();
+    conversion();
+    soundness("soundness, empty store", &Store::starting());
+    soundness("soundness, typical store", &store);
+    soundness("soundness, 64 segments of 64 bytes a node", &full());
+    let validate = |handle| Call::Validate {
+        mode: READ_MODE.into(),
+        handle,
+    };
+    let place = typical::PLACE;
+    let primary = typical::primary(&store);
+    one_call("validation, primary", &store, validate(primary), place);
+    let weakest = weakest(primary);
+    one_call("validation, 4 not flat", &store, validate(weakest), place);
+    batch(&store);
+    for (name, call, place) in calls(&store) {
+        one_call(name, &store, call, place);
+    }
+}
