@@ -70,8 +70,9 @@ caller: $(LIBRARY)
 
 # make bench           the measurements of docs/PERFORMANCE.md
 .PHONY: bench
-bench: $(BENCHRUN)
+bench: $(BENCHRUN) $(LIBRARY)
 	rt staticlib measured
-	cargo run --quiet --release --manifest-path bench/Cargo.toml
+	cargo run --quiet --release --offline --manifest-path bench/Cargo.toml
+	cargo run --quiet --release --offline --manifest-path tests/library/Cargo.toml --bin measure
 	cargo build --quiet --release --offline --manifest-path tests/Cargo.toml
 	$(MODEL)/time-lists $(BENCHRUN) $(MODEL)/model-benchrun 500 examples/measured/reads.list examples/measured/clusters.list
