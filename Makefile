@@ -35,6 +35,14 @@ test:
 	$(MAKE) --no-print-directory caller compare
 	@tail -n 1 tests/target/gate.log
 
+# make more-edits      the edits of crates/*/must-fail/more, which the gate leaves out for its time: the prover refuses these too
+.PHONY: more-edits
+more-edits:
+	rt check
+	rm -rf target/more && mkdir target/more && cp -r crates crates.txt target/more && cp -r target/rlib target/stamp target/more
+	cd target/more && rm -f crates/*/must-fail/*.edit && mkdir target && mv rlib stamp target && \
+		for folder in crates/*/must-fail/more; do mv $$folder/*.edit $$folder/..; done && rt must-fail
+
 # make compare         benchrun and the library against the separately written model: every example, lists and calls made
 #                      by chance, the published handles
 LISTS ?= 2000
