@@ -128,12 +128,6 @@ module _ (n : ℕ) (next : ℕ → ℕ) (k : ℕ) where
         ending (λ w. w .number ≡ loopNumber → Again n next k)
         (λ m r z. absurd (omega arith)) (λ r z. absurd (omega arith)) (λ r z. r) w e
 
-    pub number-most : w .number ≤ loopNumber
-    number-most = ending (λ w. w .number ≤ loopNumber) (λ m r. omega arith) (λ r. omega arith) (λ r. omega arith) w e
-
-    pub records-most : w .records ≤ n
-    records-most = ending (λ w. w .records ≤ n) whole-few (λ r. omega arith) (λ r. omega arith) w e
-
   pub means : Means n next k
   means =
       record {

@@ -21,10 +21,6 @@ use Rattle.calls.proofs.FirstLaws.{Numbered, Clear, first-clear}
 use Rattle.calls.proofs.CallLaws.{or-left}
 use Rattle.front.specs.Entries.{recordAt, row, openRows, frontRows, ownerRows, after}
 
-pub is-true : (b : Bool) → not b ≡ false → b ≡ true
-is-true true e = refl
-is-true false e = sym e
-
 pub after-front : (n rest : ℕ) → (n ≡ 0 → ⊥) → after n rest ≡ n
 after-front zero rest t = absurd (t refl)
 after-front (suc n) rest t = refl

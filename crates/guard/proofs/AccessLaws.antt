@@ -7,7 +7,7 @@ use mathlib.Core.List.{List, _++_}
 use Prim.Native.Nat.{ℕ, zero, suc, _+_, _*_, _^_, _≤_, _<_}
 use native.Mathlib.Omega.{arith}
 use lib.Dec.{leb, ltb}
-use borrow.Author.Tests.{leb-false, ltb-false, lt-ltb, le-ltb}
+use borrow.Author.Tests.{not-false, leb-false, ltb-false, lt-ltb, le-ltb}
 use Rattle.sizes.specs.Sizes.{nodes, clusters, segments, records, nodeMemory, memory}
 use Rattle.handle.specs.declared.Handle.{Handle}
 use Rattle.handle.specs.Selectors.{references}
@@ -24,7 +24,7 @@ use Rattle.calls.specs.Calls.{recordNamed, baseOf, lengthOf, address}
 use Rattle.calls.proofs.FirstLaws.{first-clear}
 use Rattle.calls.proofs.CallLaws.{or-left, or-right}
 use Rattle.front.specs.Entries.{recordAt, frontRows, after}
-use Rattle.front.proofs.LookLaws.{Passed, after-front, front-numbered, front-told, front-passed, front-field, is-true}
+use Rattle.front.proofs.LookLaws.{Passed, after-front, front-numbered, front-told, front-passed, front-field}
 use Rattle.guard.specs.Access.{accessRows, accessed, Reaches}
 
 -- ---- the rows of the code, return by return
@@ -117,7 +117,7 @@ module _ (s : Store) (bytes : ℕ) (b : List ℕ) (h : Handle) (eh : h ≡ decod
     access-there = passed .there
 
     settled : Sound s bytes
-    settled = sound-out s bytes (sym es ∙ is-true sd (passed .sound))
+    settled = sound-out s bytes (sym es ∙ not-false sd (passed .sound))
 
     node-low : h .node < nodes
     node-low = leb-false nodes (h .node) (or-left (leb nodes (h .node)) (leb clusters (h .local)) (passed .place))

@@ -6,7 +6,7 @@ use mathlib.Core.Bool.{Bool, true, false, not, cond}
 use mathlib.Core.List.{List, [], _∷_}
 use mathlib.Core.Option.{Option, none, some}
 use Prim.Native.Nat.{ℕ}
-use borrow.Author.Tests.{leb-false}
+use borrow.Author.Tests.{not-false, leb-false}
 use lib.Dec.{eqb, leb}
 use lib.ListN.{length, set, replicate}
 use Rattle.sizes.specs.Sizes.{nodes, clusters}
@@ -32,7 +32,7 @@ use Rattle.calls.proofs.CallLaws.{or-left}
 use Rattle.calls.proofs.StepLaws.{step-done}
 use Rattle.front.specs.declared.Done.{Done}
 use Rattle.front.specs.Entries.{copyOf, asked, leftAlone, recordAt, row, ownerRows, after}
-use Rattle.front.proofs.LookLaws.{is-true, after-front, owner-told, owner-passed}
+use Rattle.front.proofs.LookLaws.{after-front, owner-told, owner-passed}
 use Rattle.guard.specs.Makes.{badFields, CanMake, Made}
 use Rattle.guard.proofs.NumberLaws.{number-new-segment}
 use Rattle.guard.proofs.ChangeLaws.{endedWith, above, left-refused}
@@ -57,7 +57,7 @@ module _ (s : Store) (bytes : ℕ) (b : List ℕ) (current size : ℕ) (h : Hand
   new-segment-can =
       let passed = owner-passed s bytes b h eh at ea sd es (λ g c. []) n 0 current field en z in
       record {
-        whole = sound-out s bytes (sym es ∙ is-true sd (passed .sound)) .whole;
+        whole = sound-out s bytes (sym es ∙ not-false sd (passed .sound)) .whole;
         known = leb-false nodes (h .node) (or-left (leb nodes (h .node)) (leb clusters (h .local)) (passed .place));
         ends = placement-inside (tableAt s) (h .node) size base (sym (ap answer eb) ∙ ef) .ends;
       }

@@ -6,7 +6,7 @@ use Prim.Native.Nat.{ℕ, zero, suc, _+_, _-_, _*_, _/_, _%_, _^_, _≤_, _<_}
 use native.Mathlib.Omega.{arith}
 use mathlib.Core.Bool.{Bool, true, false, not, cond}
 use mathlib.Core.List.{List, _++_, append-assoc, append-nil}
-use borrow.Author.Tests.{eqb-true, ltb-false}
+use borrow.Author.Tests.{not-false, eqb-true, ltb-false}
 use borrow.Rule.Slice.PartMut.{midOf, putMid, same-len-mid}
 use lib.Dec.{eqb, ltb}
 use lib.ListN.{length, take, drop, length-take, length-drop, length-replicate}
@@ -42,10 +42,6 @@ pub record Going (list : List ℕ) (total : ℕ) (m₀ b₀ out₀ : List ℕ) (
 
 -- ---- a chain that is whole
 
-is-true : (t : Bool) → not t ≡ false → t ≡ true
-is-true true e = refl
-is-true false e = sym e
-
 -- a list whose chain has records has a list's length, and its way from record 1 is whole
 record Chained (list : List ℕ) (total : ℕ) : Type 0 where
   even : length list % recordBytes ≡ 0
@@ -69,7 +65,7 @@ module _ (list : List ℕ) (total : ℕ) (e : checked list ≡ done total) where
           record {
             even =
                 eqb-true (length list % recordBytes) 0
-                (is-true (eqb (length list % recordBytes) 0)
+                (not-false (eqb (length list % recordBytes) 0)
                 (or-left (not (eqb (length list % recordBytes) 0)) (ltb mostBytes (length list)) q));
             few =
                 ltb-false mostBytes (length list)
