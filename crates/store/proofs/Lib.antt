@@ -7,3 +7,4 @@ pub mod SoundLaws
 pub mod ClaimLaws
 pub mod ChangeLaws
 pub mod ExampleLaws
+pub mod RecordLaws
