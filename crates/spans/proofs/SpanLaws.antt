@@ -1,14 +1,14 @@
--- Laws of spans: one after another is one span, and a word touched by the mask that covers a span is that span marked.
+-- Laws of spans: none is set at the start, one after another is one span, and a word touched by the mask that covers a span is that span marked.
 -- Assumes nothing.
 use mathlib.Core.Path.{_≡_, refl, sym, ap, _∙_}
 use mathlib.Core.Logic.{_⊎_, inl, inr}
 use mathlib.Core.Bool.{Bool, true, false, _&&_, _||_, or-true, or-false, and-true}
 use mathlib.Core.List.{List}
-use Prim.Native.Nat.{ℕ, _+_, _*_, _/_, _%_, _^_, _≤_, _<_}
+use Prim.Native.Nat.{ℕ, zero, suc, _+_, _*_, _/_, _%_, _^_, _≤_, _<_}
 use native.Mathlib.Omega.{arith}
 use lib.Dec.{eqb, leb, ltb}
 use lib.Bits.{bitAnd, bitOr, and-le-r}
-use lib.ListN.{length, getD, set, length-set}
+use lib.ListN.{length, getD, set, replicate, length-set}
 use lib.Seq.{getD-set-same, getD-set-other}
 use borrow.Author.Tests.{ltb-true, ltb-false, leb-true, leb-false, eqb-true, eqb-false, eq-eqb}
 use Rattle.bits.specs.Sets.{has}
@@ -16,6 +16,16 @@ use Rattle.bits.proofs.SetLaws.{same-bits}
 use Rattle.bits.proofs.OperationLaws.{has-and, has-or, has-none}
 use Rattle.loops.proofs.BelowLaws.{and-left, and-right, and-both, and-off}
 use Rattle.spans.specs.Spans.{wordBits, marks, Stamped}
+
+-- a map of zeros has no bit set
+pub marks-none : (n x : ℕ) → marks (replicate n 0) x ≡ false
+unfolding marks
+marks-none n x = ap (has (x % wordBits)) (word n (x / wordBits)) ∙ has-none (x % wordBits)
+  where
+    word : (n k : ℕ) → getD {A = ℕ} (replicate n 0) k 0 ≡ 0
+    word zero k = refl
+    word (suc n) zero = refl
+    word (suc n) (suc k) = word n k
 
 -- one span after another
 pub stamped-next : (a m b : ℕ) (one two three : List ℕ) (r s : Bool) → a ≤ m → m ≤ b

@@ -21,6 +21,7 @@ pub use records::with_place;
 use sizes::Password;
 use sizes::RECORDS;
 use sizes::SEGMENTS;
+pub use soundness::MAP_WORDS;
 pub use soundness::sound;
 
 // A segment is absent, or present with a base within its node's memory and a length.
