@@ -15,35 +15,16 @@ use store::Store;
 ghost use mathlib.Core.Path.{_≡_};
 ghost use Prim.Native.Nat.{_*_};
 ghost use lib.ListN.{length};
-ghost use Rattle.store.specs.Records.{baseOf, lengthOf};
 ghost use Rattle.sizes.specs.Sizes.{segments, passwordBytes};
 ghost use Rattle.image.specs.Images as images;
-
-fn base_of(place: Place) -> u16
-    ensures { λ r. ⌜ r ≡ baseOf place ⌝ }
-{
-    match place {
-        Place::Absent => 0,
-        Place::Present { base, length: _ } => base,
-    }
-}
-
-fn length_of(place: Place) -> u16
-    ensures { λ r. ⌜ r ≡ lengthOf place ⌝ }
-{
-    match place {
-        Place::Absent => 0,
-        Place::Present { base: _, length } => length,
-    }
-}
 
 // Base and length, two bytes each, high byte first; zeros for an absent segment.
 fn put_place(place: Place, out: &mut [u8])
     requires { ⌜ length (now out) ≡ images.placeBytes ⌝ }
     ensures { λ _. ⌜ now (out .exit) ≡ images.placeOut place ⌝ }
 {
-    let base = base_of(place);
-    let length = length_of(place);
+    let base = store::base_of(place);
+    let length = store::length_of(place);
     out[0] = (base / BYTE) as u8;
     out[1] = (base % BYTE) as u8;
     out[2] = (length / BYTE) as u8;
