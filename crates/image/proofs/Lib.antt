@@ -4,3 +4,8 @@ pub mod PlaceLaws
 pub mod RecordLaws
 pub mod TripLaws
 pub mod RangeLaws
+pub mod ClaimLaws
+pub mod IdleLaws
+pub mod ReadLaws
+pub mod JudgeLaws
+pub mod PutLaws

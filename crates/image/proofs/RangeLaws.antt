@@ -41,7 +41,7 @@ place-held q h = go (eqb (lengthIn q) 0) refl
         let z : lengthIn q ≡ 0 → ⊥ = eqb-false (lengthIn q) 0 e in
         record { starts = base-below q h; some = omega arith; ends = length-below q h }
 
-cluster-held : (q : List ℕ) → Bytes recordBytes q → ClusterFits (clusterIn q)
+pub cluster-held : (q : List ℕ) → Bytes recordBytes q → ClusterFits (clusterIn q)
 unfolding clusterIn segmentsIn
 cluster-held q h =
     record {

@@ -13,9 +13,11 @@ use store::Place;
 use store::Segment;
 use store::Store;
 ghost use mathlib.Core.Path.{_≡_};
+ghost use mathlib.Core.Bool.{true};
 ghost use Prim.Native.Nat.{_*_};
 ghost use lib.ListN.{length};
 ghost use Rattle.sizes.specs.Sizes.{segments, passwordBytes};
+ghost use Rattle.store.specs.Records.{putRecord};
 ghost use Rattle.image.specs.Images as images;
 
 // Base and length, two bytes each, high byte first; zeros for an absent segment.
@@ -64,6 +66,21 @@ fn put_record(cluster: Cluster, out: &mut [u8])
     put_password(write, &mut out[WRITE_AT..PLACES_AT]);
     put_places(segments, &mut out[PLACES_AT..RECORD]);
     out[0] = cluster.active as u8;
+}
+
+// One record of an image, over what stands there; past the last record nothing is written.
+pub fn put_record_in(cluster: Cluster, at: usize, out: &mut [u8])
+    requires { ⌜ length (now out) ≡ images.imageBytes ⌝ }
+    ensures bytes { λ _. ⌜ now (out .exit) ≡ images.withRecord (now (out .entry)) at cluster ⌝ }
+    ensures image { λ _. ⌜ (images.good (now (out .entry)) ≡ true
+        → now (out .exit) ≡ images.imageOf (putRecord (images.storeIn (now (out .entry))) at cluster)) ⌝ }
+{
+    if RECORDS <= at {
+        return;
+    }
+    let from = at * RECORD;
+    let to = from + RECORD;
+    put_record(cluster, &mut out[from..to]);
 }
 
 // The image of a store.
