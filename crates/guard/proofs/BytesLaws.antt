@@ -9,7 +9,7 @@ use lib.ListN.{length, take, drop}
 use Rattle.sizes.specs.Sizes.{nodeMemory}
 use Rattle.handle.specs.declared.Handle.{Handle}
 use Rattle.handle.specs.Handles.{decoded}
-use Rattle.handle.specs.Conversion.{conversion}
+use Rattle.handle.specs.Conversion.{conversion, product}
 use Rattle.store.specs.declared.Place.{Place}
 use Rattle.store.specs.declared.Place.the-variants.{Absent, Present}
 use Rattle.store.specs.declared.Store.{Store}
@@ -59,13 +59,13 @@ module _ (s : Store) (m b d : List ℕ) (i : ℕ) (h : Handle) (eh : h ≡ decod
     start = ap₂ (λ (g : Handle) (q : Place). address (g .node) (baseOf q)) eh there
 
   module _ (en : n ≡ accessed sd h (clusterAt s at) p i (length d) readMode) where
-    told-read : number (λ k. conversion) reading s (length m) ≡ n
+    told-read : number product reading s (length m) ≡ n
     told-read =
         access-told s (length m) b h eh at ea sd es i p ep (length d) readMode _ (number-read s (length m) b i d) ∙ sym en
 
     pub read-refused : (n ≡ 0 → ⊥) → (a : Answer) → a ≡ numberAlone n → ended s m a d ≡ aesStep reading (copyOf s m)
     read-refused t a e =
-        ap (λ (x : Answer). ended s m x d) e ∙ sym (step-refused (λ k. conversion) reading (copyOf s m) n told-read t)
+        ap (λ (x : Answer). ended s m x d) e ∙ sym (step-refused product reading (copyOf s m) n told-read t)
 
     module _ (z : n ≡ 0) (from : ℕ) (ef : from ≡ address (h .node) (baseOf p)) (size : ℕ) (el : size ≡ lengthOf p) where
       pub read-done : (buffer : List ℕ) → buffer ≡ take size (drop from m) ++ drop size d → (a : Answer) → a ≡ lengthTold size
@@ -75,16 +75,16 @@ module _ (s : Store) (m b d : List ℕ) (i : ℕ) (h : Handle) (eh : h ≡ decod
           ap₂ (λ (x : Answer) (y : List ℕ). ended s m x y) e eb
           ∙ ap₂ (λ (j k : ℕ). ended s m (lengthTold k) (take k (drop j m) ++ drop k d))
           (ef ∙ start readMode en z) (el ∙ ap lengthOf (there readMode en z))
-          ∙ sym (step-done (λ k. conversion) reading (copyOf s m) (told-read ∙ z))
+          ∙ sym (step-done product reading (copyOf s m) (told-read ∙ z))
 
   module _ (en : n ≡ accessed sd h (clusterAt s at) p i (length d) writeMode) where
-    told-write : number (λ k. conversion) writing s (length m) ≡ n
+    told-write : number product writing s (length m) ≡ n
     told-write =
         access-told s (length m) b h eh at ea sd es i p ep (length d) writeMode _ (number-write s (length m) b i d) ∙ sym en
 
     pub write-refused : (n ≡ 0 → ⊥) → (a : Answer) → a ≡ numberAlone n → ended s m a d ≡ aesStep writing (copyOf s m)
     write-refused t a e =
-        ap (λ (x : Answer). ended s m x d) e ∙ sym (step-refused (λ k. conversion) writing (copyOf s m) n told-write t)
+        ap (λ (x : Answer). ended s m x d) e ∙ sym (step-refused product writing (copyOf s m) n told-write t)
 
     module _ (z : n ≡ 0) (from : ℕ) (ef : from ≡ address (h .node) (baseOf p)) (size : ℕ) (el : size ≡ lengthOf p) where
       pub write-done : (after : List ℕ) → after ≡ overwritten m from (take size d) → (a : Answer) → a ≡ numberAlone 0
@@ -94,4 +94,4 @@ module _ (s : Store) (m b d : List ℕ) (i : ℕ) (h : Handle) (eh : h ≡ decod
           ap₂ (λ (x : Answer) (y : List ℕ). ended s y x d) e em
           ∙ ap₂ (λ (j k : ℕ). ended s (overwritten m j (take k d)) (numberAlone 0) d)
           (ef ∙ start writeMode en z) (el ∙ ap lengthOf (there writeMode en z))
-          ∙ sym (step-done (λ k. conversion) writing (copyOf s m) (told-write ∙ z))
+          ∙ sym (step-done product writing (copyOf s m) (told-write ∙ z))

@@ -11,7 +11,7 @@ use lib.ListN.{length, set}
 use Rattle.sizes.specs.Sizes.{segments}
 use Rattle.handle.specs.declared.Handle.{Handle}
 use Rattle.handle.specs.Handles.{Row, firstOf, decoded}
-use Rattle.handle.specs.Conversion.{conversion}
+use Rattle.handle.specs.Conversion.{conversion, product}
 use Rattle.store.specs.declared.Place.{Place}
 use Rattle.store.specs.declared.Place.the-variants.{Absent}
 use Rattle.store.specs.declared.Cluster.{Cluster}
@@ -33,11 +33,11 @@ endedWith m r = ended (r .store) m (r .answer) []
 
 -- a call refused with n leaves all as it was
 module _ (x : Call) (s : Store) (m : List ℕ) (nothing : buffer x ≡ []) where
-  pub left-refused : (n : ℕ) → (n ≡ 0 → ⊥) → number (λ k. conversion) x s (length m) ≡ n → (r : Done) → r ≡ leftAlone s n
+  pub left-refused : (n : ℕ) → (n ≡ 0 → ⊥) → number product x s (length m) ≡ n → (r : Done) → r ≡ leftAlone s n
       → endedWith m r ≡ aesStep x (copyOf s m)
   left-refused n t e r er =
       ap (endedWith m) er ∙ ap (λ (b : List ℕ). record { copy = copyOf s m; reply = plain n b }) (sym nothing)
-      ∙ sym (step-refused (λ k. conversion) x (copyOf s m) n e t)
+      ∙ sym (step-refused product x (copyOf s m) n e t)
 
 -- a number above 0 is not 0
 pub above : (n : ℕ) → suc n ≡ 0 → ⊥
@@ -54,7 +54,7 @@ module _ (s : Store) (m b : List ℕ) (current : ℕ) (h : Handle) (eh : h ≡ d
     none : Handle → Cluster → List Row
     none g c = []
 
-    told : number (λ k. conversion) deleting s (length m) ≡ after n 0
+    told : number product deleting s (length m) ≡ after n 0
     unfolding none
     told = owner-told s (length m) b h eh at ea sd es none n _ current false en (number-delete-cluster s (length m) b current)
 
@@ -69,7 +69,7 @@ module _ (s : Store) (m b : List ℕ) (current : ℕ) (h : Handle) (eh : h ≡ d
         ap (endedWith m) er
         ∙ ap₂ (λ (i : ℕ) (d : Cluster). record { copy = copyOf (putRecord s i d) m; reply = plain 0 [] })
         (owner-passed s (length m) b h eh at ea sd es none n 0 current false en z .there) ec
-        ∙ sym (step-done (λ k. conversion) deleting (copyOf s m) (told ∙ after-none n ∙ z))
+        ∙ sym (step-done product deleting (copyOf s m) (told ∙ after-none n ∙ z))
 
   -- ---- call 4
 
@@ -80,7 +80,7 @@ module _ (s : Store) (m b : List ℕ) (current : ℕ) (h : Handle) (eh : h ≡ d
     own : Handle → Cluster → List Row
     own g c = row 14 (isAbsent (placeOf (tableOf c) segment)) ∷ []
 
-    asks : number (λ k. conversion) removing s (length m)
+    asks : number product removing s (length m)
         ≡ after n (cond (isAbsent (placeOf (tableOf (clusterAt s at)) segment)) 14 0)
     unfolding own
     asks =
@@ -92,7 +92,7 @@ module _ (s : Store) (m b : List ℕ) (current : ℕ) (h : Handle) (eh : h ≡ d
     delete-segment-refused t r er = left-refused removing s m refl n t (asks ∙ after-front n _ t) r er
 
     module _ (z : n ≡ 0) (p : Place) (ep : p ≡ placeOf (tableOf (clusterAt s at)) segment) (a : Bool) (aa : a ≡ isAbsent p) where
-      last : (t : Bool) → a ≡ t → number (λ k. conversion) removing s (length m) ≡ cond t 14 0
+      last : (t : Bool) → a ≡ t → number product removing s (length m) ≡ cond t 14 0
       last t e =
           asks
           ∙ ap₂ (λ (k : ℕ) (u : Bool). after k (cond u 14 0)) z (sym (aa ∙ ap isAbsent ep) ∙ e)
@@ -107,7 +107,7 @@ module _ (s : Store) (m b : List ℕ) (current : ℕ) (h : Handle) (eh : h ≡ d
           ap (endedWith m) er
           ∙ ap (λ (d : Cluster). record { copy = copyOf (putRecord s at d) m; reply = plain 0 [] }) ec
           ∙ ap (λ (i : ℕ). record { copy = copyOf (putRecord s i (withPlace (clusterAt s i) segment Absent)) m; reply = plain 0 [] }) there
-          ∙ sym (step-done (λ k. conversion) removing (copyOf s m) (last false t))
+          ∙ sym (step-done product removing (copyOf s m) (last false t))
         where
           there : at ≡ recordNamed (decoded b)
           there = owner-passed s (length m) b h eh at ea sd es own n 0 current (leb segments segment) en z .there

@@ -12,7 +12,7 @@ use Rattle.handle.specs.declared.Handle.{Handle}
 use Rattle.handle.specs.declared.Weakened.{Weakened}
 use Rattle.handle.specs.Selectors.{referenced}
 use Rattle.handle.specs.Handles.{widthOf, decoded, encoded, samePassword, weakenNumber, weakened, weakening, reply}
-use Rattle.handle.specs.Conversion.{conversion}
+use Rattle.handle.specs.Conversion.{conversion, product}
 use Rattle.handle.proofs.CodecLaws.{encoded-none}
 use Rattle.store.specs.declared.Cluster.{Cluster}
 use Rattle.store.specs.declared.Store.{Store}
@@ -33,7 +33,7 @@ module _ (s : Store) (m : List ℕ) (current local : ℕ) (r w : List ℕ) where
   abbrev making : Call
   making = call newCluster (asked current local 0 0 0 0 [] r w [])
 
-  told : number (λ k. conversion) making s (length m)
+  told : number product making s (length m)
       ≡ cond (not (sound s (length m))) 1
       (cond (leb nodes current || leb clusters local) 2
       (cond (clusterAt s (current * clusters + local) .active) 6 (cond (samePassword r w) 7 0)))
@@ -57,7 +57,7 @@ module _ (s : Store) (m : List ℕ) (current local : ℕ) (r w : List ℕ) where
             (told ∙ simp (← es, t1, lt-leb nodes current n, le-leb clusters local t)) d ed
 
         module _ (l : local < clusters) where
-          rest : number (λ k. conversion) making s (length m)
+          rest : number product making s (length m)
               ≡ cond (clusterAt s (current * clusters + local) .active) 6 (cond (samePassword r w) 7 0)
           rest = told ∙ simp (← es, t1, lt-leb nodes current n, lt-leb clusters local l)
 
@@ -67,7 +67,7 @@ module _ (s : Store) (m : List ℕ) (current local : ℕ) (r w : List ℕ) where
               left-refused making s m refl 6 (above 5) (rest ∙ ap (λ (b : Bool). cond b 6 (cond (samePassword r w) 7 0)) t) d ed
 
           module _ (t6 : clusterAt s (current * clusters + local) .active ≡ false) (v : Bool) (ev : v ≡ samePassword r w) where
-            only : number (λ k. conversion) making s (length m) ≡ cond v 7 0
+            only : number product making s (length m) ≡ cond v 7 0
             only = rest ∙ ap₂ (λ (b c : Bool). cond b 6 (cond c 7 0)) t6 (sym ev)
 
             pub new-cluster-twins : v ≡ true → (d : Done) → d ≡ leftAlone s 7 → endedWith m d ≡ aesStep making (copyOf s m)
@@ -84,7 +84,7 @@ module _ (s : Store) (m : List ℕ) (current local : ℕ) (r w : List ℕ) where
                 ∙ ap₂
                 (λ (p q : List ℕ). record { copy = copyOf (putRecord s (current * clusters + local) (started r w)) m; reply = handles p q 0 })
                 ex ey
-                ∙ sym (step-done (λ k. conversion) making (copyOf s m) (only ∙ ap (λ (b : Bool). cond b 7 0) t))
+                ∙ sym (step-done product making (copyOf s m) (only ∙ ap (λ (b : Bool). cond b 7 0) t))
 
 -- ---- call 7
 
@@ -97,7 +97,7 @@ module _ (b : List ℕ) (mask : ℕ) where
 
   -- weakening's number in the table is the handle's
   pub number-weaken : (s : Store) (size : ℕ)
-      → number (λ k. conversion) weakening-call s size ≡ weakenNumber (widthOf h) h mask
+      → number product weakening-call s size ≡ weakenNumber (widthOf h) h mask
   unfolding number weakenNumber tests
   number-weaken s size = simp or-false
 
@@ -111,7 +111,7 @@ module _ (b : List ℕ) (mask : ℕ) where
       ap (λ (x : List ℕ). ended s m (said w x) []) ee
       ∙ ap (λ (v : Weakened). ended s m (said v (encoded (v .handle))) []) (ew ∙ ap (λ (k : Handle). weakening (widthOf k) conversion k mask) eg)
       ∙ go (weakenNumber (widthOf h) h mask) refl
-      ∙ ap (λ (n : ℕ). outcome (λ k. conversion) n weakening-call (copyOf s m)) (sym (number-weaken s (length m)))
+      ∙ ap (λ (n : ℕ). outcome product n weakening-call (copyOf s m)) (sym (number-weaken s (length m)))
     where
       new : Handle
       new = weakened (widthOf h) conversion h mask
@@ -119,11 +119,11 @@ module _ (b : List ℕ) (mask : ℕ) where
       go : (n : ℕ) → weakenNumber (widthOf h) h mask ≡ n
           → ended s m (said (reply (weakenNumber (widthOf h) h mask) new (referenced (widthOf h) (new .selector)))
           (encoded (reply (weakenNumber (widthOf h) h mask) new (referenced (widthOf h) (new .selector)) .handle))) []
-          ≡ outcome (λ k. conversion) (weakenNumber (widthOf h) h mask) weakening-call (copyOf s m)
+          ≡ outcome product (weakenNumber (widthOf h) h mask) weakening-call (copyOf s m)
       go zero q =
           ap (λ (n : ℕ). ended s m (said (reply n new (referenced (widthOf h) (new .selector))) (encoded (reply n new (referenced (widthOf h) (new .selector)) .handle))) []) q
-          ∙ ap (λ (n : ℕ). outcome (λ k. conversion) n weakening-call (copyOf s m)) (sym q)
+          ∙ ap (λ (n : ℕ). outcome product n weakening-call (copyOf s m)) (sym q)
       go (suc n) q =
           ap (λ (n : ℕ). ended s m (said (reply n new (referenced (widthOf h) (new .selector))) (encoded (reply n new (referenced (widthOf h) (new .selector)) .handle))) []) q
           ∙ ap (λ (x : List ℕ). record { copy = copyOf s m; reply = record { number = suc n; first = x; second = zeroHandle; count = 0; length = 0; buffer = [] } }) encoded-none
-          ∙ ap (λ (n : ℕ). outcome (λ k. conversion) n weakening-call (copyOf s m)) (sym q)
+          ∙ ap (λ (n : ℕ). outcome product n weakening-call (copyOf s m)) (sym q)

@@ -12,7 +12,7 @@ use lib.ListN.{length, set, replicate}
 use Rattle.sizes.specs.Sizes.{nodes, clusters}
 use Rattle.handle.specs.declared.Handle.{Handle}
 use Rattle.handle.specs.Handles.{Row, firstOf, decoded}
-use Rattle.handle.specs.Conversion.{conversion}
+use Rattle.handle.specs.Conversion.{conversion, product}
 use Rattle.store.specs.declared.Place.{Place}
 use Rattle.store.specs.declared.Place.the-variants.{Present}
 use Rattle.store.specs.declared.Found.{Found}
@@ -21,7 +21,8 @@ use Rattle.store.specs.declared.Cluster.{Cluster}
 use Rattle.store.specs.declared.Store.{Store}
 use Rattle.store.specs.Records.{Tables, tableOf, clusterAt, tableAt, placeOf, putRecord, withPlace, address, recordAt}
 use Rattle.store.specs.Sound.{isAbsent, sound}
-use Rattle.store.specs.Placement.{Answer, roomAt, noRoomNumber, answered, answer, newBase, placement}
+use Rattle.numbers.specs.Numbers.{noRoomNumber}
+use Rattle.store.specs.Placement.{Answer, roomAt, answered, answer, newBase, placement}
 use Rattle.store.proofs.PlaceLaws.{Inside, inside-out}
 use Rattle.store.proofs.PlacementLaws.{Fits, newBase-fits}
 use Rattle.store.proofs.SoundLaws.{sound-out}
@@ -80,7 +81,7 @@ module _ (s : Store) (m b : List ℕ) (current segment size : ℕ) (h : Handle) 
       ∷ row 16 (eqb (placement (tableAt s) (g .node) size .number) noRoomNumber)
       ∷ []
 
-  told : number (λ k. conversion) making s (length m)
+  told : number product making s (length m)
       ≡ after n (last (not (isAbsent (placeOf (tableOf (clusterAt s at)) segment))) (placement (tableAt s) (h .node) size))
   unfolding own
   told =
@@ -96,7 +97,7 @@ module _ (s : Store) (m b : List ℕ) (current segment size : ℕ) (h : Handle) 
 
     module _ (p : Place) (ep : p ≡ placeOf (tableOf (clusterAt s at)) segment) (v : Bool) (ev : v ≡ isAbsent p) where
       left-rows : (t : Bool) → not v ≡ t
-          → number (λ k. conversion) making s (length m) ≡ last t (placement (tableAt s) (h .node) size)
+          → number product making s (length m) ≡ last t (placement (tableAt s) (h .node) size)
       left-rows t e =
           told
           ∙ ap₂ (λ (k : ℕ) (u : Bool). after k (last u (placement (tableAt s) (h .node) size))) z
@@ -106,7 +107,7 @@ module _ (s : Store) (m b : List ℕ) (current segment size : ℕ) (h : Handle) 
       new-segment-present t r er = left-refused making s m refl 13 (above 12) (left-rows true t) r er
 
       module _ (t : not v ≡ false) (f : Found) (ef : answer f ≡ placement (tableAt s) (h .node) size) where
-        room : (g : Found) → f ≡ g → number (λ k. conversion) making s (length m) ≡ last false (answer g)
+        room : (g : Found) → f ≡ g → number product making s (length m) ≡ last false (answer g)
         room g e = left-rows false t ∙ ap (last false) (sym ef ∙ ap answer e)
 
         pub new-segment-full : f ≡ Nowhere → (r : Done) → r ≡ leftAlone s 16 → endedWith m r ≡ aesStep making (copyOf s m)
@@ -132,4 +133,4 @@ module _ (s : Store) (m b : List ℕ) (current segment size : ℕ) (h : Handle) 
             (w .placed) (w .cleared)
             ∙ ap₂ (made (h .node)) there (ap (λ (a : Answer). a .base) (sym (ap answer eb) ∙ ef))
             ∙ ap (λ (g : Handle). made (g .node) (recordNamed (decoded b)) (placement (tableAt s) (g .node) size .base)) eh
-            ∙ sym (step-done (λ k. conversion) making (copyOf s m) (room (At base) eb))
+            ∙ sym (step-done product making (copyOf s m) (room (At base) eb))

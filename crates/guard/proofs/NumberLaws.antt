@@ -10,12 +10,13 @@ use Rattle.sizes.specs.Sizes.{segments}
 use Rattle.handle.specs.declared.Handle.{Handle}
 use Rattle.handle.specs.Selectors.{allFlat}
 use Rattle.handle.specs.Handles.{widthOf, firstOf, decoded}
-use Rattle.handle.specs.Conversion.{conversion}
+use Rattle.handle.specs.Conversion.{conversion, product}
 use Rattle.store.specs.declared.Cluster.{Cluster}
 use Rattle.store.specs.declared.Store.{Store}
 use Rattle.store.specs.Records.{tableOf, clusterAt, tableAt, placeOf, readMode, writeMode}
 use Rattle.store.specs.Sound.{isAbsent, sound}
-use Rattle.store.specs.Placement.{noRoomNumber, placement}
+use Rattle.numbers.specs.Numbers.{noRoomNumber}
+use Rattle.store.specs.Placement.{placement}
 use Rattle.calls.specs.Calls.{call, deleteCluster, newSegment, deleteSegment, read, write, reduce, newPassword}
 use Rattle.calls.specs.Calls.{recordNamed}
 use Rattle.calls.specs.Numbers.{isOld, tests}
@@ -32,13 +33,13 @@ module _ (s : Store) (size : ℕ) (b : List ℕ) where
   c = clusterAt s (recordNamed h)
 
   pub number-delete-cluster : (current : ℕ)
-      → number (λ m. conversion) (call deleteCluster (asked current 0 0 0 0 0 b [] [] [])) s size
+      → number product (call deleteCluster (asked current 0 0 0 0 0 b [] [] [])) s size
       ≡ firstOf (ownerRows (sound s size) h c current false ++ [])
   unfolding number ownerRows tests
   number-delete-cluster current = simp or-false
 
   pub number-new-segment : (current segment bytes : ℕ)
-      → number (λ m. conversion) (call newSegment (asked current 0 0 segment bytes 0 b [] [] [])) s size
+      → number product (call newSegment (asked current 0 0 segment bytes 0 b [] [] [])) s size
       ≡ firstOf
       (ownerRows (sound s size) h c current (badFields segment bytes)
       ++ (row 13 (not (isAbsent (placeOf (tableOf c) segment)))
@@ -48,7 +49,7 @@ module _ (s : Store) (size : ℕ) (b : List ℕ) where
   number-new-segment current segment bytes = simp or-false
 
   pub number-delete-segment : (current segment : ℕ)
-      → number (λ m. conversion) (call deleteSegment (asked current 0 0 segment 0 0 b [] [] [])) s size
+      → number product (call deleteSegment (asked current 0 0 segment 0 0 b [] [] [])) s size
       ≡ firstOf
       (ownerRows (sound s size) h c current (leb segments segment)
       ++ (row 14 (isAbsent (placeOf (tableOf c) segment)) ∷ []))
@@ -56,7 +57,7 @@ module _ (s : Store) (size : ℕ) (b : List ℕ) where
   number-delete-segment current segment = simp or-false
 
   pub number-read : (i : ℕ) (d : List ℕ)
-      → number (λ m. conversion) (call read (asked 0 0 0 i 0 0 b [] [] d)) s size
+      → number product (call read (asked 0 0 0 i 0 0 b [] [] d)) s size
       ≡ firstOf
       (frontRows (sound s size) h c false (leb segments i) false readMode
       ++ accessRows h (placeOf (tableOf c) i) i (length d))
@@ -64,7 +65,7 @@ module _ (s : Store) (size : ℕ) (b : List ℕ) where
   number-read i d = simp or-false
 
   pub number-write : (i : ℕ) (d : List ℕ)
-      → number (λ m. conversion) (call write (asked 0 0 0 i 0 0 b [] [] d)) s size
+      → number product (call write (asked 0 0 0 i 0 0 b [] [] d)) s size
       ≡ firstOf
       (frontRows (sound s size) h c false (leb segments i) false writeMode
       ++ accessRows h (placeOf (tableOf c) i) i (length d))
@@ -72,13 +73,13 @@ module _ (s : Store) (size : ℕ) (b : List ℕ) where
   number-write i d = simp or-false
 
   pub number-reduce : (mode : ℕ)
-      → number (λ m. conversion) (call reduce (asked 0 0 mode 0 0 0 b [] [] [])) s size
+      → number product (call reduce (asked 0 0 mode 0 0 0 b [] [] [])) s size
       ≡ firstOf (frontRows (sound s size) h c false (badModes mode) false mode ++ [])
   unfolding number tests
   number-reduce mode = simp or-false
 
   pub number-new-password : (mode : ℕ) (p : List ℕ)
-      → number (λ m. conversion) (call newPassword (asked 0 0 mode 0 0 0 b p [] [])) s size
+      → number product (call newPassword (asked 0 0 mode 0 0 0 b p [] [])) s size
       ≡ firstOf
       (frontRows (sound s size) h c false (badModes mode) false mode
       ++ (row 10 (not (allFlat (widthOf h) (h .selector))) ∷ row 12 (isOld p c) ∷ []))

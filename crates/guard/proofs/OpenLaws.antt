@@ -7,7 +7,7 @@ use Prim.Native.Nat.{ℕ, zero, suc}
 use lib.ListN.{length}
 use Rattle.handle.specs.declared.Handle.{Handle}
 use Rattle.handle.specs.Handles.{widthOf, Row, firstOf, decoded, encoded, reduced}
-use Rattle.handle.specs.Conversion.{conversion}
+use Rattle.handle.specs.Conversion.{conversion, product}
 use Rattle.store.specs.declared.Cluster.{Cluster}
 use Rattle.store.specs.declared.Store.{Store}
 use Rattle.store.specs.Records.{clusterAt, primaryOf, recordAt}
@@ -27,7 +27,7 @@ module _ (s : Store) (m b : List ℕ) (mode : ℕ) (h : Handle) (eh : h ≡ deco
   none : Handle → Cluster → List Row
   none g c = []
 
-  told : number (λ k. conversion) (call reduce (asked 0 0 mode 0 0 0 b [] [] [])) s (length m) ≡ n
+  told : number product (call reduce (asked 0 0 mode 0 0 0 b [] [] [])) s (length m) ≡ n
   unfolding none
   told =
       front-told s (length m) b h eh at ea sd es none n _ (badModes mode) mode known (number-reduce s (length m) b mode)
@@ -38,9 +38,9 @@ module _ (s : Store) (m b : List ℕ) (mode : ℕ) (h : Handle) (eh : h ≡ deco
 
   pub validate-is : n ≡ aesStep (call validate (asked 0 0 mode 0 0 0 b [] [] [])) (copyOf s m) .reply .number
   unfolding step given
-  validate-is = go _ (sym told ∙ sym (number-validate (λ k. conversion) (asked 0 0 mode 0 0 0 b [] [] []) s (length m)))
+  validate-is = go _ (sym told ∙ sym (number-validate product (asked 0 0 mode 0 0 0 b [] [] []) s (length m)))
     where
-      go : (k : ℕ) → n ≡ k → n ≡ outcome (λ i. conversion) k (call validate (asked 0 0 mode 0 0 0 b [] [] [])) (copyOf s m) .reply .number
+      go : (k : ℕ) → n ≡ k → n ≡ outcome product k (call validate (asked 0 0 mode 0 0 0 b [] [] [])) (copyOf s m) .reply .number
       go zero e = e
       go (suc k) e = e
 
@@ -48,7 +48,7 @@ module _ (s : Store) (m b : List ℕ) (mode : ℕ) (h : Handle) (eh : h ≡ deco
       → ended s m a [] ≡ aesStep (call reduce (asked 0 0 mode 0 0 0 b [] [] [])) (copyOf s m)
   reduce-refused t a e =
       ap (λ (x : Answer). ended s m x []) e
-      ∙ sym (step-refused (λ k. conversion) (call reduce (asked 0 0 mode 0 0 0 b [] [] [])) (copyOf s m) n told t)
+      ∙ sym (step-refused product (call reduce (asked 0 0 mode 0 0 0 b [] [] [])) (copyOf s m) n told t)
 
   pub reduce-done : (n ≡ 0) → (p : List ℕ) → p ≡ primaryOf (clusterAt s at) mode → (r : Handle)
       → r ≡ reduced (widthOf h) conversion h p → (e : List ℕ) → e ≡ encoded r → (a : Answer)
@@ -59,7 +59,7 @@ module _ (s : Store) (m b : List ℕ) (mode : ℕ) (h : Handle) (eh : h ≡ deco
   reduce-done z p ep r er e ee a aa =
       ap (λ (x : Answer). ended s m x []) aa
       ∙ ap (λ (x : List ℕ). record { copy = copyOf s m; reply = handles x zeroHandle 0 }) (ee ∙ ap encoded (er ∙ same))
-      ∙ sym (step-done (λ k. conversion) (call reduce (asked 0 0 mode 0 0 0 b [] [] [])) (copyOf s m) (told ∙ z))
+      ∙ sym (step-done product (call reduce (asked 0 0 mode 0 0 0 b [] [] [])) (copyOf s m) (told ∙ z))
     where
       there : at ≡ recordNamed (decoded b)
       there = front-passed s (length m) b h eh at ea sd es none n 0 bad mode en z .there

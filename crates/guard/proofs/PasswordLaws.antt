@@ -9,7 +9,7 @@ use lib.ListN.{length, set}
 use Rattle.handle.specs.declared.Handle.{Handle}
 use Rattle.handle.specs.Selectors.{allFlat}
 use Rattle.handle.specs.Handles.{widthOf, Row, firstOf, decoded, samePassword}
-use Rattle.handle.specs.Conversion.{conversion}
+use Rattle.handle.specs.Conversion.{conversion, product}
 use Rattle.store.specs.declared.Cluster.{Cluster}
 use Rattle.store.specs.declared.Store.{Store}
 use Rattle.store.specs.Records.{clusterAt, putRecord, readMode, withPassword, recordAt}
@@ -62,7 +62,7 @@ module _ (s : Store) (m b pw : List ℕ) (mode : ℕ) (h : Handle) (eh : h ≡ d
   own : Handle → Cluster → List Row
   own g c = row 10 (not (allFlat (widthOf g) (g .selector))) ∷ row 12 (isOld pw c) ∷ []
 
-  told : number (λ k. conversion) renewing s (length m)
+  told : number product renewing s (length m)
       ≡ after n (rows (allFlat (widthOf h) (h .selector)) (isOld pw (clusterAt s at)))
   unfolding own
   told =
@@ -79,7 +79,7 @@ module _ (s : Store) (m b pw : List ℕ) (mode : ℕ) (h : Handle) (eh : h ≡ d
     there = front-passed s (length m) b h eh at ea sd es own n 0 bad mode en z .there
 
     -- 10 and 12 are left
-    last : number (λ k. conversion) renewing s (length m)
+    last : number product renewing s (length m)
         ≡ rows p (samePassword pw (clusterAt s at .read) || samePassword pw (clusterAt s at .write))
     last =
         told ∙ ap₂ (λ (k : ℕ) (q : Bool). after k (rows q (isOld pw (clusterAt s at)))) z (sym ep)
@@ -93,7 +93,7 @@ module _ (s : Store) (m b pw : List ℕ) (mode : ℕ) (h : Handle) (eh : h ≡ d
         r er
 
     module _ (tp : not p ≡ false) (u : Bool) (eu : u ≡ samePassword pw (clusterAt s at .read)) where
-      pair : (v : Bool) → samePassword pw (clusterAt s at .write) ≡ v → number (λ k. conversion) renewing s (length m) ≡ cond (u || v) 12 0
+      pair : (v : Bool) → samePassword pw (clusterAt s at .write) ≡ v → number product renewing s (length m) ≡ cond (u || v) 12 0
       pair v ev =
           last
           ∙ ap (λ (q : Bool). cond q 10 (cond (samePassword pw (clusterAt s at .read) || samePassword pw (clusterAt s at .write)) 12 0)) tp
@@ -105,7 +105,7 @@ module _ (s : Store) (m b pw : List ℕ) (mode : ℕ) (h : Handle) (eh : h ≡ d
           (pair _ refl ∙ ap (λ (x : Bool). cond (x || samePassword pw (clusterAt s at .write)) 12 0) t) r er
 
       module _ (tu : u ≡ false) (v : Bool) (ev : v ≡ samePassword pw (clusterAt s at .write)) where
-        only : number (λ k. conversion) renewing s (length m) ≡ cond v 12 0
+        only : number product renewing s (length m) ≡ cond v 12 0
         only = pair v (sym ev) ∙ ap (λ (x : Bool). cond (x || v) 12 0) tu
 
         pub new-password-write : v ≡ true → (r : Done) → r ≡ leftAlone s 12 → endedWith m r ≡ aesStep renewing (copyOf s m)
@@ -120,4 +120,4 @@ module _ (s : Store) (m b pw : List ℕ) (mode : ℕ) (h : Handle) (eh : h ≡ d
             ap₂ (λ (d : Cluster) (x : Answer). ended (putRecord s at d) m x []) ec aa
             ∙ ap₂ (λ (i : ℕ) (x : List ℕ). record { copy = copyOf (putRecord s i (withPassword (clusterAt s i) mode pw)) m; reply = handles x zeroHandle 0 })
             there (ee ∙ ap (λ (g : Handle). primaryBytes (g .node) (g .local) pw) eh)
-            ∙ sym (step-done (λ k. conversion) renewing (copyOf s m) (only ∙ ap (λ (x : Bool). cond x 12 0) t))
+            ∙ sym (step-done product renewing (copyOf s m) (only ∙ ap (λ (x : Bool). cond x 12 0) t))

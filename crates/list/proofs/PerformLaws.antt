@@ -14,7 +14,7 @@ use Rattle.sizes.specs.Sizes.{nodes, clusters, passwordBytes}
 use Rattle.handle.specs.Sizes.{handleBytes}
 use Rattle.handle.specs.declared.Handle.{Handle}
 use Rattle.handle.specs.Handles.{firstOf, noSuchPlace, decoded}
-use Rattle.handle.specs.Conversion.{conversion}
+use Rattle.handle.specs.Conversion.{conversion, product}
 use Rattle.store.specs.declared.Store.{Store}
 use Rattle.store.specs.Sound.{sound}
 use Rattle.calls.specs.Calls.{Kind, newCluster, deleteCluster, newSegment, deleteSegment, read, write, weaken, reduce}
@@ -65,7 +65,7 @@ module _ (r : List ℕ) (s : Store) (m : List ℕ) where
   unfolding chosen
   as-step k g b t e o eo =
       ap (λ (p : Outcome). afterStep k p (bench s m b))
-      (eo ∙ unused-ignored (λ n. conversion) k g (argumentsOf k r b) (copyOf s m) e)
+      (eo ∙ unused-ignored product k g (argumentsOf k r b) (copyOf s m) e)
       ∙ sym (ap (chosen k b) t)
 
   -- ---- calls 1 to 4

@@ -11,25 +11,31 @@ use Rattle.handle.specs.Selectors.{allFlat}
 use Rattle.handle.specs.Handles.{nodeOf, widthOf, firstOf}
 use Rattle.store.specs.declared.Cluster.{Cluster}
 use Rattle.store.specs.Records.{writeMode}
-use Rattle.front.specs.Entries.{row, frontRows, ownerRows, after}
-use Rattle.front.proofs.LookLaws.{after-front, first-append, front-numbered}
+use Rattle.refusals.specs.Rows.{row, sharedRows, ownerRows, after}
+use Rattle.refusals.proofs.AfterLaws.{after-told, first-append}
+use Rattle.refusals.proofs.GivenLaws.{shared-numbered}
 
-module _ (sd : Bool) (h : Handle) (c : Cluster) (current : ℕ) (field : Bool) (n : ℕ)
-    (en : n
-    ≡ firstOf (frontRows sd h c (leb nodes current) field (not (eqb current (nodeOf h))) writeMode)) where
+-- the node as the code has it
+module _ (sd : Bool) (h : Handle) (c : Cluster) (current : ℕ) (field : Bool) (v : ℕ) (ev : v ≡ nodeOf h) (n : ℕ)
+    (en : n ≡ firstOf (sharedRows sd h c (leb nodes current) field (not (eqb current v)) writeMode)) where
   abbrev primary : Bool
   primary = allFlat (widthOf h) (h .selector)
 
   joined : firstOf (ownerRows sd h c current field) ≡ after n (cond (not primary) 10 0)
   unfolding ownerRows
   joined =
-      first-append (frontRows sd h c (leb nodes current) field (not (eqb current (nodeOf h))) writeMode)
+      first-append (sharedRows sd h c (leb nodes current) field (not (eqb current (nodeOf h))) writeMode)
       (row 10 (not primary) ∷ [])
-      (front-numbered sd h c (leb nodes current) field (not (eqb current (nodeOf h))) writeMode)
-      ∙ ap (λ (k : ℕ). after k (cond (not primary) 10 0)) (sym en)
+      (shared-numbered sd h c (leb nodes current) field (not (eqb current (nodeOf h))) writeMode)
+      ∙ ap (λ (k : ℕ). after k (cond (not primary) 10 0)) (sym known)
+    where
+      known : n ≡ firstOf (sharedRows sd h c (leb nodes current) field (not (eqb current (nodeOf h))) writeMode)
+      known =
+          en
+          ∙ ap (λ (u : ℕ). firstOf (sharedRows sd h c (leb nodes current) field (not (eqb current u)) writeMode)) ev
 
-  pub owner-front : (n ≡ 0 → ⊥) → n ≡ firstOf (ownerRows sd h c current field)
-  owner-front t = sym (joined ∙ after-front n (cond (not primary) 10 0) t)
+  pub owner-shared : (n ≡ 0 → ⊥) → n ≡ firstOf (ownerRows sd h c current field)
+  owner-shared t = sym (joined ∙ after-told n (cond (not primary) 10 0) t)
 
   module _ (z : n ≡ 0) (p : Bool) (ep : p ≡ allFlat (widthOf h) (h .selector)) where
     last : (t : Bool) → not p ≡ t → firstOf (ownerRows sd h c current field) ≡ cond t 10 0

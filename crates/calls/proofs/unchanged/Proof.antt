@@ -1,8 +1,8 @@
 -- The number alone, beside the records.
 -- Assumes nothing.
 use borrow.Author.Needs.{needs}
-use Rattle.front.proofs.unchanged.Statement.{statement}
-use Rattle.front.proofs.unchanged.Tie as tie
+use Rattle.calls.proofs.unchanged.Statement.{statement}
+use Rattle.calls.proofs.unchanged.Tie as tie
 
 returns : tie.Need-returns
 returns c = cc
