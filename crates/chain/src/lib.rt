@@ -3,7 +3,6 @@
 ghost use mathlib.Core.Path.{_≡_};
 ghost use Prim.Native.Nat.{_/_};
 ghost use Rattle.chain.specs.Bytes.{wayIn};
-
 use numbers::LINK;
 use numbers::LOOP;
 

@@ -3,6 +3,8 @@
 mod codec; // codec.rt: a handle from its bytes, and back
 
 use aes::Tables;
+pub use codec::bytes_in;
+pub use codec::primary_bytes;
 use numbers::GAPPED;
 use numbers::NO_SUCH_PLACE;
 use numbers::SPENT;
@@ -11,10 +13,6 @@ use sizes::NODES;
 use sizes::PASSWORD_BYTES;
 use sizes::Password;
 use sizes::SEGMENTS;
-
-pub use codec::bytes_in;
-pub use codec::primary_bytes;
-
 ghost use mathlib.Core.Path.{_≡_};
 ghost use Rattle.aes.specs.Tables.{IsTables};
 ghost use Rattle.sizes.specs.Sizes.{segments};

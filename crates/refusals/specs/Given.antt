@@ -3,6 +3,7 @@
 --                           that the bytes hold is h, the record of its cluster is c; the first record where there is no
 --                           such place
 --     recordFound h         the number of that record
+--     GivenPlace sd c s m v l    the same of a call that names node v and local number l itself
 --     put h c s             the records s with the record of the cluster that h names replaced
 -- Assumes nothing.
 use mathlib.Core.Path.{_≡_}
@@ -24,6 +25,10 @@ pub record Given (sd : Bool) (h : Handle) (c : Cluster) (s : Store) (m b : List 
   pub sound : sd ≡ sound s (length m)
   pub handle : h ≡ decoded b
   pub found : c ≡ clusterAt s (recordFound h)
+
+pub record GivenPlace (sd : Bool) (c : Cluster) (s : Store) (m : List ℕ) (node local : ℕ) : Type 0 where
+  pub sound : sd ≡ sound s (length m)
+  pub found : c ≡ clusterAt s (recordAt node local)
 
 abbrev pub put : Handle → Cluster → Store → Store
 put h c s = putRecord s (recordFound h) c
