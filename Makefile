@@ -92,7 +92,7 @@ SEED ?= 1
 .PHONY: compare
 compare: need-rt need-cargo need-cc benchrun lib
 	cargo build --quiet --release --offline --manifest-path tests/Cargo.toml
-	$(MODEL)/streams-against $(BENCHRUN) $(SEED) examples/*.list examples/lists/*.list
+	$(MODEL)/streams-against $(BENCHRUN) $(SEED) examples/*.list examples/lists/*.list examples/measured/*.list
 	$(MODEL)/lists-against $(BENCHRUN) $(SEED) $(LISTS)
 	cargo test --quiet --release --offline --manifest-path tests/library/Cargo.toml
 	cargo run --quiet --release --offline --manifest-path tests/library/Cargo.toml --bin against-library $(SEED) $(CALLS)

@@ -23,7 +23,7 @@ const BEYOND: [usize; 6] = [
     4096,
     100_000,
 ];
-/// Longer than what a pipe holds.
+/// More than a pipe holds.
 const LONG_TEXT: usize = 1 << 17;
 
 struct Task {
@@ -41,66 +41,73 @@ fn task() -> Option<Task> {
     })
 }
 
-/// A list that runs, as long as a list may be.
-fn is_longest(list: &[u8]) -> bool {
-    list.len() == MOST_LIST_BYTES && !output(list).starts_with(b"list")
+/// What the program is run on.
+struct Lists {
+    /// Those given, some made by chance, and inputs that are longer than any list.
+    all: Vec<Vec<u8>>,
+    /// One that runs and is as long as a list may be.
+    longest: Vec<u8>,
+    /// One whose text is longer than a pipe holds.
+    wordy: Vec<u8>,
 }
 
-fn is_wordy(list: &[u8]) -> bool {
-    output(list).len() > LONG_TEXT
+/// The list with bytes after it: a program that cuts its input would run it.
+fn lengthened(list: &[u8], more: usize, random: &mut Random) -> Vec<u8> {
+    let mut input = list.to_vec();
+    input.resize_with(list.len() + more, || random.byte());
+    input
 }
 
-/// Lists made by chance.
-fn chance_lists(random: &mut Random) -> Vec<Vec<u8>> {
-    let seeds = (0..CHANCE_LISTS).map(|_| random.number());
-    seeds
-        .map(|seed| generate::list(&mut Random::from_seed(seed)))
-        .collect()
-}
-
-/// A list with bytes after it, so that a program which cuts its input would run it.
-fn lengthened(list: &[u8], random: &mut Random) -> Vec<Vec<u8>> {
-    let longer = |more: &usize| {
-        let mut input = list.to_vec();
-        input.resize_with(list.len() + more, || random.byte());
-        input
+fn lists(paths: &[PathBuf], random: &mut Random) -> Result<Lists, String> {
+    let given: Result<Vec<_>, _> = paths.iter().map(fs::read).collect();
+    let mut all = given.map_err(|mistake| mistake.to_string())?;
+    let texts: Vec<_> = all.iter().map(|list| output(list)).collect();
+    let find = |what: &str, test: fn(&[u8], &[u8]) -> bool| {
+        let mut pairs = all.iter().zip(&texts);
+        let found = pairs.find(|(list, text)| test(list, text));
+        let list = found.map(|(list, _)| list.clone());
+        list.ok_or_else(|| format!("no list was given {what}"))
     };
-    BEYOND.iter().map(longer).collect()
+    let longest = find("that runs and is as long as can be", |list, text| {
+        list.len() == MOST_LIST_BYTES && !text.starts_with(b"list")
+    })?;
+    let wordy = find("whose text is longer than a pipe holds", |_, text| {
+        text.len() > LONG_TEXT
+    })?;
+    for _ in 0..CHANCE_LISTS {
+        all.push(generate::list(&mut Random::from_seed(random.number())));
+    }
+    all.extend(BEYOND.map(|more| lengthened(&longest, more, random)));
+    Ok(Lists {
+        all,
+        longest,
+        wordy,
+    })
+}
+
+/// Reads and writes that fail.
+fn failing(program: &Program, list: &[u8]) -> Checked {
+    all([
+        failures::of_reads(program, list),
+        failures::of_writes(program, list),
+        failures::of_a_later_write(program, list),
+    ])
 }
 
 fn compare(task: &Task) -> Checked {
     let program = &task.program;
     let mut random = Random::from_seed(task.seed);
-    let files = all(task
-        .paths
-        .iter()
-        .map(|path| inputs::from_file(program, path)))?;
-    let read = task
-        .paths
-        .iter()
-        .map(fs::read)
-        .collect::<Result<Vec<_>, _>>();
-    let mut lists = read.map_err(|mistake| mistake.to_string())?;
-    let missing = |what: &str| format!("no list was given {what}");
-    let longest = lists.iter().find(|list| is_longest(list)).cloned();
-    let longest = longest.ok_or_else(|| missing("that is as long as a list may be"))?;
-    let wordy = lists.iter().find(|list| is_wordy(list)).cloned();
-    let wordy = wordy.ok_or_else(|| missing("whose text is longer than a pipe holds"))?;
-    lists.extend(chance_lists(&mut random));
-    lists.extend(lengthened(&longest, &mut random));
-    let pieces = all(lists
-        .iter()
-        .map(|list| inputs::in_pieces(program, list, &mut random)))?;
-    let taken = outputs::taken_slowly(program, &wordy)?;
-    let failing = all([&longest, &wordy].map(|list| {
-        all([
-            failures::of_reads(program, list),
-            failures::of_writes(program, list),
-            failures::of_a_later_write(program, list),
-        ])
-    }))?;
-    println!("runs of lists from files {files}, in pieces {pieces}; of texts taken slowly {taken}; of streams that fail {failing}");
-    Ok(files + pieces + taken + failing)
+    let lists = lists(&task.paths, &mut random)?;
+    let from_file = |path: &PathBuf| inputs::from_file(program, path);
+    let in_pieces = |list: &Vec<u8>| inputs::in_pieces(program, list, &mut random);
+    let files = all(task.paths.iter().map(from_file))?;
+    let pieces = all(lists.all.iter().map(in_pieces))?;
+    let slow = outputs::taken_slowly(program, &lists.wordy)?;
+    let failed = all([&lists.longest, &lists.wordy].map(|list| failing(program, list)))?;
+    println!(
+        "lists as files {files}, on pipes and in pieces {pieces}, taken slowly {slow}, failing {failed}"
+    );
+    Ok(files + pieces + slow + failed)
 }
 
 fn main() -> ExitCode {
