@@ -78,6 +78,7 @@ test: $(NEEDED:%=need-%)
 	cargo fmt --check --manifest-path tests/Cargo.toml
 	cargo fmt --check --manifest-path tests/library/Cargo.toml
 	cargo fmt --check --manifest-path tools/Cargo.toml
+	cargo fmt --check --manifest-path bench/Cargo.toml
 	cargo test --quiet --offline --manifest-path tests/Cargo.toml
 	cargo test --quiet --offline --manifest-path tools/Cargo.toml
 	rt ci 2>&1 | tee tests/target/gate.log
