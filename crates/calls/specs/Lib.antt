@@ -4,3 +4,4 @@ pub mod Clear
 pub mod Steps
 pub mod Examples
 pub mod Cases
+pub mod Answers
