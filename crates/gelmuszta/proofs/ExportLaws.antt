@@ -1,27 +1,38 @@
--- From a call on the store to a call on its image: a damaged image is refused; else the reply is the step's, and the
--- image left is that of the store which the step left, for a refusal leaves the store and good bytes are its image.
+-- From the core of a call to a call on an image: an image that holds no sound store is refused with 1; else the core is given
+-- what the store holds, its reply is the step's, and the image left is that of the store which the step left, for a
+-- refusal leaves the store and good bytes are its image.
 -- Assumes nothing.
 use mathlib.Core.Path.{_≡_, refl, sym, ap, _∙_}
-use mathlib.Core.Bool.{Bool, true, false, not}
+use mathlib.Core.Bool.{Bool, true, false, not, _&&_}
 use mathlib.Core.List.{List, [], _∷_}
 use Prim.Native.Nat.{ℕ, zero, suc}
 use native.Mathlib.Omega.{arith}
-use borrow.Author.Tests.{not-true, not-false}
 use lib.ListN.{length}
-use Rattle.handle.specs.Conversion.{conversion, product}
-use Rattle.store.specs.declared.Store.{Store}
-use Rattle.front.specs.declared.Answer.{Answer}
-use Rattle.front.specs.Entries.{copyOf, replied, ended, numberAlone}
-use Rattle.calls.specs.Calls.{Copy, Call, Arguments, call, weaken, validate, among, buffer}
-use Rattle.calls.specs.Numbers.{number}
-use Rattle.calls.specs.Steps.{Reply, Outcome, plain, zeroHandle, left as lefts, outcome, step, aesStep}
-use Rattle.image.specs.Images.{good, storeIn, imageOf}
+use borrow.Author.Tests.{not-true, not-false}
+use Rattle.loops.proofs.BelowLaws.{and-left, and-right}
 use Rattle.numbers.specs.Numbers.{unsoundNumber}
-use Rattle.gelmuszta.specs.Exported.{replyOf, Performed, answered, damaged, imaged}
-use Rattle.gelmuszta.specs.Exported.{performed, kept, Always}
-use Rattle.gelmuszta.proofs.ReplyLaws.{Silent, OneHandle, TwoHandles, Length, silent-reply, handle-reply}
-use Rattle.gelmuszta.proofs.ReplyLaws.{handles-reply, count-reply, length-reply, silent-known}
-use Rattle.gelmuszta.proofs.ReplyLaws.{done-number, validate-silent, weaken-counts}
+use Rattle.handle.specs.declared.Handle.{Handle}
+use Rattle.handle.specs.Handles.{nodeOf, decoded}
+use Rattle.handle.specs.Conversion.{product}
+use Rattle.store.specs.declared.Store.{Store}
+use Rattle.store.specs.Records.{clusterAt, putRecord, recordAt}
+use Rattle.store.specs.Sound.{sound}
+use Rattle.calls.specs.declared.Answer.{Answer}
+use Rattle.calls.specs.declared.RecordLeft.{RecordLeft}
+use Rattle.calls.specs.Calls.{Call, Copy, among, buffer, weaken, call, Arguments}
+use Rattle.calls.specs.Numbers.{number, unsound}
+use Rattle.calls.specs.Steps.{Reply, Outcome, zeroHandle, plain, outcome, step, aesStep}
+use Rattle.calls.specs.Answers.{copyOf, replied, ended}
+use Rattle.calls.proofs.StepLaws.{step-refused}
+use Rattle.refusals.specs.Given.{Given, GivenPlace}
+use Rattle.image.specs.Images.{good, storeIn, imageOf}
+use Rattle.gelmuszta.specs.declared.Located.{Located}
+use Rattle.gelmuszta.specs.declared.Opened.{Opened}
+use Rattle.gelmuszta.specs.Opened.{Locates, Opens, Kept}
+use Rattle.gelmuszta.specs.Exported.{replyOf, Performed, answered, damaged, imaged, performed, Always}
+use Rattle.gelmuszta.proofs.ReplyLaws.{Silent, OneHandle, TwoHandles, Length, done-number}
+use Rattle.gelmuszta.proofs.ReplyLaws.{silent-reply, handle-reply, handles-reply, length-reply, count-reply}
+use Rattle.gelmuszta.proofs.ReplyLaws.{weaken-counts}
 
 -- a damaged image, where it is known whether the call is a weakening
 abbrev pub damagedBy : Bool → Call → List ℕ → List ℕ → Performed
@@ -35,16 +46,6 @@ damagedBy u x b m =
 abbrev pub picked : Call → List ℕ → List ℕ → Bool → Performed
 picked x b m g = elim g [ true ↦ imaged (aesStep x (copyOf (storeIn b) m)) | false ↦ damaged x b m ]
 
--- the image to keep
-pub kept-refused : (n : ℕ) (s : Store) (b : List ℕ) → (n ≡ 0 → ⊥) → b ≡ kept n s b
-unfolding kept
-kept-refused zero s b h = absurd (h refl)
-kept-refused (suc n) s b h = refl
-
-pub kept-done : (n : ℕ) (s : Store) (b after : List ℕ) → n ≡ 0 → after ≡ imageOf s → after ≡ kept n s b
-unfolding kept
-kept-done n s b after z e = e ∙ sym (ap (λ (k : ℕ). kept k s b) z)
-
 -- a step whose number is not 0 leaves the copy as it was
 pub step-leaves : (x : Call) (c : Copy) → (aesStep x c .reply .number ≡ 0 → ⊥)
     → aesStep x c ≡ record { copy = c; reply = plain (aesStep x c .reply .number) (buffer x) }
@@ -57,105 +58,154 @@ step-leaves x c h = go (number product x (c .store) (length (c .memory))) h
     go zero h = absurd (h (done-number (x .kind) x c))
     go (suc n) h = refl
 
--- ---- a damaged image, and a good one
+-- a call that looks at the store gets 1 where it is not sound
+number-unsound : (x : Call) (s : Store) (size : ℕ) → among (7 ∷ []) (x .kind) ≡ false → sound s size ≡ false
+    → number product x s size ≡ 1
+unfolding number unsound
+number-unsound x s size looks f = simp (looks, f)
 
-module _ (x : Call) (b m : List ℕ) (g : Bool) (eg : g ≡ good b) where
-  pub refused-damaged : among (7 ∷ []) (x .kind) ≡ false → (buf : List ℕ) → buf ≡ buffer x → not g ≡ true
+-- ---- what was found
+
+pub opens-so : (b : List ℕ) (size : ℕ) (hb : List ℕ) (h : Handle) → h ≡ decoded hb → (v : ℕ) → v ≡ nodeOf h → (l : Located)
+    → Locates l b size v (h .local)
+    → Opens (record { handle = h; at = l .at; cluster = l .cluster; sound = l .sound }) b size hb
+opens-so b size hb h eh v ev l w =
+    record {
+      handle = eh;
+      at = w .at ∙ ap (λ (u : ℕ). recordAt u (h .local)) ev;
+      cluster = w .cluster ∙ ap (λ (u : ℕ). clusterAt (storeIn b) (recordAt u (h .local))) ev;
+      sound = w .sound;
+      whole = w .whole;
+    }
+
+pub kept-refused : (l : RecordLeft) (at : ℕ) (b : List ℕ) → (l .answer .number ≡ 0 → ⊥) → Kept l at b b
+kept-refused l at b t = record { done = λ z g. absurd (t z); refused = λ q. refl }
+
+pub kept-done : (l : RecordLeft) (at : ℕ) (b after : List ℕ) → l .answer .number ≡ 0
+    → (good b ≡ true → after ≡ imageOf (putRecord (storeIn b) at (l .cluster))) → Kept l at b after
+kept-done l at b after z e = record { done = λ q g. e g; refused = λ t. absurd (t z) }
+
+-- ---- an image that holds no sound store, and one that does
+
+module _ (b m : List ℕ) (sd : Bool) (es : sd ≡ (good b && sound (storeIn b) (length m)))
+    (whole : good b ≡ true → imageOf (storeIn b) ≡ b) where
+  -- a call that looks at the store gets 1
+  pub refused-unsound : (x : Call) → among (7 ∷ []) (x .kind) ≡ false → (buf : List ℕ) → buf ≡ buffer x → not sd ≡ true
       → answered unsoundNumber zeroHandle zeroHandle 0 0 buf b m ≡ performed x b m
   unfolding performed
-  refused-damaged looks buf e t =
-      ap (λ (l : List ℕ). answered unsoundNumber zeroHandle zeroHandle 0 0 l b m) e
-      ∙ sym (ap (λ (u : Bool). damagedBy u x b m) looks)
-      ∙ sym (ap (picked x b m) (sym eg ∙ not-true g t))
+  refused-unsound x looks buf e t =
+      ap (λ (l : List ℕ). answered unsoundNumber zeroHandle zeroHandle 0 0 l b m) e ∙ go (good b) refl (sym es ∙ not-true sd t)
+    where
+      go : (g : Bool) → good b ≡ g → (good b && sound (storeIn b) (length m)) ≡ false
+          → answered unsoundNumber zeroHandle zeroHandle 0 0 (buffer x) b m ≡ picked x b m (good b)
+      go false eg f = sym (ap (λ (u : Bool). damagedBy u x b m) looks) ∙ sym (ap (picked x b m) eg)
+      go true eg f =
+          ap (λ (i : List ℕ). answered unsoundNumber zeroHandle zeroHandle 0 0 (buffer x) i m) (sym (whole eg))
+          ∙ sym (ap imaged (step-refused product x (copyOf (storeIn b) m) 1
+          (number-unsound x (storeIn b) (length m) looks (ap (λ (u : Bool). u && sound (storeIn b) (length m)) (sym eg) ∙ f)) (λ z. omega (arith, z))))
+          ∙ sym (ap (picked x b m) eg)
 
-  module _ (t : not g ≡ false) (s : Store) (es : s ≡ storeIn b) (whole : g ≡ true → imageOf s ≡ b) where
-    abbrev left : Outcome
-    left = aesStep x (copyOf s m)
+  module _ (t : not sd ≡ false) where
+    pub held-good : good b ≡ true
+    held-good = and-left (good b) (sound (storeIn b) (length m)) (sym es ∙ not-false sd t)
 
-    image-is : imageOf s ≡ b
-    image-is = whole (not-false g t)
+    pub held-sound : true ≡ sound (storeIn b) (length m)
+    held-sound = sym (and-right (good b) (sound (storeIn b) (length m)) (sym es ∙ not-false sd t))
 
-    through : imaged left ≡ performed x b m
-    unfolding performed
-    through =
-        ap (λ (k : Store). imaged (aesStep x (copyOf k m))) es ∙ sym (ap (picked x b m) (sym eg ∙ not-false g t))
+    module _ (x : Call) where
+      abbrev left : Outcome
+      left = aesStep x (copyOf (storeIn b) m)
 
-    finished : (r : Reply) (after n : List ℕ) → r ≡ left .reply → after ≡ imageOf (left .copy .store)
-        → n ≡ left .copy .memory
-        → _≡_ {A = Performed} (record { reply = r; image = after; memory = n }) (performed x b m)
-    finished r after n er ei en = (λ j. record { reply = er j; image = ei j; memory = en j }) ∙ through
+      through : imaged left ≡ performed x b m
+      unfolding performed
+      through = sym (ap (picked x b m) held-good)
 
-    module _ (k : Store) (n : List ℕ) (a : Answer) (buf : List ℕ) (e : ended k n a buf ≡ left) where
-      replies : replied a buf ≡ left .reply
-      replies = ap (λ (o : Outcome). o .reply) e
+      finished : (r : Reply) (after n : List ℕ) → r ≡ left .reply → after ≡ imageOf (left .copy .store)
+          → n ≡ left .copy .memory
+          → _≡_ {A = Performed} (record { reply = r; image = after; memory = n }) (performed x b m)
+      finished r after n er ei en = (λ j. record { reply = er j; image = ei j; memory = en j }) ∙ through
 
-      bytes : n ≡ left .copy .memory
-      bytes = ap (λ (o : Outcome). o .copy .memory) e
+      module _ (k : Store) (n : List ℕ) (a : Answer) (buf : List ℕ) (e : ended k n a buf ≡ left) where
+        replies : replied a buf ≡ left .reply
+        replies = ap (λ (o : Outcome). o .reply) e
 
-      module _ (after : List ℕ) (ek : after ≡ kept (a .number) k b) where
+        bytes : n ≡ left .copy .memory
+        bytes = ap (λ (o : Outcome). o .copy .memory) e
+
+        -- a refusal leaves the image
+        image-refused : (a .number ≡ 0 → ⊥) → b ≡ imageOf (left .copy .store)
+        image-refused ne =
+            sym (whole held-good)
+            ∙ sym (ap (λ (o : Outcome). imageOf (o .copy .store)) (step-leaves x (copyOf (storeIn b) m)
+            (λ q. ne (ap (λ (r : Reply). r .number) replies ∙ q))))
+
+      -- the record is put back
+      module _ (at i : ℕ) (ea : at ≡ i) (l : RecordLeft) (n : List ℕ)
+          (e : ended (putRecord (storeIn b) i (l .cluster)) n (l .answer) [] ≡ left) (after : List ℕ) (w : Kept l at b after) where
         image-left : after ≡ imageOf (left .copy .store)
-        unfolding kept
-        image-left = go (a .number) refl ek
+        image-left = go (l .answer .number) refl
           where
-            go : (i : ℕ) → a .number ≡ i → after ≡ kept i k b → after ≡ imageOf (left .copy .store)
-            go zero z f = f ∙ ap (λ (o : Outcome). imageOf (o .copy .store)) e
-            go (suc i) z f =
-                f
-                ∙ sym image-is
-                ∙ sym (ap (λ (o : Outcome). imageOf (o .copy .store)) (step-leaves x (copyOf s m) other))
+            go : (k : ℕ) → l .answer .number ≡ k → after ≡ imageOf (left .copy .store)
+            go zero z =
+                w .done z held-good
+                ∙ ap (λ (o : ℕ). imageOf (putRecord (storeIn b) o (l .cluster))) ea
+                ∙ ap (λ (o : Outcome). imageOf (o .copy .store)) e
+            go (suc k) z =
+                w .refused above ∙ image-refused (putRecord (storeIn b) i (l .cluster)) n (l .answer) [] e above
               where
-                above : (i : ℕ) → suc i ≡ 0 → ⊥
-                above i q = omega arith
+                above : l .answer .number ≡ 0 → ⊥
+                above q = omega (arith, z, q)
 
-                other : left .reply .number ≡ 0 → ⊥
-                other q = above i (sym z ∙ ap (λ (r : Reply). r .number) replies ∙ q)
+        silent : replied (l .answer) [] ≡ left .reply
+        silent = replies (putRecord (storeIn b) i (l .cluster)) n (l .answer) [] e
 
-        pub kept-silent : Silent x → answered (a .number) zeroHandle zeroHandle 0 0 buf after n ≡ performed x b m
-        kept-silent r = finished _ after n (silent-reply x (copyOf s m) a buf replies r) image-left bytes
+        same : n ≡ left .copy .memory
+        same = bytes (putRecord (storeIn b) i (l .cluster)) n (l .answer) [] e
 
-        pub kept-handle : OneHandle x → answered (a .number) (a .first) zeroHandle 0 0 buf after n ≡ performed x b m
-        kept-handle r = finished _ after n (handle-reply x (copyOf s m) a buf replies r) image-left bytes
+        pub kept-silent : Silent x → answered (l .answer .number) zeroHandle zeroHandle 0 0 [] after n ≡ performed x b m
+        kept-silent r = finished _ after n (silent-reply x (copyOf (storeIn b) m) (l .answer) [] silent r) image-left same
 
-        pub kept-handles : TwoHandles x → answered (a .number) (a .first) (a .second) 0 0 buf after n ≡ performed x b m
-        kept-handles r = finished _ after n (handles-reply x (copyOf s m) a buf replies r) image-left bytes
+        pub kept-handle : OneHandle x
+            → answered (l .answer .number) (l .answer .first) zeroHandle 0 0 [] after n ≡ performed x b m
+        kept-handle r = finished _ after n (handle-reply x (copyOf (storeIn b) m) (l .answer) [] silent r) image-left same
 
-    -- the records stay, and so does the image
-    module _ (n : List ℕ) (a : Answer) (buf : List ℕ) (e : ended s n a buf ≡ left) where
-      image-same : b ≡ imageOf (left .copy .store)
-      image-same = sym image-is ∙ ap (λ (o : Outcome). imageOf (o .copy .store)) e
+        pub kept-handles : TwoHandles x
+            → answered (l .answer .number) (l .answer .first) (l .answer .second) 0 0 [] after n ≡ performed x b m
+        kept-handles r = finished _ after n (handles-reply x (copyOf (storeIn b) m) (l .answer) [] silent r) image-left same
 
-      pub same-silent : Silent x → answered (a .number) zeroHandle zeroHandle 0 0 buf b n ≡ performed x b m
-      same-silent r = finished _ b n (silent-reply x (copyOf s m) a buf (replies s n a buf e) r) image-same (bytes s n a buf e)
+      -- the records stay, and so does the image
+      module _ (n : List ℕ) (a : Answer) (buf : List ℕ) (e : ended (storeIn b) n a buf ≡ left) where
+        image-same : b ≡ imageOf (left .copy .store)
+        image-same = sym (whole held-good) ∙ ap (λ (o : Outcome). imageOf (o .copy .store)) e
 
-      pub same-handle : OneHandle x → answered (a .number) (a .first) zeroHandle 0 0 buf b n ≡ performed x b m
-      same-handle r = finished _ b n (handle-reply x (copyOf s m) a buf (replies s n a buf e) r) image-same (bytes s n a buf e)
+        pub same-silent : Silent x → answered (a .number) zeroHandle zeroHandle 0 0 buf b n ≡ performed x b m
+        same-silent r =
+            finished _ b n (silent-reply x (copyOf (storeIn b) m) a buf (replies (storeIn b) n a buf e) r) image-same
+            (bytes (storeIn b) n a buf e)
 
-      pub same-told : Length x → answered (a .number) zeroHandle zeroHandle 0 (a .length) buf b n ≡ performed x b m
-      same-told r = finished _ b n (length-reply x (copyOf s m) a buf (replies s n a buf e) r) image-same (bytes s n a buf e)
+        pub same-handle : OneHandle x → answered (a .number) (a .first) zeroHandle 0 0 buf b n ≡ performed x b m
+        same-handle r =
+            finished _ b n (handle-reply x (copyOf (storeIn b) m) a buf (replies (storeIn b) n a buf e) r) image-same
+            (bytes (storeIn b) n a buf e)
 
--- ---- validation gives its number alone; weakening sees no store
+        pub same-told : Length x → answered (a .number) zeroHandle zeroHandle 0 (a .length) buf b n ≡ performed x b m
+        same-told r =
+            finished _ b n (length-reply x (copyOf (storeIn b) m) a buf (replies (storeIn b) n a buf e) r) image-same
+            (bytes (storeIn b) n a buf e)
 
-validate-leaves : (g : Arguments) (c : Copy) → aesStep (call validate g) c .copy ≡ c
-unfolding step lefts
-validate-leaves g c = go (number product (call validate g) (c .store) (length (c .memory)))
-  where
-    go : (n : ℕ) → outcome product n (call validate g) c .copy ≡ c
-    go zero = refl
-    go (suc n) = refl
+-- ---- what the core is given
 
-validate-ended : (g : Arguments) (c : Copy) (n : ℕ) → n ≡ aesStep (call validate g) c .reply .number
-    → ended (c .store) (c .memory) (numberAlone n) [] ≡ aesStep (call validate g) c
-validate-ended g c n e = λ j. record { copy = sym (validate-leaves g c) j; reply = replies j }
-  where
-    replies : replyOf n zeroHandle zeroHandle 0 0 [] ≡ aesStep (call validate g) c .reply
-    replies = ap (λ (k : ℕ). replyOf k zeroHandle zeroHandle 0 0 []) e ∙ silent-known (call validate g) c (validate-silent g)
+pub given-of : (b m hb : List ℕ) (o : Opened) → Opens o b (length m) hb → not (o .sound) ≡ false
+    → Given true (o .handle) (o .cluster) (storeIn b) m hb
+given-of b m hb o w t =
+    record { sound = held-sound b m (o .sound) (w .sound) (w .whole) t; handle = w .handle; found = w .cluster }
 
-pub validate-told : (a : Arguments) (b m : List ℕ) (g : Bool) → g ≡ good b → not g ≡ false → (s : Store) → s ≡ storeIn b
-    → (g ≡ true → imageOf s ≡ b) → (n : ℕ) → n ≡ aesStep (call validate a) (copyOf s m) .reply .number
-    → answered n zeroHandle zeroHandle 0 0 [] b m ≡ performed (call validate a) b m
-validate-told a b m g eg t s es whole n e =
-    same-silent (call validate a) b m g eg t s es whole m (numberAlone n) [] (validate-ended a (copyOf s m) n e)
-    (validate-silent a)
+pub place-of : (b m : List ℕ) (l : Located) (node local : ℕ) → Locates l b (length m) node local → not (l .sound) ≡ false
+    → GivenPlace true (l .cluster) (storeIn b) m node local
+place-of b m l node local w t =
+    record { sound = held-sound b m (l .sound) (w .sound) (w .whole) t; found = w .cluster }
+
+-- ---- weakening sees no store
 
 pub weaken-always : (g : Arguments) (a : Answer)
     → ((s : Store) (m : List ℕ) → ended s m a [] ≡ aesStep (call weaken g) (copyOf s m))

@@ -1,5 +1,6 @@
 pub mod ReplyLaws
 pub mod ExportLaws
+pub mod MakeLaws
 pub mod ValidationLaws
 pub mod FitLaws
 pub mod RowLaws

@@ -4,9 +4,9 @@ use mathlib.Core.Path.{_≡_, refl, sym, ap}
 use mathlib.Core.List.{List}
 use Prim.Native.Nat.{ℕ, zero, suc}
 use lib.ListN.{length}
-use Rattle.handle.specs.Conversion.{conversion, product}
-use Rattle.front.specs.declared.Answer.{Answer}
-use Rattle.front.specs.Entries.{replied}
+use Rattle.handle.specs.Conversion.{product}
+use Rattle.calls.specs.declared.Answer.{Answer}
+use Rattle.calls.specs.Answers.{replied}
 use Rattle.calls.specs.Calls.{Copy, Call, Arguments, call, newCluster, deleteCluster, newSegment, deleteSegment}
 use Rattle.calls.specs.Calls.{Kind, read, write, weaken, reduce, newPassword, validate, buffer}
 use Rattle.calls.specs.Numbers.{number}

@@ -5,11 +5,11 @@ use mathlib.Core.Path.{_≡_, refl, sym, ap, _∙_}
 use mathlib.Core.Bool.{Bool, true, false}
 use mathlib.Core.List.{List, [], _∷_}
 use Prim.Native.Nat.{ℕ}
-use Rattle.handle.specs.Conversion.{conversion, product}
+use Rattle.handle.specs.Conversion.{product}
 use Rattle.store.specs.declared.Store.{Store}
 use Rattle.calls.specs.Calls.{Call, among}
 use Rattle.calls.specs.Steps.{Outcome, run, aesStep}
-use Rattle.front.specs.Entries.{copyOf}
+use Rattle.calls.specs.Answers.{copyOf}
 use Rattle.isolation.proofs.TwoCopies.{two-copies}
 use Rattle.image.specs.Images.{good, storeIn, imageOf}
 use Rattle.image.specs.Ranges.{StoreFits}

@@ -17,7 +17,7 @@ use mathlib.Core.List.{List, [], _∷_}
 use Rattle.store.specs.declared.Store.{Store}
 use Rattle.calls.specs.Calls.{Call, among, buffer}
 use Rattle.calls.specs.Steps.{Reply, Outcome, plain, aesStep}
-use Rattle.front.specs.Entries.{copyOf}
+use Rattle.calls.specs.Answers.{copyOf}
 use Rattle.image.specs.Images.{good, storeIn, imageOf}
 use Rattle.numbers.specs.Numbers.{unsoundNumber}
 

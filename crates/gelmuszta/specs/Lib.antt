@@ -2,3 +2,4 @@ pub mod Exported
 pub mod Validation
 pub mod Fits
 pub mod Rows
+pub mod Opened

@@ -23,7 +23,7 @@ use Rattle.handle.specs.Handles.{Name, Bytes}
 use Rattle.store.specs.Records.{tableAt}
 use Rattle.calls.specs.Calls.{Copy, Call, buffer}
 use Rattle.calls.specs.Steps.{Reply, Ran, plain, run}
-use Rattle.front.specs.Entries.{copyOf}
+use Rattle.calls.specs.Answers.{copyOf}
 use Rattle.isolation.specs.Copies.{SoundCopy, setApart, Alike, AllShut}
 use Rattle.isolation.specs.Statements.{Agreed}
 use Rattle.image.specs.Images.{imageBytes, good, storeIn, imageOf}

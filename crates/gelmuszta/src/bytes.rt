@@ -1,12 +1,13 @@
 // Calls 3, 5 and 6: they clear, read or write the bytes of a segment.
 use crate::keep;
-use front::UNSOUND;
+use crate::look_up;
+use handle::HandleBytes;
 use image::IMAGE;
+use numbers::UNSOUND;
 ghost use mathlib.Core.Path.{_≡_};
 ghost use mathlib.Core.List.{[]};
 ghost use Rattle.calls.specs.Calls as calls;
 ghost use Rattle.calls.specs.Steps.{zeroHandle};
-ghost use Rattle.front.specs.Entries.{asked};
 ghost use Rattle.gelmuszta.specs.Exported.{answered, performed};
 
 // Call 3: the segment is present at the smallest base at which it fits, and its bytes are zero.
@@ -17,20 +18,26 @@ pub extern "C" fn gelmuszta_new_segment(
     current: usize,
     segment: usize,
     size: usize,
-    handle: &[u8; 23],
+    handle: &HandleBytes,
 ) -> u8
     ensures { λ r. ⌜ answered r zeroHandle zeroHandle 0 0 [] (now (image .exit)) (now (memory .exit))
-        ≡ performed (calls.call calls.Kind.newSegment (asked current 0 0 segment size 0 (now (handle .entry)) [] [] [])) (now (image .entry)) (now (memory .entry)) ⌝ }
+        ≡ performed (calls.makingSegment current segment size (now (handle .entry))) (now (image .entry)) (now (memory .entry)) ⌝ }
 {
-    let opened = image::decode(image);
-    let good = opened.good;
-    if !good {
+    let h = *handle;
+    let o = look_up(image, memory.len(), h);
+    let sound = o.sound;
+    if !sound {
         return UNSOUND;
     }
-    let h = *handle;
-    let done = guard::new_segment(opened.store, memory, current, segment, size, h);
-    let answer = done.answer;
-    keep(done.store, answer.number, image);
+    let opened = o.handle;
+    let number = cluster::segment_refusal(true, opened, o.cluster, current, segment, size);
+    if number != 0 {
+        return number;
+    }
+    let found = image::new_base_in(image, opened.node(), size);
+    let left = cluster::new_segment(found, opened, o.cluster, memory, segment, size);
+    keep(left, o.at, image);
+    let answer = left.answer;
     answer.number
 }
 
@@ -40,21 +47,21 @@ pub extern "C" fn gelmuszta_read(
     image: &[u8; IMAGE],
     memory: &[u8],
     segment: usize,
-    handle: &[u8; 23],
+    handle: &HandleBytes,
     buffer: &mut [u8],
     length: &mut usize,
 ) -> u8
     ensures { λ r. ⌜ answered r zeroHandle zeroHandle 0 (now (length .exit)) (now (buffer .exit)) (now (image .entry)) (now (memory .entry))
-        ≡ performed (calls.call calls.Kind.read (asked 0 0 0 segment 0 0 (now (handle .entry)) [] [] (now (buffer .entry)))) (now (image .entry)) (now (memory .entry)) ⌝ }
+        ≡ performed (calls.reading segment (now (handle .entry)) (now (buffer .entry))) (now (image .entry)) (now (memory .entry)) ⌝ }
 {
-    let opened = image::decode(image);
-    let good = opened.good;
-    if !good {
+    let h = *handle;
+    let o = look_up(image, memory.len(), h);
+    let sound = o.sound;
+    if !sound {
         *length = 0;
         return UNSOUND;
     }
-    let h = *handle;
-    let answer = guard::read(opened.store, memory, buffer, segment, h);
+    let answer = cluster::read(true, o.handle, o.cluster, memory, buffer, segment);
     *length = answer.length;
     answer.number
 }
@@ -65,18 +72,18 @@ pub extern "C" fn gelmuszta_write(
     image: &[u8; IMAGE],
     memory: &mut [u8],
     segment: usize,
-    handle: &[u8; 23],
+    handle: &HandleBytes,
     written: &[u8],
 ) -> u8
     ensures { λ r. ⌜ answered r zeroHandle zeroHandle 0 0 (now (written .entry)) (now (image .entry)) (now (memory .exit))
-        ≡ performed (calls.call calls.Kind.write (asked 0 0 0 segment 0 0 (now (handle .entry)) [] [] (now (written .entry)))) (now (image .entry)) (now (memory .entry)) ⌝ }
+        ≡ performed (calls.writing segment (now (handle .entry)) (now (written .entry))) (now (image .entry)) (now (memory .entry)) ⌝ }
 {
-    let opened = image::decode(image);
-    let good = opened.good;
-    if !good {
+    let h = *handle;
+    let o = look_up(image, memory.len(), h);
+    let sound = o.sound;
+    if !sound {
         return UNSOUND;
     }
-    let h = *handle;
-    let answer = guard::write(opened.store, memory, segment, h, written);
+    let answer = cluster::write(true, o.handle, o.cluster, memory, segment, written);
     answer.number
 }

@@ -1,17 +1,20 @@
 // Conversion, weakening and reduction: new passwords and handles from old ones.
-use front::UNSOUND;
+use crate::look_up;
+use handle::HANDLE_BYTES;
+use handle::HandleBytes;
 use image::IMAGE;
+use numbers::UNSOUND;
+use sizes::Password;
 ghost use mathlib.Core.Path.{_≡_};
 ghost use mathlib.Core.List.{[]};
-ghost use Rattle.handle.specs.Conversion.{conversion, product};
+ghost use Rattle.handle.specs.Conversion.{conversion};
 ghost use Rattle.calls.specs.Calls as calls;
 ghost use Rattle.calls.specs.Steps.{zeroHandle};
-ghost use Rattle.front.specs.Entries.{asked};
 ghost use Rattle.gelmuszta.specs.Exported.{replyOf, answered, performed, Always};
 
 // The password that a parameter turns a password into.
 #[no_mangle]
-pub extern "C" fn gelmuszta_convert(password: &[u8; 16], parameter: u8, converted: &mut [u8; 16])
+pub extern "C" fn gelmuszta_convert(password: &Password, parameter: u8, converted: &mut Password)
     ensures { λ _. ⌜ now (converted .exit) ≡ conversion (now (password .entry)) parameter ⌝ }
 {
     let p = *password;
@@ -23,16 +26,16 @@ pub extern "C" fn gelmuszta_convert(password: &[u8; 16], parameter: u8, converte
 // Call 7: the handle weakened by a mask, and how many segments it references. It sees no store.
 #[no_mangle]
 pub extern "C" fn gelmuszta_weaken(
-    handle: &[u8; 23],
+    handle: &HandleBytes,
     mask: u8,
-    given: &mut [u8; 23],
+    given: &mut HandleBytes,
     count: &mut u8,
 ) -> u8
-    ensures { λ r. ⌜ Always (calls.call calls.Kind.weaken (asked 0 0 0 0 0 mask (now (handle .entry)) [] [] []))
+    ensures { λ r. ⌜ Always (calls.weakeningBy mask (now (handle .entry)))
         (replyOf r (now (given .exit)) zeroHandle (now (count .exit)) 0 []) ⌝ }
 {
     let h = *handle;
-    let answer = guard::weaken(h, mask);
+    let answer = cluster::weaken(h, mask);
     let g = answer.first;
     *given = g;
     *count = answer.count;
@@ -44,21 +47,21 @@ pub extern "C" fn gelmuszta_weaken(
 pub extern "C" fn gelmuszta_reduce(
     image: &[u8; IMAGE],
     memory: &[u8],
-    mode: u8,
-    handle: &[u8; 23],
-    given: &mut [u8; 23],
+    mode: usize,
+    handle: &HandleBytes,
+    given: &mut HandleBytes,
 ) -> u8
     ensures { λ r. ⌜ answered r (now (given .exit)) zeroHandle 0 0 [] (now (image .entry)) (now (memory .entry))
-        ≡ performed (calls.call calls.Kind.reduce (asked 0 0 mode 0 0 0 (now (handle .entry)) [] [] [])) (now (image .entry)) (now (memory .entry)) ⌝ }
+        ≡ performed (calls.reducing mode (now (handle .entry))) (now (image .entry)) (now (memory .entry)) ⌝ }
 {
-    let opened = image::decode(image);
-    let good = opened.good;
-    if !good {
-        *given = [0; 23];
+    let h = *handle;
+    let o = look_up(image, memory.len(), h);
+    let sound = o.sound;
+    if !sound {
+        *given = [0; HANDLE_BYTES];
         return UNSOUND;
     }
-    let h = *handle;
-    let answer = guard::reduce(opened.store, memory, mode, h);
+    let answer = cluster::reduce(true, o.handle, o.cluster, mode);
     let g = answer.first;
     *given = g;
     answer.number

@@ -1,10 +1,13 @@
 // The guard for callers in C or Rust: the calls of document 01 over bytes alone. The store is its image of 2,080 bytes, the
 // memory a lent slice; a handle is 23 bytes, a password sixteen. Each function returns the number of the table, and gives
-// zero handles, counts and lengths with a refusal. An image that holds no store is refused with 1.
+// zero handles, counts and lengths with a refusal. An image that holds no store is refused with 1. A call judges soundness
+// on the image's bytes, reads the record of its cluster, has the core (`cluster`) do the call on it, and writes it back.
+use calls::RecordLeft;
+use handle::Handle;
+use handle::HandleBytes;
 use image::IMAGE;
-use store::Store;
-ghost use mathlib.Core.Path.{_≡_};
-ghost use Rattle.gelmuszta.specs.Exported.{kept};
+use store::Cluster;
+ghost use Rattle.gelmuszta.specs.Opened as opened;
 
 mod bytes; // bytes.rt: calls 3, 5 and 6, which use the memory's bytes
 mod handles; // handles.rt: conversion, calls 7 and 8
@@ -27,12 +30,52 @@ pub use stores::gelmuszta_start;
 pub use validation::gelmuszta_validate;
 pub use validation::gelmuszta_validate_all;
 
-// Writes the image of the store that a call done leaves; a refusal writes nothing.
-fn keep(store: Store, number: u8, image: &mut [u8; IMAGE])
-    ensures { λ _. ⌜ now (image .exit) ≡ kept number store (now (image .entry)) ⌝ }
+// What a call finds in an image: the number and the record of its cluster, the first where there is no such place; whether
+// the image holds a sound store.
+struct Located {
+    at: usize,
+    cluster: Cluster,
+    sound: bool,
+}
+
+fn locate(image: &[u8; IMAGE], size: usize, node: usize, local: usize) -> Located
+    ensures { λ r. ⌜ opened.Locates r (now (image .entry)) size node local ⌝ }
 {
-    if number != 0 {
+    let at = store::record_at(node, local);
+    let cluster = image::record_in(image, node, local);
+    let sound = image::sound_in(image, size);
+    Located { at, cluster, sound }
+}
+
+// The same for the cluster that a handle names, and the handle.
+struct Opened {
+    handle: Handle,
+    at: usize,
+    cluster: Cluster,
+    sound: bool,
+}
+
+fn look_up(image: &[u8; IMAGE], size: usize, bytes: HandleBytes) -> Opened
+    ensures { λ r. ⌜ opened.Opens r (now (image .entry)) size bytes ⌝ }
+{
+    let handle = Handle::decode(bytes);
+    let l = locate(image, size, handle.node(), handle.local as usize);
+    let cluster = l.cluster;
+    Opened {
+        handle,
+        at: l.at,
+        cluster,
+        sound: l.sound,
+    }
+}
+
+// Writes the record that a call done leaves; a refusal writes nothing.
+fn keep(left: RecordLeft, at: usize, image: &mut [u8; IMAGE])
+    ensures { λ _. ⌜ opened.Kept left at (now (image .entry)) (now (image .exit)) ⌝ }
+{
+    let answer = left.answer;
+    if answer.number != 0 {
         return;
     }
-    image::encode(store, image);
+    image::put_record_in(left.cluster, at, image);
 }

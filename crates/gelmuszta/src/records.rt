@@ -1,12 +1,16 @@
 // Calls 1, 2, 4 and 9: they change the record of a cluster and no byte of the memory.
 use crate::keep;
-use front::UNSOUND;
+use crate::locate;
+use crate::look_up;
+use handle::HANDLE_BYTES;
+use handle::HandleBytes;
 use image::IMAGE;
+use numbers::UNSOUND;
+use sizes::Password;
 ghost use mathlib.Core.Path.{_≡_};
 ghost use mathlib.Core.List.{[]};
 ghost use Rattle.calls.specs.Calls as calls;
 ghost use Rattle.calls.specs.Steps.{zeroHandle};
-ghost use Rattle.front.specs.Entries.{asked};
 ghost use Rattle.gelmuszta.specs.Exported.{answered, performed};
 
 // Call 1: a cluster of the current node becomes active; its read and its write primary handle.
@@ -16,26 +20,26 @@ pub extern "C" fn gelmuszta_new_cluster(
     memory: &[u8],
     current: usize,
     local: usize,
-    read: &[u8; 16],
-    write: &[u8; 16],
-    first: &mut [u8; 23],
-    second: &mut [u8; 23],
+    read: &Password,
+    write: &Password,
+    first: &mut HandleBytes,
+    second: &mut HandleBytes,
 ) -> u8
     ensures { λ r. ⌜ answered r (now (first .exit)) (now (second .exit)) 0 0 [] (now (image .exit)) (now (memory .entry))
-        ≡ performed (calls.call calls.Kind.newCluster (asked current local 0 0 0 0 [] (now (read .entry)) (now (write .entry)) [])) (now (image .entry)) (now (memory .entry)) ⌝ }
+        ≡ performed (calls.makingCluster current local (now (read .entry)) (now (write .entry))) (now (image .entry)) (now (memory .entry)) ⌝ }
 {
-    let opened = image::decode(image);
-    let good = opened.good;
-    if !good {
-        *first = [0; 23];
-        *second = [0; 23];
+    let l = locate(image, memory.len(), current, local);
+    let sound = l.sound;
+    if !sound {
+        *first = [0; HANDLE_BYTES];
+        *second = [0; HANDLE_BYTES];
         return UNSOUND;
     }
     let r = *read;
     let w = *write;
-    let done = guard::new_cluster(opened.store, memory, current, local, r, w);
-    let answer = done.answer;
-    keep(done.store, answer.number, image);
+    let left = cluster::new_cluster(true, l.cluster, current, local, r, w);
+    keep(left, l.at, image);
+    let answer = left.answer;
     let a = answer.first;
     let b = answer.second;
     *first = a;
@@ -49,20 +53,20 @@ pub extern "C" fn gelmuszta_delete_cluster(
     image: &mut [u8; IMAGE],
     memory: &[u8],
     current: usize,
-    handle: &[u8; 23],
+    handle: &HandleBytes,
 ) -> u8
     ensures { λ r. ⌜ answered r zeroHandle zeroHandle 0 0 [] (now (image .exit)) (now (memory .entry))
-        ≡ performed (calls.call calls.Kind.deleteCluster (asked current 0 0 0 0 0 (now (handle .entry)) [] [] [])) (now (image .entry)) (now (memory .entry)) ⌝ }
+        ≡ performed (calls.deletingCluster current (now (handle .entry))) (now (image .entry)) (now (memory .entry)) ⌝ }
 {
-    let opened = image::decode(image);
-    let good = opened.good;
-    if !good {
+    let h = *handle;
+    let o = look_up(image, memory.len(), h);
+    let sound = o.sound;
+    if !sound {
         return UNSOUND;
     }
-    let h = *handle;
-    let done = guard::delete_cluster(opened.store, memory, current, h);
-    let answer = done.answer;
-    keep(done.store, answer.number, image);
+    let left = cluster::delete_cluster(true, o.handle, o.cluster, current);
+    keep(left, o.at, image);
+    let answer = left.answer;
     answer.number
 }
 
@@ -73,20 +77,20 @@ pub extern "C" fn gelmuszta_delete_segment(
     memory: &[u8],
     current: usize,
     segment: usize,
-    handle: &[u8; 23],
+    handle: &HandleBytes,
 ) -> u8
     ensures { λ r. ⌜ answered r zeroHandle zeroHandle 0 0 [] (now (image .exit)) (now (memory .entry))
-        ≡ performed (calls.call calls.Kind.deleteSegment (asked current 0 0 segment 0 0 (now (handle .entry)) [] [] [])) (now (image .entry)) (now (memory .entry)) ⌝ }
+        ≡ performed (calls.deletingSegment current segment (now (handle .entry))) (now (image .entry)) (now (memory .entry)) ⌝ }
 {
-    let opened = image::decode(image);
-    let good = opened.good;
-    if !good {
+    let h = *handle;
+    let o = look_up(image, memory.len(), h);
+    let sound = o.sound;
+    if !sound {
         return UNSOUND;
     }
-    let h = *handle;
-    let done = guard::delete_segment(opened.store, memory, current, segment, h);
-    let answer = done.answer;
-    keep(done.store, answer.number, image);
+    let left = cluster::delete_segment(true, o.handle, o.cluster, current, segment);
+    keep(left, o.at, image);
+    let answer = left.answer;
     answer.number
 }
 
@@ -95,25 +99,25 @@ pub extern "C" fn gelmuszta_delete_segment(
 pub extern "C" fn gelmuszta_new_password(
     image: &mut [u8; IMAGE],
     memory: &[u8],
-    mode: u8,
-    handle: &[u8; 23],
-    password: &[u8; 16],
-    given: &mut [u8; 23],
+    mode: usize,
+    handle: &HandleBytes,
+    password: &Password,
+    given: &mut HandleBytes,
 ) -> u8
     ensures { λ r. ⌜ answered r (now (given .exit)) zeroHandle 0 0 [] (now (image .exit)) (now (memory .entry))
-        ≡ performed (calls.call calls.Kind.newPassword (asked 0 0 mode 0 0 0 (now (handle .entry)) (now (password .entry)) [] [])) (now (image .entry)) (now (memory .entry)) ⌝ }
+        ≡ performed (calls.renewing mode (now (handle .entry)) (now (password .entry))) (now (image .entry)) (now (memory .entry)) ⌝ }
 {
-    let opened = image::decode(image);
-    let good = opened.good;
-    if !good {
-        *given = [0; 23];
+    let h = *handle;
+    let o = look_up(image, memory.len(), h);
+    let sound = o.sound;
+    if !sound {
+        *given = [0; HANDLE_BYTES];
         return UNSOUND;
     }
-    let h = *handle;
     let p = *password;
-    let done = guard::new_password(opened.store, memory, mode, h, p);
-    let answer = done.answer;
-    keep(done.store, answer.number, image);
+    let left = cluster::new_password(true, o.handle, o.cluster, mode, p);
+    keep(left, o.at, image);
+    let answer = left.answer;
     let g = answer.first;
     *given = g;
     answer.number

@@ -20,6 +20,5 @@ pub extern "C" fn gelmuszta_start(image: &mut [u8; IMAGE])
 pub extern "C" fn gelmuszta_sound(image: &[u8; IMAGE], size: usize) -> bool
     ensures { λ r. ⌜ r ≡ (good (now (image .entry)) && soundness.sound (storeIn (now (image .entry))) size) ⌝ }
 {
-    let opened = image::decode(image);
-    opened.good & store::sound(opened.store, size)
+    image::sound_in(image, size)
 }

@@ -1,46 +1,36 @@
-// Validation of one handle, and of many against one store: it is decoded and judged sound, and the cipher's tables are
-// taken, once.
+// Validation of one handle, and of many against one store: it is judged sound, and the cipher's tables are taken, once.
+use crate::look_up;
 use aes::Tables;
-use front::UNSOUND;
-use front::bad_mode;
-use front::front;
-use front::record_at;
+use handle::HANDLE_BYTES;
 use handle::Handle;
+use handle::HandleBytes;
 use image::IMAGE;
-use store::Store;
 ghost use mathlib.Core.Path.{_≡_};
 ghost use mathlib.Core.List.{[]};
 ghost use Prim.Native.Nat.{_*_, _≤_};
 ghost use lib.ListN.{length};
 ghost use Rattle.aes.specs.Tables.{IsTables};
-ghost use Rattle.loops.specs.Tabulate.{tabulate};
 ghost use Rattle.handle.specs.Sizes.{handleBytes};
+ghost use Rattle.calls.specs.Calls as calls;
 ghost use Rattle.calls.specs.Steps.{zeroHandle};
-ghost use Rattle.image.specs.Parts.{slot};
 ghost use Rattle.gelmuszta.specs.Exported.{answered, performed};
 ghost use Rattle.gelmuszta.specs.Validation as spec;
-
-// Bytes of a handle.
-const HANDLE: usize = 23;
 
 // Validation asked for by itself: the number that reduction would give.
 #[no_mangle]
 pub extern "C" fn gelmuszta_validate(
     image: &[u8; IMAGE],
     memory: &[u8],
-    mode: u8,
-    handle: &[u8; 23],
+    mode: usize,
+    handle: &HandleBytes,
 ) -> u8
     ensures { λ r. ⌜ answered r zeroHandle zeroHandle 0 0 [] (now (image .entry)) (now (memory .entry))
-        ≡ performed (spec.validating mode (now (handle .entry))) (now (image .entry)) (now (memory .entry)) ⌝ }
+        ≡ performed (calls.validating mode (now (handle .entry))) (now (image .entry)) (now (memory .entry)) ⌝ }
 {
-    let opened = image::decode(image);
-    let good = opened.good;
-    if !good {
-        return UNSOUND;
-    }
+    let tables = aes::tables();
     let h = *handle;
-    guard::validate(opened.store, memory, mode, h)
+    let o = look_up(image, memory.len(), h);
+    cluster::validate(&tables, o.sound, o.handle, o.cluster, mode)
 }
 
 fn fewer(a: usize, b: usize) -> usize
@@ -52,33 +42,26 @@ fn fewer(a: usize, b: usize) -> usize
     b
 }
 
-// A handle's bytes, by value.
-fn handle_in(b: &[u8]) -> [u8; 23]
-    requires { ⌜ length (now b) ≡ handleBytes ⌝ }
-    ensures { λ r. ⌜ r ≡ now (b .entry) ⌝ }
-{
-    let mut r = [0u8; 23];
-    for i in 0..HANDLE {
-        r[i] = b[i];
-    }
-    r
-}
-
 // Judges as many handles as there are places for numbers.
-fn judge(tables: &Tables, sound: bool, store: Store, mode: u8, handles: &[u8], numbers: &mut [u8])
+fn judge(
+    tables: &Tables,
+    sound: bool,
+    image: &[u8; IMAGE],
+    mode: usize,
+    handles: &[u8],
+    numbers: &mut [u8],
+)
     requires tables { ⌜ IsTables (now tables) ⌝ }
     requires enough { ⌜ length (now numbers) * handleBytes ≤ length (now handles) ⌝ }
-    ensures { λ _. ⌜ now (numbers .exit) ≡ tabulate (length (now (numbers .entry))) (λ i. spec.judged sound store mode (slot handleBytes (now (handles .entry)) i)) ⌝ }
+    ensures { λ _. ⌜ spec.Judged sound (now (image .entry)) mode (now (handles .entry)) (now (numbers .entry)) (now (numbers .exit)) ⌝ }
 {
     let mut i: usize = 0;
     while i < numbers.len() {
-        let from = i * HANDLE;
-        let to = from + HANDLE;
-        let handle = Handle::decode(handle_in(&handles[from..to]));
-        let at = record_at(handle.node, handle.local);
-        let cluster = store.clusters[at];
-        let field = bad_mode(mode);
-        numbers[i] = front(tables, sound, handle, cluster, false, field, false, mode);
+        let from = i * HANDLE_BYTES;
+        let to = from + HANDLE_BYTES;
+        let handle = Handle::decode(handle::bytes_in(&handles[from..to]));
+        let cluster = image::record_in(image, handle.node(), handle.local as usize);
+        numbers[i] = cluster::validate(tables, sound, handle, cluster, mode);
         i += 1;
     }
 }
@@ -89,7 +72,7 @@ fn judge(tables: &Tables, sound: bool, store: Store, mode: u8, handles: &[u8], n
 pub extern "C" fn gelmuszta_validate_all(
     image: &[u8; IMAGE],
     memory: &[u8],
-    mode: u8,
+    mode: usize,
     handles: &[u8],
     numbers: &mut [u8],
 ) -> usize
@@ -97,16 +80,8 @@ pub extern "C" fn gelmuszta_validate_all(
     ensures numbers { λ _. ⌜ now (numbers .exit) ≡ spec.numbersOf (now (image .entry)) (now (memory .entry)) mode (now (handles .entry)) (now (numbers .entry)) ⌝ }
 {
     let tables = aes::tables();
-    let opened = image::decode(image);
-    let sound = opened.good & store::sound(opened.store, memory.len());
-    let count = fewer(handles.len() / HANDLE, numbers.len());
-    judge(
-        &tables,
-        sound,
-        opened.store,
-        mode,
-        handles,
-        &mut numbers[0..count],
-    );
+    let sound = image::sound_in(image, memory.len());
+    let count = fewer(handles.len() / HANDLE_BYTES, numbers.len());
+    judge(&tables, sound, image, mode, handles, &mut numbers[0..count]);
     count
 }

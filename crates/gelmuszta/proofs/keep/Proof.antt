@@ -1,4 +1,4 @@
--- Only a call done is written.
+-- A refusal writes nothing; a call done its record.
 -- Assumes nothing.
 use Rattle.gelmuszta.proofs.ExportLaws.{kept-refused, kept-done}
 use borrow.Author.Needs.{needs}
@@ -12,4 +12,9 @@ returns-2 : tie.Need-returns-2
 returns-2 c = search (needs, kept-done)
 
 pub keep-spec : {M : Type 1} → statement M
-keep-spec = tie.close (tie.spec returns (λ c κs. search needs) returns-2)
+keep-spec =
+    tie.close
+    (tie.spec
+    returns
+    (λ c κs. search needs)
+    returns-2)

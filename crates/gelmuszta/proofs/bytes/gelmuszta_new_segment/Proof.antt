@@ -1,18 +1,42 @@
--- A damaged image, or the step with its number alone.
+-- An image that holds no sound store; a refusal but 16; or the rest of the core on what is found, and the record put back.
 -- Assumes nothing.
-use Rattle.gelmuszta.proofs.ReplyLaws.{new-segment-silent}
-use Rattle.gelmuszta.proofs.ExportLaws.{refused-damaged, kept-silent}
+use mathlib.Core.Path.{refl}
+use Rattle.gelmuszta.proofs.ExportLaws.{refused-unsound}
+use Rattle.gelmuszta.proofs.MakeLaws.{new-segment-refused, new-segment-kept}
 use borrow.Author.Needs.{needs}
 use Rattle.gelmuszta.proofs.bytes.gelmuszta_new_segment.Statement.{statement}
 use Rattle.gelmuszta.proofs.bytes.gelmuszta_new_segment.Tie as tie
 
 returns : tie.Need-returns
-returns c = search (needs, refused-damaged)
+returns c =
+    let o = c .before .look-up .ensures in
+    refused-unsound _ _ _ (o .sound) (o .whole) _ refl _ refl (c .if1 .taken)
 
 returns-2 : tie.Need-returns-2
-returns-2 c = search (needs, kept-silent, new-segment-silent)
+returns-2 c =
+    let o = c .before .before .before .before .look-up .ensures in
+    new-segment-refused _ _ _ _ _ _ _ o (c .before .before .before .if1 .left) _ (c .before .segment-refusal .ensures)
+    (c .if2 .taken)
+
+returns-3 : tie.Need-returns-3
+returns-3 c =
+    let o = c .before .before .before .before .before .before .before .before .before .before .before .before .before .before .look-up .ensures in
+    let based = c .before .before .before .before .before .before .before in
+    new-segment-kept _ _ _ _ _ _ _ o (c .before .before .before .before .before .before .before .before .before .before .before .before .before .if1 .left) _ (c .before .before .before .before .before .before .before .before .before .before .before .segment-refusal .ensures)
+    (c .before .before .before .before .before .before .before .before .before .before .if2 .left) _ (c .before .before .before .before .before .before .before .before .node .ensures) (based .new-base-in .result) (based .new-base-in .ensures) _ _
+    (c .before .before .before .before .before .new-segment .ensures) _ (c .before .keep .ensures)
 
 pub gelmuszta-new-segment-spec : {M : Type 1} → statement M
 gelmuszta-new-segment-spec =
     tie.close
-    (tie.spec (λ c κs. search needs) returns (λ c κs. search needs) (λ c κs. search needs) (λ c. search needs) returns-2)
+    (tie.spec
+    (λ c κs. search needs)
+    returns
+    (λ c κs. search needs)
+    returns-2
+    (λ c κs. search needs)
+    (λ c κs. search needs)
+    (λ c κs. search needs)
+    (λ c κs. search needs)
+    (λ c. search needs)
+    returns-3)

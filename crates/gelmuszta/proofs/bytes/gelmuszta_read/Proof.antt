@@ -1,17 +1,30 @@
--- A damaged image, or the step with the length.
+-- An image that holds no sound store, or the core on what it holds.
 -- Assumes nothing.
+use mathlib.Core.Path.{refl}
 use Rattle.gelmuszta.proofs.ReplyLaws.{read-length}
-use Rattle.gelmuszta.proofs.ExportLaws.{refused-damaged, same-told}
+use Rattle.gelmuszta.proofs.ExportLaws.{refused-unsound, given-of, same-told}
 use borrow.Author.Needs.{needs}
 use Rattle.gelmuszta.proofs.bytes.gelmuszta_read.Statement.{statement}
 use Rattle.gelmuszta.proofs.bytes.gelmuszta_read.Tie as tie
 
 returns : tie.Need-returns
-returns c = search (needs, refused-damaged)
+returns c =
+    let o = c .before .look-up .ensures in
+    refused-unsound _ _ _ (o .sound) (o .whole) _ refl _ refl (c .if1 .taken)
 
 returns-2 : tie.Need-returns-2
-returns-2 c = search (needs, same-told, read-length)
+returns-2 c =
+    let o = c .before .before .before .before .before .look-up .ensures in
+    let held = c .before .before .before .before .if1 .left in
+    let done = c .before .before .read .ensures _ _ (given-of _ _ _ _ o held) in
+    same-told _ _ _ (o .sound) (o .whole) held _ _ _ _ done (read-length _)
 
 pub gelmuszta-read-spec : {M : Type 1} → statement M
 gelmuszta-read-spec =
-    tie.close (tie.spec (λ c κs. search needs) returns (λ c κs. search needs) (λ c. search needs) returns-2)
+    tie.close
+    (tie.spec
+    (λ c κs. search needs)
+    returns
+    (λ c κs. search needs)
+    (λ c. search needs)
+    returns-2)

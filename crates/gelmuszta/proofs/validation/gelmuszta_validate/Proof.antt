@@ -1,15 +1,18 @@
--- A damaged image, or the step with its number alone.
+-- The core on what the image holds, which refuses with 1 where it holds no sound store.
 -- Assumes nothing.
-use Rattle.gelmuszta.proofs.ExportLaws.{refused-damaged, validate-told}
+use Rattle.gelmuszta.proofs.ValidationLaws.{validate-told}
 use borrow.Author.Needs.{needs}
 use Rattle.gelmuszta.proofs.validation.gelmuszta_validate.Statement.{statement}
 use Rattle.gelmuszta.proofs.validation.gelmuszta_validate.Tie as tie
 
 returns : tie.Need-returns
-returns c = search (needs, refused-damaged)
-
-returns-2 : tie.Need-returns-2
-returns-2 c = search (needs, validate-told)
+returns c = validate-told _ _ _ _ _ (c .before .before .look-up .ensures) _ (c .validate .ensures)
 
 pub gelmuszta-validate-spec : {M : Type 1} → statement M
-gelmuszta-validate-spec = tie.close (tie.spec (λ c κs. search needs) returns (λ c κs. search needs) returns-2)
+gelmuszta-validate-spec =
+    tie.close
+    (tie.spec
+    (λ c κs. search needs)
+    (λ c κs. search needs)
+    (λ c κs. search needs)
+    returns)

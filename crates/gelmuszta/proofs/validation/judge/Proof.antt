@@ -1,30 +1,26 @@
--- Before turn i the first i numbers are those of the handles.
+-- Before turn i the first i numbers are those of the handles, for every memory that is judged so.
 -- Assumes nothing.
 use Prim.Native.Nat.{_-_}
 use lib.ListN.{length}
-use Rattle.handle.specs.Sizes.{handleBytes}
-use Rattle.loops.proofs.TabulateLaws.{Filled, filled-none}
-use Rattle.image.specs.Parts.{slot}
-use Rattle.gelmuszta.specs.Validation.{judged}
-use Rattle.gelmuszta.proofs.ValidationLaws.{places-more, places-all, judged-is}
+use Rattle.gelmuszta.proofs.ValidationLaws.{Judging, judging-none, judging-more, judging-all}
 use borrow.Author.Needs.{needs}
 use Rattle.gelmuszta.proofs.validation.judge.Statement.{statement}
 use Rattle.gelmuszta.proofs.validation.judge.Tie as tie
 
 abbrev Inv-loop : tie.InvT-loop
-Inv-loop tables sound mode handles numbers₀ store i₀ numbers i = Filled (length numbers₀) (λ k. judged sound store mode (slot handleBytes handles k)) 0 i numbers
+Inv-loop tables sound image mode handles numbers₀ i₀ numbers i = Judging sound image mode handles numbers₀ numbers i
 
 abbrev μ-loop : tie.MeasureT-loop
-μ-loop tables sound mode handles numbers₀ store i₀ numbers i = length numbers₀ - i
+μ-loop tables sound image mode handles numbers₀ i₀ numbers i = length numbers₀ - i
 
 loop-holds : tie.Need-loop-holds Inv-loop μ-loop
-loop-holds c = search (needs, filled-none)
+loop-holds c = search (needs, judging-none)
 
 loop-again : tie.Need-loop-again Inv-loop μ-loop
-loop-again c = search (needs, places-more, judged-is)
+loop-again c = search (needs, judging-more)
 
 returns : tie.Need-returns Inv-loop μ-loop
-returns c = search (needs, places-all)
+returns c = search (needs, judging-all)
 
 pub judge-spec : {M : Type 1} → statement M
 judge-spec =
@@ -41,7 +37,6 @@ judge-spec =
     (λ c κs. search needs)
     (λ c κs. search needs)
     (λ c κs. search needs)
-    (λ c. search needs)
     (λ c. search needs)
     (λ c κs. search needs)
     (λ c κs. search needs)
