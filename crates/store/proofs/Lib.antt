@@ -7,3 +7,5 @@ pub mod SoundLaws
 pub mod ClaimLaws
 pub mod ChangeLaws
 pub mod ExampleLaws
+pub mod SoundWordLaws
+pub mod SoundCaseLaws
