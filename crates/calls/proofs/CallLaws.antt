@@ -13,10 +13,10 @@ use Rattle.handle.specs.declared.Handle.{Handle}
 use Rattle.handle.specs.Selectors.{gapped}
 use Rattle.handle.specs.Handles.{Name, nodeOf, widthOf, noSuchPlace}
 use Rattle.store.specs.declared.Store.{Store}
-use Rattle.store.specs.Records.{Tables, recordOf}
+use Rattle.store.specs.Records.{Tables, recordOf, readMode, writeMode}
 use Rattle.calls.specs.Calls.{Call, call, Arguments, Kind, newCluster, deleteCluster, newSegment, deleteSegment}
 use Rattle.calls.specs.Calls.{read, write, weaken, reduce, newPassword, validate, among, opens, uses}
-use Rattle.calls.specs.Calls.{readMode, writeMode, needed, handleOf, presented, anyOf, nodeFor, localFor}
+use Rattle.calls.specs.Calls.{needed, handleOf, presented, anyOf, nodeFor, localFor}
 use Rattle.calls.specs.Calls.{recordFor}
 use Rattle.calls.specs.Calls.{recordNamed}
 use Rattle.calls.specs.Numbers.{noPlace, badMode, badSegment, badSize, badField, gappedHandle, inactiveCluster}

@@ -9,7 +9,6 @@
 --     among cs k              the code of k is one of cs
 --     opens                   the kinds that open a cluster by a handle
 --     Uses, uses              which arguments a kind looks at; no other argument counts
---     readMode, writeMode     the two modes
 --     needed                  the mode that the handle must validate in: the one named, else read for call 5, write for
 --                             the others
 --     handleOf, presented     the handle that the bytes hold; the handles that a call presents
@@ -18,25 +17,20 @@
 --                             else by its handle
 --     recordFor, recordNamed  its record's number; that of the cluster that a handle names
 --     placeFor                the place of the segment that a call is about
---     baseOf, lengthOf        of a place; zero where it is absent
---     address                 where byte k of a node's memory stands in the slice: node 0 first
 --     startFor                where the segment that a call is about begins in the slice
---     primaryOf c m           the primary password of a cluster for the mode m
 --     anyOf                   some handle of a list passes
 -- Assumes nothing.
-use Prim.Native.Nat.{ℕ, _+_, _*_}
+use Prim.Native.Nat.{ℕ}
 use mathlib.Core.Bool.{Bool, true, false, _||_}
 use mathlib.Core.List.{List, [], _∷_}
 use lib.Dec.{eqb}
 use lib.ListN.{replicate}
-use Rattle.sizes.specs.Sizes.{nodeMemory, memory}
+use Rattle.sizes.specs.Sizes.{memory}
 use Rattle.handle.specs.declared.Handle.{Handle}
 use Rattle.handle.specs.Handles.{nodeOf, decoded}
 use Rattle.store.specs.declared.Place.{Place}
-use Rattle.store.specs.declared.Place.the-variants.{Absent, Present}
-use Rattle.store.specs.declared.Cluster.{Cluster}
 use Rattle.store.specs.declared.Store.{Store}
-use Rattle.store.specs.Records.{Tables, startingStore, recordOf, placeAt}
+use Rattle.store.specs.Records.{Tables, startingStore, recordOf, placeAt, baseOf, address, readMode, writeMode}
 
 pub record Copy : Type 0 where
   pub store : Store
@@ -137,12 +131,6 @@ uses reduce = row o o x o o o x o o o
 uses newPassword = row o o x o o o x x o o
 uses validate = row o o x o o o x o o o
 
-abbrev pub readMode : ℕ
-readMode = 1
-
-abbrev pub writeMode : ℕ
-writeMode = 2
-
 abbrev pub needed : Call → ℕ
 needed x =
     elim (uses (x .kind) .mode) [
@@ -180,19 +168,5 @@ recordNamed h = recordOf (nodeOf h) (h .local)
 abbrev pub placeFor : Call → Tables → Place
 placeFor x ts = placeAt ts (recordFor x) (x .args .segment)
 
-abbrev pub baseOf : Place → ℕ
-baseOf Absent = 0
-baseOf (Present base length) = base
-
-abbrev pub lengthOf : Place → ℕ
-lengthOf Absent = 0
-lengthOf (Present base length) = length
-
-abbrev pub address : ℕ → ℕ → ℕ
-address node k = node * nodeMemory + k
-
 abbrev pub startFor : Call → Tables → ℕ
 startFor x ts = address (nodeFor x) (baseOf (placeFor x ts))
-
-abbrev pub primaryOf : Cluster → ℕ → List ℕ
-primaryOf c mode = elim (eqb mode readMode) [ true ↦ c .read | false ↦ c .write ]

@@ -35,12 +35,12 @@ use Rattle.handle.specs.Selectors.{references, allFlat, gapped, spent}
 use Rattle.handle.specs.Handles.{Name, nameOf, widthOf, samePassword, noSuchPlace, Row, firstOf, validates}
 use Rattle.store.specs.declared.Cluster.{Cluster}
 use Rattle.store.specs.declared.Store.{Store}
-use Rattle.store.specs.Records.{Tables, clusterAt, tableAt}
+use Rattle.store.specs.Records.{Tables, clusterAt, tableAt, readMode, writeMode, lengthOf, primaryOf}
 use Rattle.store.specs.Sound.{isAbsent, sound}
 use Rattle.store.specs.Placement.{noRoomNumber, placement}
-use Rattle.calls.specs.Calls.{Call, among, opens, uses, readMode, writeMode, needed}
+use Rattle.calls.specs.Calls.{Call, among, opens, uses, needed}
 use Rattle.calls.specs.Calls.{handleOf, presented, anyOf, buffer, nodeFor, recordFor, recordNamed}
-use Rattle.calls.specs.Calls.{placeFor, lengthOf, primaryOf}
+use Rattle.calls.specs.Calls.{placeFor}
 
 -- ---- tests of the call alone
 

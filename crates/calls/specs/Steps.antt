@@ -11,7 +11,6 @@
 --     putCluster          the copy with one record replaced
 --     putBytes            the copy with some bytes of its memory overwritten
 --     about               the record of the cluster that a call is about
---     withPassword        the record with the primary password of a mode replaced
 --     newBaseFor, newPlace, newStart    the base, the place and the start in the slice of the segment that call 3 makes
 -- What each call leaves, and the copy as it was for the others:
 --     clusterMade         1: the cluster is active, with the two passwords
@@ -35,9 +34,7 @@
 --     aesStep             the step by the AES conversion, which takes in no name
 -- Assumes nothing.
 use Prim.Native.Nat.{ℕ, zero, suc, _+_}
-use mathlib.Core.Bool.{true, false}
 use mathlib.Core.List.{List, [], _∷_, _++_}
-use lib.Dec.{eqb}
 use lib.ListN.{length, take, drop, replicate}
 use Rattle.sizes.specs.Sizes.{segments}
 use Rattle.handle.specs.declared.Handle.{Handle}
@@ -49,12 +46,13 @@ use Rattle.handle.specs.Opens.{primaryHandle}
 use Rattle.store.specs.declared.Place.{Place}
 use Rattle.store.specs.declared.Place.the-variants.{Absent, Present}
 use Rattle.store.specs.declared.Cluster.{Cluster}
-use Rattle.store.specs.Records.{Tables, inactive, started, clusterAt, tableAt, putRecord, withPlace}
+use Rattle.store.specs.Records.{Tables, inactive, started, clusterAt, tableAt, putRecord, withPlace, withPassword}
 use Rattle.store.specs.Placement.{placement}
 use Rattle.calls.specs.Calls.{Copy, Call, Kind, newCluster, deleteCluster, newSegment, deleteSegment}
-use Rattle.calls.specs.Calls.{read, write, weaken, reduce, newPassword, validate, readMode}
-use Rattle.calls.specs.Calls.{handleOf, buffer, nodeFor, localFor, recordFor, placeFor, lengthOf, address}
-use Rattle.calls.specs.Calls.{startFor, primaryOf}
+use Rattle.store.specs.Records.{readMode, lengthOf, address, primaryOf}
+use Rattle.calls.specs.Calls.{read, write, weaken, reduce, newPassword, validate}
+use Rattle.calls.specs.Calls.{handleOf, buffer, nodeFor, localFor, recordFor, placeFor}
+use Rattle.calls.specs.Calls.{startFor}
 use Rattle.calls.specs.Numbers.{number}
 
 -- ---- replies
@@ -103,15 +101,6 @@ putBytes c a bs = record { store = c .store; memory = overwritten (c .memory) a 
 
 abbrev pub about : Call → Copy → Cluster
 about x c = clusterAt (c .store) (recordFor x)
-
-abbrev pub withPassword : Cluster → ℕ → List ℕ → Cluster
-withPassword c mode p =
-    record {
-      active = c .active;
-      read = elim (eqb mode readMode) [ true ↦ p | false ↦ c .read ];
-      write = elim (eqb mode readMode) [ true ↦ c .write | false ↦ p ];
-      segments = c .segments;
-    }
 
 abbrev pub newBaseFor : Call → Tables → ℕ
 newBaseFor x ts = placement ts (nodeFor x) (x .args .size) .base

@@ -16,9 +16,8 @@ use Rattle.store.specs.declared.Place.{Place}
 use Rattle.store.specs.declared.Place.the-variants.{Absent}
 use Rattle.store.specs.declared.Segment.{Segment}
 use Rattle.store.specs.declared.Cluster.{Cluster}
-use Rattle.store.specs.Records.{absentSegment, tableOf, placeOf, withPlace}
-use Rattle.calls.specs.Calls.{readMode, primaryOf}
-use Rattle.front.specs.Entries.{recordAt, frontRows}
+use Rattle.store.specs.Records.{absentSegment, tableOf, placeOf, withPlace, readMode, primaryOf, recordAt}
+use Rattle.front.specs.Entries.{frontRows}
 
 -- ---- the record of a cluster
 

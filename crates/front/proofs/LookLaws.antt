@@ -14,12 +14,12 @@ use Rattle.handle.specs.Selectors.{allFlat}
 use Rattle.handle.specs.Handles.{nodeOf, widthOf, Row, firstOf, noSuchPlace, decoded}
 use Rattle.store.specs.declared.Cluster.{Cluster}
 use Rattle.store.specs.declared.Store.{Store}
-use Rattle.store.specs.Records.{clusterAt}
+use Rattle.store.specs.Records.{clusterAt, writeMode, recordAt}
 use Rattle.store.specs.Sound.{sound}
-use Rattle.calls.specs.Calls.{writeMode, recordNamed}
+use Rattle.calls.specs.Calls.{recordNamed}
 use Rattle.calls.proofs.FirstLaws.{Numbered, Clear, first-clear}
 use Rattle.calls.proofs.CallLaws.{or-left}
-use Rattle.front.specs.Entries.{recordAt, row, openRows, frontRows, ownerRows, after}
+use Rattle.front.specs.Entries.{row, openRows, frontRows, ownerRows, after}
 
 pub after-front : (n rest : ℕ) → (n ≡ 0 → ⊥) → after n rest ≡ n
 after-front zero rest t = absurd (t refl)

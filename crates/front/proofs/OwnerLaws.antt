@@ -10,7 +10,7 @@ use Rattle.handle.specs.declared.Handle.{Handle}
 use Rattle.handle.specs.Selectors.{allFlat}
 use Rattle.handle.specs.Handles.{nodeOf, widthOf, firstOf}
 use Rattle.store.specs.declared.Cluster.{Cluster}
-use Rattle.calls.specs.Calls.{writeMode}
+use Rattle.store.specs.Records.{writeMode}
 use Rattle.front.specs.Entries.{row, frontRows, ownerRows, after}
 use Rattle.front.proofs.LookLaws.{after-front, first-append, front-numbered}
 

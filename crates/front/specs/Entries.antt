@@ -8,7 +8,6 @@
 --     primaryBytes ..        the bytes of the primary handle of a node, a local number and a password
 --     badModes mode          the mode is neither of the two
 --     leftAlone s n          the records s, and the number n alone
---     recordAt node local    the record of a cluster; the first where there is no such place
 --     row n t                the row with the number n, whose test gave t
 --     openRows ..            rows 3, 4, 5, 8 and 9, from their tests: the handle; the record of its cluster; whether some
 --                            field, the current node is bad; the mode needed
@@ -29,10 +28,10 @@ use Rattle.handle.specs.Opens.{primaryHandle}
 use Rattle.handle.specs.Conversion.{conversion}
 use Rattle.store.specs.declared.Cluster.{Cluster}
 use Rattle.store.specs.declared.Store.{Store}
-use Rattle.store.specs.Records.{recordOf}
+use Rattle.store.specs.Records.{recordOf, readMode, writeMode, primaryOf}
 use Rattle.front.specs.declared.Answer.{Answer}
 use Rattle.front.specs.declared.Done.{Done}
-use Rattle.calls.specs.Calls.{Copy, Arguments, readMode, writeMode, primaryOf}
+use Rattle.calls.specs.Calls.{Copy, Arguments}
 use Rattle.calls.specs.Steps.{Reply, Outcome, zeroHandle}
 
 abbrev pub copyOf : Store → List ℕ → Copy
@@ -81,9 +80,6 @@ badModes mode = not (eqb mode readMode || eqb mode writeMode)
 
 abbrev pub leftAlone : Store → ℕ → Done
 leftAlone s n = record { store = s; answer = numberAlone n }
-
-abbrev pub recordAt : ℕ → ℕ → ℕ
-recordAt node local = cond (leb nodes node || leb clusters local) 0 (recordOf node local)
 
 abbrev pub row : ℕ → Bool → Row
 row n t = record { number = n; applies = t }

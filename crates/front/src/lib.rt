@@ -2,11 +2,11 @@
 // refusals that the calls which open a cluster share, 1 to 5, 8 and 9.
 use aes::Tables;
 use handle::Handle;
-use store::CLUSTERS;
+use sizes::CLUSTERS;
+use sizes::NODES;
+use sizes::SEGMENTS;
 use store::Cluster;
-use store::NODES;
 use store::Place;
-use store::SEGMENTS;
 use store::Segment;
 use store::Store;
 ghost use mathlib.Core.Path.{_≡_};
@@ -14,11 +14,10 @@ ghost use Prim.Native.Nat.{_<_};
 ghost use Rattle.sizes.specs.Sizes.{records};
 ghost use Rattle.aes.specs.Tables.{IsTables};
 ghost use Rattle.handle.specs.Handles.{firstOf};
-ghost use Rattle.calls.specs.Calls.{primaryOf};
-ghost use Rattle.front.specs.Entries.{numberAlone, leftAlone, handlesAlone, primaryBytes, badModes, recordAt};
+ghost use Rattle.front.specs.Entries.{numberAlone, leftAlone, handlesAlone, primaryBytes, badModes};
 ghost use Rattle.front.specs.Entries.{frontRows, ownerRows};
 ghost use Rattle.calls.specs.Steps.{zeroHandle};
-ghost use Rattle.store.specs.Records.{tableOf, placeOf, withPlace};
+ghost use Rattle.store.specs.Records.{tableOf, placeOf, withPlace, primaryOf, recordAt};
 ghost use Rattle.store.specs.Sound.{isAbsent};
 
 // The numbers of document 01's table.

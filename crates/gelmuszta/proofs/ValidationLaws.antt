@@ -16,9 +16,9 @@ use Rattle.handle.specs.declared.Handle.{Handle}
 use Rattle.handle.specs.Sizes.{handleBytes}
 use Rattle.handle.specs.Handles.{decoded, firstOf}
 use Rattle.store.specs.declared.Store.{Store}
-use Rattle.store.specs.Records.{clusterAt}
+use Rattle.store.specs.Records.{clusterAt, recordAt}
 use Rattle.store.specs.Sound.{sound}
-use Rattle.front.specs.Entries.{copyOf, badModes, recordAt, frontRows}
+use Rattle.front.specs.Entries.{copyOf, badModes, frontRows}
 use Rattle.guard.proofs.OpenLaws.{validate-is}
 use Rattle.calls.specs.Steps.{aesStep}
 use Rattle.image.specs.Parts.{slot}

@@ -19,9 +19,9 @@ use Rattle.handle.specs.declared.Handle.{Handle}
 use Rattle.handle.specs.Sizes.{handleBytes}
 use Rattle.handle.specs.Handles.{decoded, firstOf}
 use Rattle.store.specs.declared.Store.{Store}
-use Rattle.store.specs.Records.{clusterAt}
+use Rattle.store.specs.Records.{clusterAt, recordAt}
 use Rattle.calls.specs.Calls.{Call, call, validate}
-use Rattle.front.specs.Entries.{asked, badModes, recordAt, frontRows}
+use Rattle.front.specs.Entries.{asked, badModes, frontRows}
 use Rattle.image.specs.Parts.{slot}
 use Rattle.gelmuszta.specs.Exported.{performed}
 

@@ -16,14 +16,14 @@ use Rattle.store.specs.declared.Place.{Place}
 use Rattle.store.specs.declared.Place.the-variants.{Absent, Present}
 use Rattle.store.specs.declared.Cluster.{Cluster}
 use Rattle.store.specs.declared.Store.{Store}
-use Rattle.store.specs.Records.{tableOf, clusterAt, tableAt, placeOf}
+use Rattle.store.specs.Records.{tableOf, clusterAt, tableAt, placeOf, baseOf, lengthOf, address, recordAt}
 use Rattle.store.specs.Sound.{isAbsent, inside, soundSegment, sound}
 use Rattle.store.proofs.PlaceLaws.{inside-out}
 use Rattle.store.proofs.SoundLaws.{Sound, sound-out}
-use Rattle.calls.specs.Calls.{recordNamed, baseOf, lengthOf, address}
+use Rattle.calls.specs.Calls.{recordNamed}
 use Rattle.calls.proofs.FirstLaws.{first-clear}
 use Rattle.calls.proofs.CallLaws.{or-left, or-right}
-use Rattle.front.specs.Entries.{recordAt, frontRows, after}
+use Rattle.front.specs.Entries.{frontRows, after}
 use Rattle.front.proofs.LookLaws.{Passed, after-front, front-numbered, front-told, front-passed, front-field}
 use Rattle.guard.specs.Access.{accessRows, accessed, Reaches}
 

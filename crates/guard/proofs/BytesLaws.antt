@@ -13,13 +13,14 @@ use Rattle.handle.specs.Conversion.{conversion}
 use Rattle.store.specs.declared.Place.{Place}
 use Rattle.store.specs.declared.Place.the-variants.{Absent, Present}
 use Rattle.store.specs.declared.Store.{Store}
-use Rattle.store.specs.Records.{tableOf, clusterAt, tableAt, placeOf}
+use Rattle.store.specs.Records.{tableOf, clusterAt, tableAt, placeOf, readMode, writeMode, baseOf, lengthOf, address}
 use Rattle.store.specs.Sound.{sound}
 use Rattle.front.specs.declared.Answer.{Answer}
-use Rattle.calls.specs.Calls.{Call, call, read, write, readMode, writeMode, recordNamed, baseOf, lengthOf, address}
+use Rattle.calls.specs.Calls.{Call, call, read, write, recordNamed}
 use Rattle.calls.specs.Numbers.{number}
 use Rattle.calls.specs.Steps.{overwritten, aesStep, left, given, segmentRead, segmentWritten}
-use Rattle.front.specs.Entries.{copyOf, asked, ended, numberAlone, recordAt}
+use Rattle.store.specs.Records.{recordAt}
+use Rattle.front.specs.Entries.{copyOf, asked, ended, numberAlone}
 use Rattle.guard.specs.Access.{accessed, lengthTold}
 use Rattle.calls.proofs.StepLaws.{step-refused, step-done}
 use Rattle.guard.proofs.NumberLaws.{number-read, number-write}

@@ -16,14 +16,14 @@ use Rattle.store.specs.declared.Place.{Place}
 use Rattle.store.specs.declared.Place.the-variants.{Absent}
 use Rattle.store.specs.declared.Cluster.{Cluster}
 use Rattle.store.specs.declared.Store.{Store}
-use Rattle.store.specs.Records.{tableOf, clusterAt, placeOf, inactive, putRecord, withPlace}
+use Rattle.store.specs.Records.{tableOf, clusterAt, placeOf, inactive, putRecord, withPlace, recordAt}
 use Rattle.store.specs.Sound.{isAbsent, sound}
 use Rattle.calls.specs.Calls.{Call, call, deleteCluster, deleteSegment, recordNamed, buffer}
 use Rattle.calls.specs.Numbers.{number}
 use Rattle.calls.specs.Steps.{Outcome, plain, aesStep, left, given, clusterDeleted, segmentDeleted}
 use Rattle.calls.proofs.StepLaws.{step-refused, step-done}
 use Rattle.front.specs.declared.Done.{Done}
-use Rattle.front.specs.Entries.{copyOf, asked, ended, leftAlone, recordAt, row, ownerRows, after}
+use Rattle.front.specs.Entries.{copyOf, asked, ended, leftAlone, row, ownerRows, after}
 use Rattle.front.proofs.LookLaws.{after-front, after-none, owner-told, owner-passed}
 use Rattle.guard.proofs.NumberLaws.{number-delete-cluster, number-delete-segment}
 

@@ -19,19 +19,19 @@ use Rattle.store.specs.declared.Found.{Found}
 use Rattle.store.specs.declared.Found.the-variants.{At, Nowhere}
 use Rattle.store.specs.declared.Cluster.{Cluster}
 use Rattle.store.specs.declared.Store.{Store}
-use Rattle.store.specs.Records.{Tables, tableOf, clusterAt, tableAt, placeOf, putRecord, withPlace}
+use Rattle.store.specs.Records.{Tables, tableOf, clusterAt, tableAt, placeOf, putRecord, withPlace, address, recordAt}
 use Rattle.store.specs.Sound.{isAbsent, sound}
 use Rattle.store.specs.Placement.{Answer, roomAt, noRoomNumber, answered, answer, newBase, placement}
 use Rattle.store.proofs.PlaceLaws.{Inside, inside-out}
 use Rattle.store.proofs.PlacementLaws.{Fits, newBase-fits}
 use Rattle.store.proofs.SoundLaws.{sound-out}
-use Rattle.calls.specs.Calls.{Call, call, newSegment, recordNamed, address}
+use Rattle.calls.specs.Calls.{Call, call, newSegment, recordNamed}
 use Rattle.calls.specs.Numbers.{number}
 use Rattle.calls.specs.Steps.{Outcome, overwritten, plain, aesStep, left, given, segmentMade}
 use Rattle.calls.proofs.CallLaws.{or-left}
 use Rattle.calls.proofs.StepLaws.{step-done}
 use Rattle.front.specs.declared.Done.{Done}
-use Rattle.front.specs.Entries.{copyOf, asked, leftAlone, recordAt, row, ownerRows, after}
+use Rattle.front.specs.Entries.{copyOf, asked, leftAlone, row, ownerRows, after}
 use Rattle.front.proofs.LookLaws.{after-front, owner-told, owner-passed}
 use Rattle.guard.specs.Makes.{badFields, CanMake, Made}
 use Rattle.guard.proofs.NumberLaws.{number-new-segment}

@@ -13,11 +13,11 @@ use Rattle.handle.specs.Handles.{widthOf, firstOf, decoded}
 use Rattle.handle.specs.Conversion.{conversion}
 use Rattle.store.specs.declared.Cluster.{Cluster}
 use Rattle.store.specs.declared.Store.{Store}
-use Rattle.store.specs.Records.{tableOf, clusterAt, tableAt, placeOf}
+use Rattle.store.specs.Records.{tableOf, clusterAt, tableAt, placeOf, readMode, writeMode}
 use Rattle.store.specs.Sound.{isAbsent, sound}
 use Rattle.store.specs.Placement.{noRoomNumber, placement}
 use Rattle.calls.specs.Calls.{call, deleteCluster, newSegment, deleteSegment, read, write, reduce, newPassword}
-use Rattle.calls.specs.Calls.{readMode, writeMode, recordNamed}
+use Rattle.calls.specs.Calls.{recordNamed}
 use Rattle.calls.specs.Numbers.{unsound, noPlace, badMode, badSegment, badSize, badField, gappedHandle, elsewhere, inUse}
 use Rattle.calls.specs.Numbers.{twins, inactiveCluster, valid, violated, notPrimary, notReferenced, isOld, oldPassword}
 use Rattle.calls.specs.Numbers.{segmentPresent, segmentAbsent, short, fullNode, spentHandle, number}

@@ -10,13 +10,13 @@ use Rattle.handle.specs.Handles.{widthOf, Row, firstOf, decoded, encoded, reduc
 use Rattle.handle.specs.Conversion.{conversion}
 use Rattle.store.specs.declared.Cluster.{Cluster}
 use Rattle.store.specs.declared.Store.{Store}
-use Rattle.store.specs.Records.{clusterAt}
+use Rattle.store.specs.Records.{clusterAt, primaryOf, recordAt}
 use Rattle.store.specs.Sound.{sound}
 use Rattle.front.specs.declared.Answer.{Answer}
-use Rattle.calls.specs.Calls.{call, reduce, validate, primaryOf, recordNamed}
+use Rattle.calls.specs.Calls.{call, reduce, validate, recordNamed}
 use Rattle.calls.specs.Numbers.{number}
 use Rattle.calls.specs.Steps.{handles, zeroHandle, outcome, step, aesStep, left, given}
-use Rattle.front.specs.Entries.{badModes, handlesAlone, copyOf, asked, ended, numberAlone, recordAt, frontRows}
+use Rattle.front.specs.Entries.{badModes, handlesAlone, copyOf, asked, ended, numberAlone, frontRows}
 use Rattle.front.proofs.LookLaws.{after-none, front-told, front-passed}
 use Rattle.calls.proofs.StepLaws.{step-refused, step-done, number-validate}
 use Rattle.guard.proofs.NumberLaws.{number-reduce}

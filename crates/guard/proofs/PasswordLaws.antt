@@ -12,14 +12,14 @@ use Rattle.handle.specs.Handles.{widthOf, Row, firstOf, decoded, samePassword}
 use Rattle.handle.specs.Conversion.{conversion}
 use Rattle.store.specs.declared.Cluster.{Cluster}
 use Rattle.store.specs.declared.Store.{Store}
-use Rattle.store.specs.Records.{clusterAt, putRecord}
+use Rattle.store.specs.Records.{clusterAt, putRecord, readMode, withPassword, recordAt}
 use Rattle.store.specs.Sound.{sound}
 use Rattle.front.specs.declared.Answer.{Answer}
 use Rattle.front.specs.declared.Done.{Done}
-use Rattle.calls.specs.Calls.{Call, call, newPassword, readMode, recordNamed}
+use Rattle.calls.specs.Calls.{Call, call, newPassword, recordNamed}
 use Rattle.calls.specs.Numbers.{isOld, number}
-use Rattle.calls.specs.Steps.{handles, zeroHandle, aesStep, left, given, withPassword, passwordReplaced}
-use Rattle.front.specs.Entries.{badModes, handlesAlone, primaryBytes, copyOf, asked, ended, leftAlone, recordAt}
+use Rattle.calls.specs.Steps.{handles, zeroHandle, aesStep, left, given, passwordReplaced}
+use Rattle.front.specs.Entries.{badModes, handlesAlone, primaryBytes, copyOf, asked, ended, leftAlone}
 use Rattle.front.specs.Entries.{row, frontRows, after}
 use Rattle.calls.proofs.StepLaws.{step-done}
 use Rattle.front.proofs.LookLaws.{after-front, front-told, front-passed}

@@ -18,7 +18,7 @@ use Rattle.store.specs.declared.Place.{Place}
 use Rattle.store.specs.declared.Cluster.{Cluster}
 use Rattle.store.specs.Sound.{isAbsent}
 use Rattle.front.specs.declared.Answer.{Answer}
-use Rattle.calls.specs.Calls.{lengthOf}
+use Rattle.store.specs.Records.{lengthOf}
 use Rattle.calls.specs.Steps.{zeroHandle}
 use Rattle.front.specs.Entries.{row, frontRows, after}
 

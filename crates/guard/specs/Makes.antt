@@ -14,8 +14,7 @@ use lib.ListN.{replicate}
 use Rattle.sizes.specs.Sizes.{nodes, segments, nodeMemory, memory}
 use Rattle.store.specs.declared.Place.the-variants.{Present}
 use Rattle.store.specs.declared.Cluster.{Cluster}
-use Rattle.store.specs.Records.{withPlace}
-use Rattle.calls.specs.Calls.{address}
+use Rattle.store.specs.Records.{withPlace, address}
 use Rattle.calls.specs.Steps.{overwritten}
 
 abbrev pub badFields : ℕ → ℕ → Bool

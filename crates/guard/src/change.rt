@@ -15,14 +15,15 @@ use front::record_at;
 use front::unchanged;
 use front::with_place;
 use handle::Handle;
+use sizes::SEGMENTS;
 use store::Cluster;
 use store::Place;
-use store::SEGMENTS;
 use store::Store;
 ghost use mathlib.Core.Path.{_≡_};
 ghost use mathlib.Core.List.{[]};
 ghost use Rattle.calls.specs.Calls as calls;
-ghost use Rattle.calls.specs.Steps.{aesStep, withPassword};
+ghost use Rattle.store.specs.Records.{withPassword};
+ghost use Rattle.calls.specs.Steps.{aesStep};
 ghost use Rattle.front.specs.Entries.{copyOf, asked, ended};
 
 // The record with the primary password of a mode replaced.

@@ -15,7 +15,7 @@ use Rattle.handle.specs.Handles.{Bytes}
 use Rattle.store.specs.declared.Place.{Place}
 use Rattle.store.specs.declared.Place.the-variants.{Absent, Present}
 use Rattle.store.specs.declared.Segment.{Segment}
-use Rattle.calls.specs.Calls.{baseOf, lengthOf}
+use Rattle.store.specs.Records.{baseOf, lengthOf}
 use Rattle.image.specs.Images.{wordBytes, placeBytes, baseIn, lengthIn, placeWith, placeIn, goodPlace, placeOut}
 use Rattle.image.specs.Ranges.{words}
 

@@ -20,14 +20,14 @@ use Rattle.store.specs.declared.Segment.{Segment}
 use Rattle.store.specs.declared.Cluster.{Cluster}
 use Rattle.store.specs.declared.Store.{Store}
 use Rattle.store.specs.Records.{absentSegment, inactive, started, noCluster, clusterAt, tableAt, tableOf, placeOf}
-use Rattle.store.specs.Records.{putRecord, withPlace}
+use Rattle.store.specs.Records.{putRecord, withPlace, readMode, withPassword}
 use Rattle.store.proofs.ChangeLaws.{put-other, put-same}
 use Rattle.store.proofs.PlaceLaws.{inside-out}
 use Rattle.store.proofs.PlacementLaws.{newBase-fits}
 use Rattle.calls.specs.Calls.{Copy, Kind, Call, Arguments, call, newCluster, deleteCluster, newSegment, deleteSegment}
-use Rattle.calls.specs.Calls.{read, write, weaken, reduce, newPassword, validate, nodeFor, recordFor, readMode}
+use Rattle.calls.specs.Calls.{read, write, weaken, reduce, newPassword, validate, nodeFor, recordFor}
 use Rattle.calls.specs.Numbers.{number}
-use Rattle.calls.specs.Steps.{about, newBaseFor, withPassword, outcome, step, left}
+use Rattle.calls.specs.Steps.{about, newBaseFor, outcome, step, left}
 use Rattle.calls.specs.Steps.{clusterMade, clusterDeleted, segmentMade, segmentDeleted, segmentWritten, passwordReplaced}
 use Rattle.calls.proofs.DoneLaws.{done-range, new-base}
 use Rattle.image.specs.Parts.{slot, part}

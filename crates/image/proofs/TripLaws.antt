@@ -23,8 +23,7 @@ use Rattle.store.specs.declared.Place.the-variants.{Absent, Present}
 use Rattle.store.specs.declared.Segment.{Segment}
 use Rattle.store.specs.declared.Cluster.{Cluster}
 use Rattle.store.specs.declared.Store.{Store}
-use Rattle.store.specs.Records.{absentSegment, startingStore, noCluster, clusterAt}
-use Rattle.calls.specs.Calls.{baseOf, lengthOf}
+use Rattle.store.specs.Records.{absentSegment, startingStore, noCluster, clusterAt, baseOf, lengthOf}
 use Rattle.image.specs.Parts.{part, slot, joined}
 use Rattle.image.specs.Images.{wordBytes, placeBytes, recordBytes, imageBytes, readAt, writeAt, placesAt, baseIn}
 use Rattle.image.specs.Images.{lengthIn, placeWith, placeIn, goodPlace, segmentIn, segmentsIn, goodPlaces, clusterIn}

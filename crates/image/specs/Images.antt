@@ -28,8 +28,7 @@ use Rattle.store.specs.declared.Place.the-variants.{Absent, Present}
 use Rattle.store.specs.declared.Segment.{Segment}
 use Rattle.store.specs.declared.Cluster.{Cluster}
 use Rattle.store.specs.declared.Store.{Store}
-use Rattle.store.specs.Records.{absentSegment, clusterAt}
-use Rattle.calls.specs.Calls.{baseOf, lengthOf}
+use Rattle.store.specs.Records.{absentSegment, clusterAt, baseOf, lengthOf}
 use Rattle.image.specs.Parts.{part, slot, joined}
 
 -- ---- sizes

@@ -12,13 +12,12 @@ use Rattle.sizes.specs.Sizes.{nodes, clusters, records, segments, memory}
 use Rattle.store.specs.declared.Place.{Place}
 use Rattle.store.specs.declared.Place.the-variants.{Absent, Present}
 use Rattle.store.specs.declared.Store.{Store}
-use Rattle.store.specs.Records.{recordOf, tableAt, placeAt, placeOn}
+use Rattle.store.specs.Records.{recordOf, tableAt, placeAt, placeOn, baseOf, lengthOf, address}
 use Rattle.store.specs.Sound.{inside, apart, soundSegment}
 use Rattle.store.specs.Placement.{newBase}
 use Rattle.store.proofs.PlaceLaws.{inside-out, apart-off}
 use Rattle.store.proofs.PlacementLaws.{newBase-fits}
 use Rattle.store.proofs.SoundLaws.{Sound}
-use Rattle.calls.specs.Calls.{baseOf, lengthOf, address}
 use Rattle.isolation.specs.Copies.{InPlace, setApart, Outside}
 
 pub in-place : (v : ℕ) (p : Place) (a : ℕ) → address v (baseOf p) ≤ a → a < address v (baseOf p) + lengthOf p

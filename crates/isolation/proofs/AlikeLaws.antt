@@ -16,12 +16,12 @@ use Rattle.store.specs.declared.Place.the-variants.{Absent}
 use Rattle.store.specs.declared.Cluster.{Cluster}
 use Rattle.store.specs.declared.Store.{Store}
 use Rattle.store.specs.Records.{Table, Tables, inactive, started, tableOf, clusterAt, tableAt, placeOf, putRecord}
-use Rattle.store.specs.Records.{withPlace}
+use Rattle.store.specs.Records.{withPlace, lengthOf, primaryOf, withPassword}
 use Rattle.store.proofs.ChangeLaws.{put-other, put-same, put-out}
 use Rattle.calls.specs.Calls.{Copy, Call, call, Arguments, Kind, newCluster, deleteCluster, newSegment, deleteSegment}
 use Rattle.calls.specs.Calls.{read, write, weaken, reduce, newPassword, validate, opens, handleOf, nodeFor, localFor}
-use Rattle.calls.specs.Calls.{recordFor, placeFor, lengthOf, startFor, primaryOf}
-use Rattle.calls.specs.Steps.{zeroHandle, handles, readReply, putCluster, putBytes, about, withPassword, newPlace}
+use Rattle.calls.specs.Calls.{recordFor, placeFor, startFor}
+use Rattle.calls.specs.Steps.{zeroHandle, handles, readReply, putCluster, putBytes, about, newPlace}
 use Rattle.calls.specs.Steps.{newStart}
 use Rattle.calls.specs.Steps.{clusterMade, clusterDeleted, segmentMade, segmentDeleted, segmentWritten}
 use Rattle.calls.specs.Steps.{passwordReplaced}

@@ -16,8 +16,8 @@ use Rattle.handle.specs.declared.Handle.{Handle}
 use Rattle.handle.specs.Selectors.{gapped}
 use Rattle.handle.specs.Handles.{Name, nodeOf, widthOf}
 use Rattle.store.specs.declared.Store.{Store}
-use Rattle.store.specs.Records.{recordOf}
-use Rattle.calls.specs.Calls.{Call, opens, readMode, writeMode, needed, handleOf, presented, recordFor, recordNamed}
+use Rattle.store.specs.Records.{recordOf, readMode, writeMode}
+use Rattle.calls.specs.Calls.{Call, opens, needed, handleOf, presented, recordFor, recordNamed}
 use Rattle.calls.specs.Numbers.{valid, number}
 use Rattle.calls.proofs.CallLaws.{opened, InRange, handle-range, only, guarded, record-is}
 use Rattle.calls.proofs.DoneLaws.{no-row, done-mode, done-even, done-valid}

@@ -18,10 +18,10 @@ use Rattle.store.specs.declared.Place.the-variants.{Absent}
 use Rattle.store.specs.declared.Segment.{Segment}
 use Rattle.store.specs.declared.Cluster.{Cluster}
 use Rattle.store.specs.Records.{Tables, absentSegment, inactive, tableOf, recordOf, clusterAt, placeOf, placeAt}
-use Rattle.store.specs.Records.{withPlace}
+use Rattle.store.specs.Records.{withPlace, baseOf, lengthOf, address}
 use Rattle.store.proofs.ChangeLaws.{put-same}
 use Rattle.calls.specs.Calls.{Copy, Call, call, Arguments, deleteCluster, newSegment, deleteSegment, read, write}
-use Rattle.calls.specs.Calls.{nodeFor, recordFor, placeFor, baseOf, lengthOf, address, startFor}
+use Rattle.calls.specs.Calls.{nodeFor, recordFor, placeFor, startFor}
 use Rattle.calls.specs.Numbers.{badSegment}
 use Rattle.calls.specs.Steps.{Outcome, overwritten, about, newPlace, newStart}
 use Rattle.calls.specs.Steps.{clusterDeleted, segmentMade, segmentDeleted, segmentWritten, left, segmentRead, given}

@@ -14,12 +14,12 @@ use Rattle.store.specs.declared.Place.{Place}
 use Rattle.store.specs.declared.Place.the-variants.{Absent}
 use Rattle.store.specs.declared.Cluster.{Cluster}
 use Rattle.store.specs.declared.Store.{Store}
-use Rattle.store.specs.Records.{absentSegment, clusterAt, tableAt, putRecord, withPlace}
+use Rattle.store.specs.Records.{absentSegment, clusterAt, tableAt, putRecord, withPlace, readMode, writeMode, primaryOf}
 use Rattle.store.proofs.ChangeLaws.{put-other, put-same, put-out}
 use Rattle.calls.specs.Calls.{Copy, Call, call, Arguments, Kind, newCluster, deleteCluster, newSegment, deleteSegment}
-use Rattle.calls.specs.Calls.{read, write, weaken, reduce, newPassword, validate, readMode, writeMode, recordFor}
-use Rattle.calls.specs.Calls.{primaryOf}
-use Rattle.calls.specs.Steps.{about, withPassword, newPlace, clusterMade, clusterDeleted, segmentMade, segmentDeleted}
+use Rattle.calls.specs.Calls.{read, write, weaken, reduce, newPassword, validate, recordFor}
+use Rattle.store.specs.Records.{withPassword}
+use Rattle.calls.specs.Steps.{about, newPlace, clusterMade, clusterDeleted, segmentMade, segmentDeleted}
 use Rattle.calls.specs.Steps.{segmentWritten, passwordReplaced, left}
 use Rattle.isolation.specs.Copies.{Done}
 use Rattle.isolation.specs.Effects.{otherMode, OtherSegments, OtherPassword, Entries, EntriesStay}

@@ -24,12 +24,13 @@ use Rattle.handle.proofs.PasswordLaws.{equal-validates, validates-equal}
 use Rattle.handle.proofs.CodecLaws.{decode-encode, holdable-decoded, whole-decoded, holdable-weakened, holdable-reduced}
 use Rattle.store.specs.declared.Cluster.{Cluster}
 use Rattle.store.specs.declared.Store.{Store}
-use Rattle.store.specs.Records.{started, recordOf, noCluster, clusterAt, tableAt, putRecord}
+use Rattle.store.specs.Records.{started, recordOf, noCluster, clusterAt, tableAt, putRecord, withPassword}
 use Rattle.store.proofs.ChangeLaws.{put-same}
-use Rattle.calls.specs.Calls.{Call, call, newCluster, weaken, reduce, newPassword, readMode, writeMode}
-use Rattle.calls.specs.Calls.{handleOf, nodeFor, localFor, recordFor, recordNamed, primaryOf}
+use Rattle.store.specs.Records.{readMode, writeMode, primaryOf}
+use Rattle.calls.specs.Calls.{Call, call, newCluster, weaken, reduce, newPassword}
+use Rattle.calls.specs.Calls.{handleOf, nodeFor, localFor, recordFor, recordNamed}
 use Rattle.calls.specs.Numbers.{gappedHandle, spentHandle, valid}
-use Rattle.calls.specs.Steps.{about, withPassword, clusterMade, passwordReplaced, left, given}
+use Rattle.calls.specs.Steps.{about, clusterMade, passwordReplaced, left, given}
 use Rattle.isolation.specs.Copies.{SixteenBytes}
 use Rattle.calls.specs.Clear.{NoRow}
 use Rattle.isolation.specs.Effects.{Made, MadeOpens, otherMode, Renewed, RenewedOpens, Reduced, ReducedOpens}

@@ -13,7 +13,7 @@ use borrow.Author.Tests.{leb-false}
 use Rattle.sizes.specs.Sizes.{nodes, clusters, segments, memory}
 use Rattle.handle.specs.Handles.{Name}
 use Rattle.store.specs.declared.Cluster.{Cluster}
-use Rattle.store.specs.Records.{Tables, tableAt, putRecord, withPlace}
+use Rattle.store.specs.Records.{Tables, tableAt, putRecord, withPlace, lengthOf, withPassword}
 use Rattle.store.specs.Sound.{sound}
 use Rattle.store.proofs.PlaceLaws.{inside-out}
 use Rattle.store.proofs.PlacementLaws.{newBase-fits}
@@ -21,9 +21,9 @@ use Rattle.store.proofs.SoundLaws.{Sound, sound-out, settled-active, sound-star
 use Rattle.store.proofs.ChangeLaws.{put-other, sound-same, sound-inactive, sound-started, sound-made, sound-removed}
 use Rattle.calls.specs.Calls.{Copy, Call, call, Arguments, Kind, newCluster, deleteCluster, newSegment, deleteSegment}
 use Rattle.calls.specs.Calls.{read, write, weaken, reduce, newPassword, validate, nodeFor, localFor, recordFor}
-use Rattle.calls.specs.Calls.{start, placeFor, lengthOf, startFor}
+use Rattle.calls.specs.Calls.{start, placeFor, startFor}
 use Rattle.calls.specs.Numbers.{badSegment, number}
-use Rattle.calls.specs.Steps.{putCluster, about, withPassword, newBaseFor, newPlace, newStart}
+use Rattle.calls.specs.Steps.{putCluster, about, newBaseFor, newPlace, newStart}
 use Rattle.calls.specs.Steps.{clusterMade, clusterDeleted, segmentMade, segmentDeleted, segmentWritten}
 use Rattle.calls.specs.Steps.{passwordReplaced}
 use Rattle.calls.specs.Steps.{left, outcome, step}

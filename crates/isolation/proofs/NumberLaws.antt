@@ -15,11 +15,11 @@ use Rattle.handle.specs.declared.Handle.{Handle}
 use Rattle.handle.specs.Handles.{Name, nameOf, nodeOf, widthOf, validates}
 use Rattle.store.specs.declared.Cluster.{Cluster}
 use Rattle.store.specs.declared.Store.{Store}
-use Rattle.store.specs.Records.{Tables, tableOf, tableAt}
+use Rattle.store.specs.Records.{Tables, tableOf, tableAt, readMode, writeMode, primaryOf}
 use Rattle.store.specs.Sound.{sound}
 use Rattle.calls.specs.Calls.{Copy, Call, call, Arguments, Kind, newCluster, deleteCluster, newSegment, deleteSegment}
-use Rattle.calls.specs.Calls.{read, write, weaken, reduce, newPassword, validate, opens, readMode, writeMode, needed}
-use Rattle.calls.specs.Calls.{handleOf, presented, anyOf, recordFor, recordNamed, primaryOf}
+use Rattle.calls.specs.Calls.{read, write, weaken, reduce, newPassword, validate, opens, needed}
+use Rattle.calls.specs.Calls.{handleOf, presented, anyOf, recordFor, recordNamed}
 use Rattle.calls.specs.Numbers.{unsound, noPlace, badField, gappedHandle, inUse, inactiveCluster, valid, violated}
 use Rattle.calls.specs.Numbers.{isOld, oldPassword, segmentPresent, segmentAbsent, short, fullNode}
 use Rattle.calls.specs.Numbers.{byTables, byRecords, rows, number}

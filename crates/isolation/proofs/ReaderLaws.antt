@@ -12,11 +12,11 @@ use Rattle.sizes.specs.Sizes.{nodes, clusters}
 use Rattle.handle.specs.Handles.{Name}
 use Rattle.store.specs.declared.Cluster.{Cluster}
 use Rattle.store.specs.declared.Store.{Store}
-use Rattle.store.specs.Records.{Table, tableOf, clusterAt, placeOf, putRecord}
+use Rattle.store.specs.Records.{Table, tableOf, clusterAt, placeOf, putRecord, readMode, writeMode, withPassword}
 use Rattle.calls.specs.Calls.{Copy, Call, call, Arguments, Kind, newCluster, deleteCluster, newSegment, deleteSegment}
-use Rattle.calls.specs.Calls.{read, write, weaken, reduce, newPassword, validate, opens, readMode, writeMode, needed}
+use Rattle.calls.specs.Calls.{read, write, weaken, reduce, newPassword, validate, opens, needed}
 use Rattle.calls.specs.Calls.{recordFor}
-use Rattle.calls.specs.Steps.{putCluster, about, withPassword, passwordReplaced, left, step, run}
+use Rattle.calls.specs.Steps.{putCluster, about, passwordReplaced, left, step, run}
 use Rattle.isolation.specs.Copies.{SoundCopy, Done, InPlace, setApart, Held, Unaltered, keyed, NoWriter}
 use Rattle.isolation.specs.Statements.{ReadersAlterNothing}
 use Rattle.calls.proofs.DoneLaws.{done-mode, new-away}

@@ -35,11 +35,11 @@ use Rattle.handle.specs.Selectors.{references, allFlat, gapped}
 use Rattle.handle.specs.Handles.{Name, nameOf, nodeOf, widthOf, encoded, samePassword, Row, noSuchPlace, through}
 use Rattle.handle.specs.Handles.{weakening}
 use Rattle.store.specs.declared.Store.{Store}
-use Rattle.store.specs.Records.{recordOf, clusterAt, tableAt}
+use Rattle.store.specs.Records.{recordOf, clusterAt, tableAt, readMode, writeMode, primaryOf}
 use Rattle.store.specs.Sound.{sound}
 use Rattle.calls.specs.Calls.{Copy, Call, call, Arguments, Kind, newCluster, deleteCluster, newSegment, deleteSegment}
-use Rattle.calls.specs.Calls.{read, write, weaken, reduce, newPassword, validate, Uses, uses, readMode, writeMode}
-use Rattle.calls.specs.Calls.{handleOf, buffer, recordNamed, primaryOf}
+use Rattle.calls.specs.Calls.{read, write, weaken, reduce, newPassword, validate, Uses, uses}
+use Rattle.calls.specs.Calls.{handleOf, buffer, recordNamed}
 use Rattle.calls.specs.Numbers.{valid, rows, number}
 use Rattle.calls.specs.Steps.{Reply, zeroHandle, plain, step}
 

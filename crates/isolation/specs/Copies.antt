@@ -32,9 +32,9 @@ use Rattle.handle.specs.Handles.{Name, nodeOf, widthOf}
 use Rattle.store.specs.declared.Place.{Place}
 use Rattle.store.specs.declared.Place.the-variants.{Absent, Present}
 use Rattle.store.specs.declared.Store.{Store}
-use Rattle.store.specs.Records.{Tables, recordOf, clusterAt, tableAt, placeAt}
+use Rattle.store.specs.Records.{Tables, recordOf, clusterAt, tableAt, placeAt, readMode, writeMode, address}
 use Rattle.store.specs.Sound.{sound}
-use Rattle.calls.specs.Calls.{Copy, Call, opens, readMode, writeMode, presented, anyOf, address}
+use Rattle.calls.specs.Calls.{Copy, Call, opens, presented, anyOf}
 use Rattle.calls.specs.Numbers.{valid, number}
 use Rattle.calls.specs.Steps.{step}
 

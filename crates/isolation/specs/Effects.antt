@@ -39,8 +39,9 @@ use Rattle.store.specs.declared.Cluster.{Cluster}
 use Rattle.store.specs.declared.Store.{Store}
 use Rattle.store.specs.Records.{inactive, tableOf, clusterAt, tableAt, segmentOf}
 use Rattle.calls.specs.Calls.{Copy, Call, call, Arguments, Kind, newCluster, deleteCluster, newSegment, deleteSegment}
-use Rattle.calls.specs.Calls.{read, write, weaken, reduce, newPassword, validate, readMode, writeMode}
-use Rattle.calls.specs.Calls.{handleOf, nodeFor, localFor, recordFor, placeFor, lengthOf, primaryOf}
+use Rattle.store.specs.Records.{readMode, writeMode, lengthOf, primaryOf}
+use Rattle.calls.specs.Calls.{read, write, weaken, reduce, newPassword, validate}
+use Rattle.calls.specs.Calls.{handleOf, nodeFor, localFor, recordFor, placeFor}
 use Rattle.calls.specs.Numbers.{valid}
 use Rattle.calls.specs.Steps.{Outcome, step}
 use Rattle.isolation.specs.Copies.{SoundCopy, Done, SixteenBytes}

@@ -11,8 +11,8 @@ use lib.ListN.{take, drop}
 use Rattle.sizes.specs.Sizes.{segments}
 use Rattle.handle.specs.Selectors.{inFirst}
 use Rattle.store.specs.declared.Store.{Store}
-use Rattle.store.specs.Records.{startingStore}
-use Rattle.calls.specs.Calls.{start, Call, address}
+use Rattle.store.specs.Records.{startingStore, address}
+use Rattle.calls.specs.Calls.{start, Call}
 use Rattle.calls.specs.Steps.{Reply, Ran, zeroHandle, plain, handles, readReply, run}
 use Rattle.calls.specs.Cases.{added, sixteen, shown, primary, weak}
 use Rattle.calls.specs.Cases.{call1, call2, call3, call4, call5, call6, call7, call8, call9, callV}

@@ -1,7 +1,7 @@
 // The lines that `benchrun` writes (document 01, "The list of calls"), each put at the start of a lent buffer. An inner
 // function puts its text after the buffer's first `at` bytes and tells where it ends.
 use front::Answer;
-use store::NODE_MEMORY;
+use sizes::NODE_MEMORY;
 ghost use Prim.Native.Nat.{_+_, _*_, _≤_, _<_};
 ghost use mathlib.Core.Path.{_≡_};
 ghost use mathlib.Core.List.{[], _∷_, _++_};

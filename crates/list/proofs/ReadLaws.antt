@@ -11,9 +11,9 @@ use borrow.Author.Tests.{ltb-false}
 use lib.ListN.{length}
 use Rattle.handle.specs.Handles.{Name, firstOf}
 use Rattle.handle.specs.Conversion.{conversion}
-use Rattle.store.specs.Records.{tableAt}
+use Rattle.store.specs.Records.{tableAt, lengthOf}
 use Rattle.calls.specs.Calls.{Copy, Kind, newCluster, deleteCluster, newSegment, deleteSegment, read, write, weaken}
-use Rattle.calls.specs.Calls.{reduce, newPassword, validate, Call, call, placeFor, lengthOf}
+use Rattle.calls.specs.Calls.{reduce, newPassword, validate, Call, call, placeFor}
 use Rattle.calls.specs.Numbers.{short, number}
 use Rattle.calls.specs.Steps.{given, segmentRead, outcome, step, aesStep}
 use Rattle.calls.proofs.DoneLaws.{done-is-clear}

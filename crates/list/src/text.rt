@@ -7,7 +7,7 @@ use crate::perform::perform;
 use chain::Walked;
 use lines::BRIEF;
 use lines::LONGEST;
-use store::MEMORY;
+use sizes::MEMORY;
 use store::Store;
 ghost use mathlib.Core.Path.{_≡_};
 ghost use Prim.Native.Nat.{_≤_};

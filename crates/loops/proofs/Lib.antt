@@ -1,4 +1,5 @@
 pub mod BelowLaws
+pub mod FirstBytes
 pub mod RunningLaws
 pub mod SearchLaws
 pub mod TabulateLaws

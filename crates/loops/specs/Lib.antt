@@ -1,4 +1,5 @@
 pub mod Below
+pub mod First
 pub mod Search
 pub mod Tabulate
 pub mod Turns

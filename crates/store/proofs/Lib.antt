@@ -9,3 +9,4 @@ pub mod ChangeLaws
 pub mod ExampleLaws
 pub mod SoundWordLaws
 pub mod SoundCaseLaws
+pub mod RecordLaws

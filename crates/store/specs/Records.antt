@@ -10,14 +10,21 @@
 --     placeAt, placeOn             the place of segment i of record n, and of a node's cluster
 --     putRecord                    the store with record n replaced
 --     withSegment, withPlace       the record with segment i, or its place, replaced
+--     baseOf, lengthOf             of a place; zero where it is absent
+--     address                      where byte k of a node's memory stands in the slice: node 0 first
+--     readMode, writeMode          the two modes
+--     primaryOf c m                the primary password of a cluster for the mode m
+--     withPassword                 the record with the primary password of a mode replaced
+--     recordAt                     the number of a cluster's record; the first where there is no such place
 -- Assumes nothing.
 use Prim.Native.Nat.{ℕ, _+_, _*_}
-use mathlib.Core.Bool.{Bool, true, false}
+use mathlib.Core.Bool.{Bool, true, false, _||_, cond}
 use mathlib.Core.List.{List, []}
+use lib.Dec.{eqb, leb}
 use lib.ListN.{getD, set, replicate}
-use Rattle.sizes.specs.Sizes.{clusters, records, segments, passwordBytes}
+use Rattle.sizes.specs.Sizes.{nodes, clusters, records, segments, nodeMemory, passwordBytes}
 use Rattle.store.specs.declared.Place.{Place}
-use Rattle.store.specs.declared.Place.the-variants.{Absent}
+use Rattle.store.specs.declared.Place.the-variants.{Absent, Present}
 use Rattle.store.specs.declared.Segment.{Segment}
 use Rattle.store.specs.declared.Cluster.{Cluster}
 use Rattle.store.specs.declared.Store.{Store}
@@ -79,6 +86,31 @@ placeAt ts n i = placeOf (ts n) i
 abbrev pub placeOn : Tables → ℕ → ℕ → ℕ → Place
 placeOn ts node local i = placeAt ts (recordOf node local) i
 
+abbrev pub recordAt : ℕ → ℕ → ℕ
+recordAt node local = cond (leb nodes node || leb clusters local) 0 (recordOf node local)
+
+abbrev pub baseOf : Place → ℕ
+baseOf Absent = 0
+baseOf (Present base length) = base
+
+abbrev pub lengthOf : Place → ℕ
+lengthOf Absent = 0
+lengthOf (Present base length) = length
+
+abbrev pub address : ℕ → ℕ → ℕ
+address node k = node * nodeMemory + k
+
+-- ---- the two modes
+
+abbrev pub readMode : ℕ
+readMode = 1
+
+abbrev pub writeMode : ℕ
+writeMode = 2
+
+abbrev pub primaryOf : Cluster → ℕ → List ℕ
+primaryOf c mode = elim (eqb mode readMode) [ true ↦ c .read | false ↦ c .write ]
+
 -- ---- changing them
 
 abbrev pub putRecord : Store → ℕ → Cluster → Store
@@ -89,3 +121,12 @@ withSegment c i g = record { active = c .active; read = c .read; write = c .writ
 
 abbrev pub withPlace : Cluster → ℕ → Place → Cluster
 withPlace c i p = withSegment c i (record { place = p })
+
+abbrev pub withPassword : Cluster → ℕ → List ℕ → Cluster
+withPassword c mode p =
+    record {
+      active = c .active;
+      read = elim (eqb mode readMode) [ true ↦ p | false ↦ c .read ];
+      write = elim (eqb mode readMode) [ true ↦ c .write | false ↦ p ];
+      segments = c .segments;
+    }

@@ -4,14 +4,14 @@ ghost use Rattle.sizes.specs.Sizes.{segments};
 ghost use Rattle.store.specs.Records.{tableOf, tableAt, placeOf};
 ghost use Rattle.store.specs.Placement.{answer, placement};
 ghost use Rattle.store.specs.Passes as passes;
-use crate::CLUSTERS;
 use crate::Cluster;
 use crate::Found;
-use crate::NODE_MEMORY;
-use crate::NODES;
 use crate::Place;
-use crate::SEGMENTS;
 use crate::Store;
+use sizes::CLUSTERS;
+use sizes::NODE_MEMORY;
+use sizes::NODES;
+use sizes::SEGMENTS;
 
 // The base to try after a place: the same if `size` bytes from it share none with the place, else the place's end.
 // No sum is formed with base or size, so none can wrap.

@@ -8,15 +8,17 @@ ghost use Rattle.sizes.specs.Sizes.{clusters, segments, nodeMemory};
 ghost use Rattle.store.specs.Records.{tableOf, placeOf};
 ghost use Rattle.store.specs.Sound as sound-spec;
 ghost use Rattle.store.specs.Passes as passes;
-use crate::CLUSTERS;
 use crate::Cluster;
-use crate::MEMORY;
-use crate::NODE_MEMORY;
-use crate::NODES;
-use crate::PASSWORD_BYTES;
 use crate::Place;
-use crate::SEGMENTS;
 use crate::Store;
+use crate::absent;
+use sizes::CLUSTERS;
+use sizes::MEMORY;
+use sizes::NODE_MEMORY;
+use sizes::NODES;
+use sizes::PASSWORD_BYTES;
+use sizes::Password;
+use sizes::SEGMENTS;
 
 // Marks every byte of the part and tells whether none was marked. No early exit: a loop without one is quicker here.
 fn mark(part: &mut [u8]) -> bool
@@ -72,7 +74,7 @@ fn claim_all(cluster: Cluster, map: &mut [u8]) -> bool
     ok
 }
 
-fn zero(password: [u8; PASSWORD_BYTES]) -> bool
+fn zero(password: Password) -> bool
     ensures { λ r. ⌜ r ≡ sound-spec.zeroBytes password ⌝ }
 {
     let mut ok = true;
@@ -82,15 +84,6 @@ fn zero(password: [u8; PASSWORD_BYTES]) -> bool
         i += 1;
     }
     ok
-}
-
-fn absent(place: Place) -> bool
-    ensures { λ r. ⌜ r ≡ sound-spec.isAbsent place ⌝ }
-{
-    match place {
-        Place::Absent => true,
-        Place::Present { base: _, length: _ } => false,
-    }
 }
 
 fn empty(cluster: Cluster) -> bool

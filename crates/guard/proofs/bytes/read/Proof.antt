@@ -3,7 +3,7 @@
 use Rattle.guard.proofs.BytesLaws.{read-refused, read-done}
 use Rattle.guard.proofs.AccessLaws.{access-reaches}
 use borrow.Author.Needs.{needs}
-use Rattle.calls.specs.Calls.{readMode}
+use Rattle.store.specs.Records.{readMode}
 use Rattle.guard.proofs.bytes.read.Statement.{statement}
 use Rattle.guard.proofs.bytes.read.Tie as tie
 

@@ -3,7 +3,7 @@
 use Rattle.guard.proofs.BytesLaws.{write-refused, write-done}
 use Rattle.guard.proofs.AccessLaws.{access-reaches}
 use borrow.Author.Needs.{needs}
-use Rattle.calls.specs.Calls.{writeMode}
+use Rattle.store.specs.Records.{writeMode}
 use Rattle.guard.proofs.bytes.write.Statement.{statement}
 use Rattle.guard.proofs.bytes.write.Tie as tie
 

@@ -1,9 +1,9 @@
 -- By the two bounds.
 -- Assumes nothing.
-use Rattle.front.proofs.FrontLaws.{at-no-node, at-no-local, at-record}
+use Rattle.store.proofs.RecordLaws.{at-no-node, at-no-local, at-record}
 use borrow.Author.Needs.{needs}
-use Rattle.front.proofs.record_at.Statement.{statement}
-use Rattle.front.proofs.record_at.Tie as tie
+use Rattle.store.proofs.records.record_at.Statement.{statement}
+use Rattle.store.proofs.records.record_at.Tie as tie
 
 returns : tie.Need-returns
 returns c = search (needs, at-no-node)

@@ -5,8 +5,8 @@ use lib.ListN.{replicate}
 use Rattle.store.specs.declared.Cluster.{Cluster}
 use Rattle.sizes.specs.Sizes.{records}
 use borrow.Author.Needs.{needs}
-use Rattle.store.proofs.starting.Statement.{statement}
-use Rattle.store.proofs.starting.Tie as tie
+use Rattle.store.proofs.records.starting.Statement.{statement}
+use Rattle.store.proofs.records.starting.Tie as tie
 
 returns : tie.Need-returns
 returns c = ap (λ (d : Cluster). record { clusters = replicate records d }) (c .inactive-cluster .ensures)

@@ -1,9 +1,9 @@
 -- Beyond the last segment a read gives an absent one.
 -- Assumes nothing.
-use Rattle.front.proofs.FrontLaws.{length-mapped, place-beyond}
+use Rattle.store.proofs.RecordLaws.{length-mapped, place-beyond}
 use borrow.Author.Needs.{needs}
-use Rattle.front.proofs.place_of.Statement.{statement}
-use Rattle.front.proofs.place_of.Tie as tie
+use Rattle.store.proofs.records.place_of.Statement.{statement}
+use Rattle.store.proofs.records.place_of.Tie as tie
 
 returns : tie.Need-returns
 returns c = search (needs, length-mapped, place-beyond)

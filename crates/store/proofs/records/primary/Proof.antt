@@ -1,9 +1,9 @@
 -- By the mode.
 -- Assumes nothing.
-use Rattle.front.proofs.FrontLaws.{primary-read, primary-write}
+use Rattle.store.proofs.RecordLaws.{primary-read, primary-write}
 use borrow.Author.Needs.{needs}
-use Rattle.front.proofs.primary.Statement.{statement}
-use Rattle.front.proofs.primary.Tie as tie
+use Rattle.store.proofs.records.primary.Statement.{statement}
+use Rattle.store.proofs.records.primary.Tie as tie
 
 returns : tie.Need-returns
 returns c = search (needs, primary-read)

@@ -2,10 +2,10 @@
 -- Assumes nothing.
 use mathlib.Core.Path.{ap}
 use mathlib.Core.Bool.{true}
 use Rattle.store.specs.declared.Cluster.{Cluster}
 use borrow.Author.Needs.{needs}
-use Rattle.guard.proofs.create.started.Statement.{statement}
-use Rattle.guard.proofs.create.started.Tie as tie
+use Rattle.store.proofs.records.started.Statement.{statement}
+use Rattle.store.proofs.records.started.Tie as tie
 
 returns : tie.Need-returns
 returns c = ap (λ (d : Cluster). record { active = true; read = c .before .args .read; write = c .before .args .write; segments = d .segments }) (c .inactive-cluster .ensures)

@@ -1,9 +1,9 @@
 -- Beyond the last segment there is nothing to replace.
 -- Assumes nothing.
-use Rattle.front.proofs.FrontLaws.{length-mapped, with-beyond}
+use Rattle.store.proofs.RecordLaws.{length-mapped, with-beyond}
 use borrow.Author.Needs.{needs}
-use Rattle.front.proofs.with_place.Statement.{statement}
-use Rattle.front.proofs.with_place.Tie as tie
+use Rattle.store.proofs.records.with_place.Statement.{statement}
+use Rattle.store.proofs.records.with_place.Tie as tie
 
 returns : tie.Need-returns
 returns c = search (needs, length-mapped, with-beyond)

@@ -1,9 +1,9 @@
 -- By the mode.
 -- Assumes nothing.
-use Rattle.guard.proofs.PasswordLaws.{replaced-read, replaced-write}
+use Rattle.store.proofs.RecordLaws.{replaced-read, replaced-write}
 use borrow.Author.Needs.{needs}
-use Rattle.guard.proofs.change.with_password.Statement.{statement}
-use Rattle.guard.proofs.change.with_password.Tie as tie
+use Rattle.store.proofs.records.with_password.Statement.{statement}
+use Rattle.store.proofs.records.with_password.Tie as tie
 
 returns : tie.Need-returns
 returns c = search (needs, replaced-read)

@@ -1,0 +1,161 @@
+// A cluster's record: as it begins, and each of its parts read and replaced.
+ghost use mathlib.Core.Path.{_≡_};
+ghost use Prim.Native.Nat.{_<_};
+ghost use lib.ListN.{length};
+ghost use Rattle.loops.specs.First.{firstBytes};
+ghost use Rattle.sizes.specs.Sizes as sizes;
+ghost use Rattle.store.specs.Records as spec;
+ghost use Rattle.store.specs.Sound.{isAbsent};
+use crate::Cluster;
+use crate::Place;
+use crate::Segment;
+use crate::Store;
+use sizes::CLUSTERS;
+use sizes::NODES;
+use sizes::PASSWORD_BYTES;
+use sizes::Password;
+use sizes::RECORDS;
+use sizes::SEGMENTS;
+
+// The two modes.
+pub const READ_MODE: usize = 1;
+
+pub const WRITE_MODE: usize = 2;
+
+// A cluster's record as the starting store has it, and as a deleted cluster leaves it.
+pub fn inactive_cluster() -> Cluster
+    ensures { λ r. ⌜ r ≡ spec.inactive ⌝ }
+{
+    let segment = Segment {
+        place: Place::Absent,
+    };
+    Cluster {
+        active: false,
+        read: [0; PASSWORD_BYTES],
+        write: [0; PASSWORD_BYTES],
+        segments: [segment; SEGMENTS],
+    }
+}
+
+// The starting store: all clusters inactive.
+pub fn starting() -> Store
+    ensures { λ r. ⌜ r ≡ spec.startingStore ⌝ }
+{
+    let cluster = inactive_cluster();
+    Store {
+        clusters: [cluster; RECORDS],
+    }
+}
+
+// The record of a new cluster.
+pub fn started(read: Password, write: Password) -> Cluster
+    ensures { λ r. ⌜ r ≡ spec.started read write ⌝ }
+{
+    let mut cluster = inactive_cluster();
+    cluster.active = true;
+    cluster.read = read;
+    cluster.write = write;
+    cluster
+}
+
+// The number of a cluster's record, or 0 where there is no such place, so that the record can be looked up before the
+// place is judged.
+pub fn record_at(node: usize, local: usize) -> usize
+    ensures { λ r. ⌜ (r ≡ spec.recordAt node local) × (r < sizes.records) ⌝ }
+{
+    if NODES <= node {
+        return 0;
+    }
+    if CLUSTERS <= local {
+        return 0;
+    }
+    node * CLUSTERS + local
+}
+
+pub fn absent(place: Place) -> bool
+    ensures { λ r. ⌜ r ≡ isAbsent place ⌝ }
+{
+    match place {
+        Place::Absent => true,
+        Place::Present { base: _, length: _ } => false,
+    }
+}
+
+// Base and length of a place; zero where it is absent.
+pub fn base_of(place: Place) -> u16
+    ensures { λ r. ⌜ r ≡ spec.baseOf place ⌝ }
+{
+    match place {
+        Place::Absent => 0,
+        Place::Present { base, length: _ } => base,
+    }
+}
+
+pub fn length_of(place: Place) -> u16
+    ensures { λ r. ⌜ r ≡ spec.lengthOf place ⌝ }
+{
+    match place {
+        Place::Absent => 0,
+        Place::Present { base: _, length } => length,
+    }
+}
+
+// The place of a segment of a cluster; there is none above the last.
+pub fn place_of(cluster: Cluster, segment: usize) -> Place
+    ensures { λ r. ⌜ r ≡ spec.placeOf (spec.tableOf cluster) segment ⌝ }
+{
+    if SEGMENTS <= segment {
+        return Place::Absent;
+    }
+    let found = cluster.segments[segment];
+    found.place
+}
+
+// The record with the place of a segment replaced.
+pub fn with_place(cluster: Cluster, segment: usize, place: Place) -> Cluster
+    ensures { λ r. ⌜ r ≡ spec.withPlace cluster segment place ⌝ }
+{
+    let mut changed = cluster;
+    if SEGMENTS <= segment {
+        return changed;
+    }
+    changed.segments[segment] = Segment { place };
+    changed
+}
+
+// The primary password of a cluster for a mode.
+pub fn primary(cluster: Cluster, mode: usize) -> Password
+    ensures { λ r. ⌜ r ≡ spec.primaryOf cluster mode ⌝ }
+{
+    if mode == READ_MODE {
+        return cluster.read;
+    }
+    cluster.write
+}
+
+// The record with the primary password of a mode replaced.
+pub fn with_password(cluster: Cluster, mode: usize, password: Password) -> Cluster
+    ensures { λ r. ⌜ r ≡ spec.withPassword cluster mode password ⌝ }
+{
+    let mut changed = cluster;
+    if mode == READ_MODE {
+        changed.read = password;
+        return changed;
+    }
+    changed.write = password;
+    changed
+}
+
+// The first sixteen bytes of a part, by value; zeros where it has fewer.
+pub fn password_in(part: &[u8]) -> Password
+    ensures { λ r. ⌜ r ≡ firstBytes sizes.passwordBytes (now (part .entry)) ⌝ }
+{
+    let mut r = [0u8; PASSWORD_BYTES];
+    if part.len() < PASSWORD_BYTES {
+        return r;
+    }
+    for i in 0..PASSWORD_BYTES {
+        r[i] = part[i];
+    }
+    r
+}
