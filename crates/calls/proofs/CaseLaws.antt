@@ -8,17 +8,14 @@ use mathlib.Core.List.{List, [], _∷_, map}
 use Rattle.bits.specs.Sets.{has, setOf, count}
 use Rattle.bits.specs.Bytes.{bytes, wordFrom, word}
 use Rattle.loops.specs.Below.{every}
-use Rattle.loops.specs.Search.{leastFrom, least}
 use Rattle.sizes.specs.Sizes.{memory}
-use Rattle.handle.specs.Handles.{encoded, decoded, samePassword, validates}
+use Rattle.handle.specs.Handles.{encoded, decoded}
 use Rattle.store.specs.Sound.{inRanges, endsInside, inside, soundSegment, apart, nodeApart, zeroBytes, idle, settled}
 use Rattle.store.specs.Sound.{sound}
-use Rattle.store.specs.Placement.{clear, fits, newBase, placement}
 use Rattle.calls.specs.Calls.{Call}
-use Rattle.calls.specs.Numbers.{unsound, noPlace, badMode, badSegment, badSize, badField, gappedHandle, elsewhere}
-use Rattle.calls.specs.Numbers.{inUse, twins, inactiveCluster, valid, violated, notPrimary, notReferenced, oldPassword}
-use Rattle.calls.specs.Numbers.{segmentPresent, segmentAbsent, short, fullNode, spentHandle, number}
+use Rattle.calls.specs.Numbers.{number, tests}
 use Rattle.calls.specs.Cases.{added, sample, Case, damaged, refusals, orders, NumbersGiven}
+use Rattle.calls.proofs.Computing.{computing}
 use Rattle.calls.proofs.StepLaws.{numberBelow, number-below}
 
 sample-sound : sound sample memory ≡ true
@@ -34,24 +31,16 @@ numbers-below [] = refl
 numbers-below (c ∷ cs) = λ j. number-below added (c .call) sample memory sample-sound j ∷ numbers-below cs j
 
 refusals-below : map (λ (c : Case). sampleNumber (c .call)) refusals ≡ map (λ (c : Case). c .number) refusals
-unfolding has setOf count bytes word wordFrom every least leastFrom encoded decoded samePassword validates
-    placement newBase fits clear apart inside inRanges endsInside
-    noPlace badMode badSegment badSize badField gappedHandle elsewhere inUse twins inactiveCluster
-    valid violated notPrimary notReferenced oldPassword segmentPresent segmentAbsent short fullNode spentHandle
+unfolding tests computing
 refusals-below = refl
 
 orders-below : map (λ (c : Case). sampleNumber (c .call)) orders ≡ map (λ (c : Case). c .number) orders
-unfolding has setOf count bytes word wordFrom every least leastFrom encoded decoded samePassword validates
-    placement newBase fits clear apart inside inRanges endsInside
-    noPlace badMode badSegment badSize badField gappedHandle elsewhere inUse twins inactiveCluster
-    valid violated notPrimary notReferenced oldPassword segmentPresent segmentAbsent short fullNode spentHandle
+unfolding tests computing
 orders-below = refl
 
 damaged-told : map (λ (c : Case). number added (c .call) sample (memory - 1)) damaged
     ≡ map (λ (c : Case). c .number) damaged
-unfolding number unsound sound has setOf count bytes word wordFrom encoded decoded noPlace badMode badSegment badSize
-    badField gappedHandle elsewhere inUse twins inactiveCluster violated notPrimary notReferenced oldPassword
-    segmentPresent segmentAbsent short fullNode spentHandle
+unfolding number sound has setOf count bytes word wordFrom encoded decoded tests
 damaged-told = refl
 
 pub numbers-given : NumbersGiven

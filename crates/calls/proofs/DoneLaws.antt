@@ -19,12 +19,12 @@ use Rattle.store.specs.Placement.{noRoomNumber, answered, newBase, placement}
 use Rattle.calls.specs.Calls.{Call, call, Arguments, newCluster, newSegment, write, opens}
 use Rattle.calls.specs.Calls.{needed, handleOf, nodeFor, localFor, recordFor, recordNamed, placeFor}
 use Rattle.calls.specs.Numbers.{unsound, noPlace, badMode, badSegment, badSize, badField, gappedHandle, elsewhere}
-use Rattle.calls.specs.Numbers.{inUse, twins, inactiveCluster, valid, violated, notPrimary, notReferenced}
+use Rattle.calls.specs.Numbers.{inUse, twins, inactiveCluster, valid, violated, notPrimary, notReferenced, at}
 use Rattle.calls.specs.Numbers.{oldPassword}
 use Rattle.calls.specs.Numbers.{segmentPresent, segmentAbsent, short, fullNode, spentHandle, rows, number}
 use Rattle.calls.specs.Steps.{newBaseFor}
-use Rattle.calls.specs.Clear.{NoRow, DoneIsClear}
-use Rattle.calls.proofs.FirstLaws.{at, Clear, first-clear, clear-first}
+use Rattle.calls.specs.Clear.{NoRow, DoneIsClear, Clear}
+use Rattle.calls.proofs.FirstLaws.{_▸_, first-clear, clear-first}
 use Rattle.calls.proofs.CallLaws.{or-left, or-right, InRange, in-range, mode-known}
 use Rattle.calls.proofs.CallLaws.{record-is, ungapped-is, inactive-is, violated-is}
 
@@ -58,43 +58,24 @@ module _ (f : Name → List ℕ → ℕ → List ℕ) where
         }
 
     to-clear : NoRow f x s size → Clear (at x s (rows f size))
-    to-clear r = (
-      r .unsound,
-      (
-        r .noPlace,
-        (
-          r .badField,
-          (
-            r .gappedHandle,
-            (
-              r .elsewhere,
-              (
-                r .inUse,
-                (
-                  r .twins,
-                  (
-                    r .inactiveCluster,
-                    (
-                      r .violated,
-                      (
-                        r .notPrimary,
-                        (
-                          r .notReferenced,
-                          (
-                            r .oldPassword,
-                            (r .segmentPresent, (r .segmentAbsent, (r .short, (r .fullNode, (r .spentHandle, tt))))),
-                          ),
-                        ),
-                      ),
-                    ),
-                  ),
-                ),
-              ),
-            ),
-          ),
-        ),
-      ),
-    )
+    to-clear r =
+        r .unsound ▸
+        r .noPlace ▸
+        r .badField ▸
+        r .gappedHandle ▸
+        r .elsewhere ▸
+        r .inUse ▸
+        r .twins ▸
+        r .inactiveCluster ▸
+        r .violated ▸
+        r .notPrimary ▸
+        r .notReferenced ▸
+        r .oldPassword ▸
+        r .segmentPresent ▸
+        r .segmentAbsent ▸
+        r .short ▸
+        r .fullNode ▸
+        r .spentHandle ▸ tt
 
     pub no-row : number f x s size ≡ 0 → NoRow f x s size
     unfolding number

@@ -5,16 +5,12 @@ use mathlib.Core.Path.{_≡_, refl, ap, _∙_}
 use Prim.Native.Nat.{_<_}
 use native.Mathlib.Omega.{arith}
 use mathlib.Core.Bool.{Bool, true, false, cond}
-use mathlib.Core.List.{List, [], _∷_, map}
+use mathlib.Core.List.{List, [], _∷_}
 use Rattle.handle.specs.Handles.{Row, firstOf}
 use Rattle.store.specs.declared.Store.{Store}
 use Rattle.calls.specs.Calls.{Call}
-
-abbrev pub Line : Type 0
-Line = Call → Store → Row
-
-abbrev pub at : Call → Store → List Line → List Row
-at x s ls = map (λ (l : Line). l x s) ls
+use Rattle.calls.specs.Numbers.{Line, at}
+use Rattle.calls.specs.Clear.{Clear}
 
 module _ (x : Call) (a b : Store) where
   abbrev pub Agree : List Line → Type 0
@@ -37,10 +33,10 @@ abbrev pub Numbered : List Row → Type 0
 Numbered [] = Unit {0}
 Numbered (r ∷ rs) = (0 < r .number) × Numbered rs
 
--- no row applies
-abbrev pub Clear : List Row → Type 0
-Clear [] = Unit {0}
-Clear (r ∷ rs) = (r .applies ≡ false) × Clear rs
+-- what holds of a row, and what holds of the rows below it
+infixr 2 _▸_
+pub _▸_ : {A B : Type 0} → A → B → A × B
+_▸_ a b = (a, b)
 
 pub first-clear : (rs : List Row) → Numbered rs → firstOf rs ≡ 0 → Clear rs
 first-clear [] n e = tt

@@ -1,6 +1,8 @@
 pub mod FirstLaws
 pub mod StepLaws
+pub mod WeakenLaws
 pub mod MemoryLaws
+pub mod Computing
 pub mod CallLaws
 pub mod DoneLaws
 pub mod ExampleLaws

@@ -9,14 +9,13 @@ use Rattle.loops.proofs.BelowLaws.{and-off}
 use Rattle.handle.specs.Handles.{Name, firstOf}
 use Rattle.store.specs.declared.Store.{Store}
 use Rattle.store.specs.Sound.{sound}
-use Rattle.calls.specs.Calls.{Copy, Call, Arguments, call, deleteCluster, deleteSegment, reduce, validate}
+use Rattle.calls.specs.Calls.{Copy, Call, Arguments, call, deleteCluster, deleteSegment, reduce}
+use Rattle.calls.specs.Calls.{validate}
 use Rattle.calls.specs.Calls.{among, buffer}
-use Rattle.calls.specs.Numbers.{unsound, noPlace, badMode, badSegment, badSize, badField, gappedHandle, elsewhere}
-use Rattle.calls.specs.Numbers.{inUse, twins, inactiveCluster, valid, violated, notPrimary, notReferenced}
-use Rattle.calls.specs.Numbers.{oldPassword, segmentPresent, segmentAbsent, short, fullNode, spentHandle, rows}
+use Rattle.calls.specs.Numbers.{unsound, tests, Line, at}
+use Rattle.calls.specs.Numbers.{rows}
 use Rattle.calls.specs.Numbers.{number}
 use Rattle.calls.specs.Steps.{plain, clusterDeleted, segmentDeleted, left, given, outcome, step}
-use Rattle.calls.proofs.FirstLaws.{Line, at}
 
 module _ (f : Name → List ℕ → ℕ → List ℕ) (x : Call) (c : Copy) where
   pub step-refused : (n : ℕ) → number f x (c .store) (length (c .memory)) ≡ n → (n ≡ 0 → ⊥)
@@ -39,8 +38,7 @@ deleting-keeps-bytes x c = (refl, refl)
 -- validation's number is reduction's
 pub number-validate : (f : Name → List ℕ → ℕ → List ℕ) (g : Arguments) (s : Store) (size : ℕ)
     → number f (call validate g) s size ≡ number f (call reduce g) s size
-unfolding number unsound noPlace badField badMode badSegment badSize gappedHandle elsewhere inUse twins inactiveCluster
-    valid violated notPrimary notReferenced oldPassword segmentPresent segmentAbsent short fullNode spentHandle
+unfolding number tests
 number-validate f g s size = refl
 
 -- ---- in a sound store

@@ -5,6 +5,7 @@
 --     Arguments               what a call may carry: handles as 23 bytes, passwords as sixteen; `bytes` are a read's
 --                             buffer or a write's data
 --     Call, call              a kind and its arguments
+--     makingCluster .. validating    each call by name, with what it uses; its other arguments are zero or empty
 --     code                    the code by which the tables name a kind; validation has the numbers of call 8
 --     among cs k              the code of k is one of cs
 --     opens                   the kinds that open a cluster by a handle
@@ -63,6 +64,52 @@ pub record Call : Type 0 where
 abbrev pub call : Kind → Arguments → Call
 call k g = record { kind = k; args = g }
 
+-- the fields in the order of the record
+abbrev arguments : ℕ → ℕ → ℕ → ℕ → ℕ → ℕ → List ℕ → List ℕ → List ℕ → List ℕ → Arguments
+arguments current local mode segment size mask handle first second bytes =
+    record {
+      current = current;
+      local = local;
+      mode = mode;
+      segment = segment;
+      size = size;
+      mask = mask;
+      handle = handle;
+      first = first;
+      second = second;
+      bytes = bytes;
+    }
+
+abbrev pub makingCluster : ℕ → ℕ → List ℕ → List ℕ → Call
+makingCluster current local first second = call newCluster (arguments current local 0 0 0 0 [] first second [])
+
+abbrev pub deletingCluster : ℕ → List ℕ → Call
+deletingCluster current handle = call deleteCluster (arguments current 0 0 0 0 0 handle [] [] [])
+
+abbrev pub makingSegment : ℕ → ℕ → ℕ → List ℕ → Call
+makingSegment current segment size handle = call newSegment (arguments current 0 0 segment size 0 handle [] [] [])
+
+abbrev pub deletingSegment : ℕ → ℕ → List ℕ → Call
+deletingSegment current segment handle = call deleteSegment (arguments current 0 0 segment 0 0 handle [] [] [])
+
+abbrev pub reading : ℕ → List ℕ → List ℕ → Call
+reading segment handle buffer = call read (arguments 0 0 0 segment 0 0 handle [] [] buffer)
+
+abbrev pub writing : ℕ → List ℕ → List ℕ → Call
+writing segment handle written = call write (arguments 0 0 0 segment 0 0 handle [] [] written)
+
+abbrev pub weakeningBy : ℕ → List ℕ → Call
+weakeningBy mask handle = call weaken (arguments 0 0 0 0 0 mask handle [] [] [])
+
+abbrev pub reducing : ℕ → List ℕ → Call
+reducing mode handle = call reduce (arguments 0 0 mode 0 0 0 handle [] [] [])
+
+abbrev pub renewing : ℕ → List ℕ → List ℕ → Call
+renewing mode handle password = call newPassword (arguments 0 0 mode 0 0 0 handle password [] [])
+
+abbrev pub validating : ℕ → List ℕ → Call
+validating mode handle = call validate (arguments 0 0 mode 0 0 0 handle [] [] [])
+
 abbrev pub code : Kind → ℕ
 code newCluster = 1
 code deleteCluster = 2
@@ -96,8 +143,8 @@ pub record Uses : Type 0 where
   pub second : Bool
   pub bytes : Bool
 
-abbrev row : Bool → Bool → Bool → Bool → Bool → Bool → Bool → Bool → Bool → Bool → Uses
-row c l m s z k h p q b =
+abbrev looks : Bool → Bool → Bool → Bool → Bool → Bool → Bool → Bool → Bool → Bool → Uses
+looks c l m s z k h p q b =
     record {
       current = c;
       local = l;
@@ -120,16 +167,16 @@ o = false
 
 -- the columns: current, local, mode, segment, size, mask, handle, first, second, bytes
 abbrev pub uses : Kind → Uses
-uses newCluster = row x x o o o o o x x o
-uses deleteCluster = row x o o o o o x o o o
-uses newSegment = row x o o x x o x o o o
-uses deleteSegment = row x o o x o o x o o o
-uses read = row o o o x o o x o o x
-uses write = row o o o x o o x o o x
-uses weaken = row o o o o o x x o o o
-uses reduce = row o o x o o o x o o o
-uses newPassword = row o o x o o o x x o o
-uses validate = row o o x o o o x o o o
+uses newCluster = looks x x o o o o o x x o
+uses deleteCluster = looks x o o o o o x o o o
+uses newSegment = looks x o o x x o x o o o
+uses deleteSegment = looks x o o x o o x o o o
+uses read = looks o o o x o o x o o x
+uses write = looks o o o x o o x o o x
+uses weaken = looks o o o o o x x o o o
+uses reduce = looks o o x o o o x o o o
+uses newPassword = looks o o x o o o x x o o
+uses validate = looks o o x o o o x o o o
 
 abbrev pub needed : Call → ℕ
 needed x =

@@ -1,12 +1,13 @@
 -- Document 01, "Numbers a call may be turned down with": 0 means done.
+--     Clear rs            no row of rs applies
 --     NoRow f x s size    no row of the table applies to the call x, row by row
 --     DoneIsClear         a number is 0 just where no row applies
 -- Assumes nothing.
 use mathlib.Core.Path.{_≡_}
 use Prim.Native.Nat.{ℕ}
 use mathlib.Core.Bool.{false}
-use mathlib.Core.List.{List}
-use Rattle.handle.specs.Handles.{Name}
+use mathlib.Core.List.{List, [], _∷_}
+use Rattle.handle.specs.Handles.{Name, Row}
 use Rattle.store.specs.declared.Store.{Store}
 use Rattle.store.specs.Records.{tableAt}
 use Rattle.calls.specs.Calls.{Call}
@@ -14,6 +15,10 @@ use Rattle.calls.specs.Numbers.{unsound, noPlace, badField, gappedHandle
 use Rattle.calls.specs.Numbers.{inactiveCluster}
 use Rattle.calls.specs.Numbers.{violated, notPrimary, notReferenced, oldPassword, segmentPresent, segmentAbsent}
 use Rattle.calls.specs.Numbers.{short, fullNode, spentHandle, number}
+
+abbrev pub Clear : List Row → Type 0
+Clear [] = Unit {0}
+Clear (r ∷ rs) = (r .applies ≡ false) × Clear rs
 
 module _ (f : Name → List ℕ → ℕ → List ℕ) where
   pub record NoRow (x : Call) (s : Store) (size : ℕ) : Type 0 where

@@ -4,7 +4,6 @@
 --     Question            what is asked of a selector, of placement, or the number of a call on a store
 --     Answer              what is told
 --     Example, answer     a question and what is told; what the definitions answer
---     arguments           a call's arguments: a handle, a mask and a size; the other fields are zero or empty
 --     shown ss            the bytes of the handle of node 0 and local number 2 with the selector ss, its password zero
 --     weakening m ss      call 7 with the mask m and a handle with the selector ss
 --     making n            call 3 for n bytes on node 0, with the write primary handle of local number 2
@@ -20,7 +19,7 @@ use Rattle.handle.specs.Examples as S
 use Rattle.store.specs.declared.Store.{Store}
 use Rattle.store.specs.Placement.{noRoomNumber, Answer as Placed}
 use Rattle.store.specs.Examples as P
-use Rattle.calls.specs.Calls.{Call, call, Arguments, newSegment, weaken}
+use Rattle.calls.specs.Calls.{Call, makingSegment, weakeningBy}
 use Rattle.calls.specs.Numbers.{number}
 
 pub data Question : Type 0 where
@@ -40,29 +39,14 @@ pub record Example : Type 0 where
 abbrev row : Question → Answer → Example
 row q a = record { asked = q; told = a }
 
-abbrev arguments : List ℕ → ℕ → ℕ → Arguments
-arguments h mask size =
-    record {
-      current = 0;
-      local = 0;
-      mode = 0;
-      segment = 0;
-      size = size;
-      mask = mask;
-      handle = h;
-      first = [];
-      second = [];
-      bytes = [];
-    }
-
 abbrev shown : List ℕ → List ℕ
 shown ss = encoded (record { node = 0; local = 2; password = replicate passwordBytes 0; selector = ss })
 
 abbrev pub weakening : ℕ → List ℕ → Call
-weakening mask ss = call weaken (arguments (shown ss) mask 0)
+weakening mask ss = weakeningBy mask (shown ss)
 
 abbrev pub making : ℕ → Call
-making size = call newSegment (arguments (shown (flats segments)) 0 size)
+making size = makingSegment 0 0 size (shown (flats segments))
 
 module _ (f : Name → List ℕ → ℕ → List ℕ) (password first : List ℕ) (mask : ℕ) (s : Store) (size : ℕ) where
   -- P1 to P9

@@ -18,9 +18,11 @@
 --     spentHandle          17, for 7: something would be excluded and no subselector is flat
 -- A row is made from a test by what the test may see: the call alone, the call and the clusters' tables, or the whole
 -- records. None sees a byte of the memory.
+--     Line, at x s ls      a row before it is known of which call and store; the rows of the lines ls at these
 --     byCall n t, byTables n t, byRecords n t    the row with the number n and the test t, at a call and a store
 --     rows f size          the rows in the table's order, for a slice of that many bytes
 --     number f x s size    the number that the call x gets: that of the first row that applies, or 0
+--     tests                a name that opens the test of every row at once
 -- Over a conversion f, which takes a cluster's name, a password and a parameter to a password:
 --     valid f m h s        the handle h validates in the mode m
 -- Assumes nothing.
@@ -115,13 +117,19 @@ oldPassword x s = among (9 ∷ []) (x .kind) && isOld (x .args .first) (clusterA
 
 -- ---- the table
 
-abbrev pub byCall : ℕ → (Call → Bool) → Call → Store → Row
+abbrev pub Line : Type 0
+Line = Call → Store → Row
+
+abbrev pub at : Call → Store → List Line → List Row
+at x s ls = map (λ (l : Line). l x s) ls
+
+abbrev pub byCall : ℕ → (Call → Bool) → Line
 byCall n t x s = record { number = n; applies = t x }
 
-abbrev pub byTables : ℕ → (Call → Tables → Bool) → Call → Store → Row
+abbrev pub byTables : ℕ → (Call → Tables → Bool) → Line
 byTables n t x s = record { number = n; applies = t x (tableAt s) }
 
-abbrev pub byRecords : ℕ → (Call → Store → Bool) → Call → Store → Row
+abbrev pub byRecords : ℕ → (Call → Store → Bool) → Line
 byRecords n t x s = record { number = n; applies = t x s }
 
 module _ (f : Name → List ℕ → ℕ → List ℕ) where
@@ -131,7 +139,7 @@ module _ (f : Name → List ℕ → ℕ → List ℕ) where
   unfoldable pub violated : Call → Store → Bool
   violated x s = opens (x .kind) && anyOf (λ h. not (valid (needed x) h s)) (presented x)
 
-  abbrev pub rows : ℕ → List (Call → Store → Row)
+  abbrev pub rows : ℕ → List Line
   rows size =
       byRecords 1 (unsound size)
       ∷ byCall 2 noPlace
@@ -153,4 +161,9 @@ module _ (f : Name → List ℕ → ℕ → List ℕ) where
       ∷ []
 
   unfoldable pub number : Call → Store → ℕ → ℕ
-  number x s size = firstOf (map (λ (r : Call → Store → Row). r x s) (rows size))
+  number x s size = firstOf (at x s (rows size))
+
+unfoldable pub tests : Unit {0}
+unfolding unsound noPlace badMode badSegment badSize badField gappedHandle elsewhere inUse twins inactiveCluster valid
+    violated notPrimary notReferenced oldPassword segmentPresent segmentAbsent short fullNode spentHandle
+tests = tt

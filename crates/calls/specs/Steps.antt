@@ -7,6 +7,7 @@
 --     plain n b           the reply with the number n and the buffer b alone
 --     handles a b n       the reply of a call done with the handles a and b and the count n
 --     readReply n b       the reply of a read done: the length n and the buffer b
+--     weakenReply w       the handle crate's reply to a weakening, as a reply
 --     overwritten m a bs  the bytes m with bs from place a on
 --     putCluster          the copy with one record replaced
 --     putBytes            the copy with some bytes of its memory overwritten
@@ -32,12 +33,14 @@
 --     followed r n        the reply r, and then the list's
 --     run f               the replies of a list of calls, and the copy at its end
 --     aesStep             the step by the AES conversion, which takes in no name
+--     effects             a name that opens what each call leaves and gives
 -- Assumes nothing.
 use Prim.Native.Nat.{ℕ, zero, suc, _+_}
 use mathlib.Core.List.{List, [], _∷_, _++_}
 use lib.ListN.{length, take, drop, replicate}
 use Rattle.sizes.specs.Sizes.{segments}
 use Rattle.handle.specs.declared.Handle.{Handle}
+use Rattle.handle.specs.declared.Weakened.{Weakened}
 use Rattle.handle.specs.Sizes.{handleBytes}
 use Rattle.handle.specs.Selectors.{referenced}
 use Rattle.handle.specs.Handles.{Name, nameOf, widthOf, encoded, weakened, reduced}
@@ -49,7 +52,7 @@ use Rattle.store.specs.declared.Cluster.{Cluster}
 use Rattle.store.specs.Records.{Tables, inactive, started, clusterAt, tableAt, putRecord, withPlace, withPassword}
 use Rattle.store.specs.Placement.{placement}
 use Rattle.calls.specs.Calls.{Copy, Call, Kind, newCluster, deleteCluster, newSegment, deleteSegment}
-use Rattle.store.specs.Records.{readMode, lengthOf, address, primaryOf}
+use Rattle.store.specs.Records.{lengthOf, address, primaryOf}
 use Rattle.calls.specs.Calls.{read, write, weaken, reduce, newPassword, validate}
 use Rattle.calls.specs.Calls.{handleOf, buffer, nodeFor, localFor, recordFor, placeFor}
 use Rattle.calls.specs.Calls.{startFor}
@@ -87,6 +90,17 @@ handles a b n = record { number = 0; first = a; second = b; count = n; length = 
 
 abbrev pub readReply : ℕ → List ℕ → Reply
 readReply n b = record { number = 0; first = zeroHandle; second = zeroHandle; count = 0; length = n; buffer = b }
+
+abbrev pub weakenReply : Weakened → Reply
+weakenReply w =
+    record {
+      number = w .number;
+      first = encoded (w .handle);
+      second = zeroHandle;
+      count = w .count;
+      length = 0;
+      buffer = [];
+    }
 
 -- ---- changes
 
@@ -194,3 +208,7 @@ module _ (f : Name → List ℕ → ℕ → List ℕ) where
 
 abbrev pub aesStep : Call → Copy → Outcome
 aesStep = step (λ n. conversion)
+
+unfoldable pub effects : Unit {0}
+unfolding left given clusterMade clusterDeleted segmentMade segmentDeleted segmentWritten passwordReplaced segmentRead
+effects = tt

@@ -17,7 +17,8 @@ use Rattle.store.specs.declared.Store.{Store}
 use Rattle.store.specs.Records.{clusterAt, writeMode, recordAt}
 use Rattle.store.specs.Sound.{sound}
 use Rattle.calls.specs.Calls.{recordNamed}
-use Rattle.calls.proofs.FirstLaws.{Numbered, Clear, first-clear}
+use Rattle.calls.specs.Clear.{Clear}
+use Rattle.calls.proofs.FirstLaws.{Numbered, first-clear}
 use Rattle.calls.proofs.CallLaws.{or-left}
 use Rattle.front.specs.Entries.{row, openRows, frontRows, ownerRows, after}
 

@@ -21,9 +21,7 @@ use Rattle.store.specs.Sound.{sound}
 use Rattle.front.specs.declared.Answer.{Answer}
 use Rattle.front.specs.declared.Done.{Done}
 use Rattle.calls.specs.Calls.{Call, call, newCluster, weaken}
-use Rattle.calls.specs.Numbers.{noPlace, badMode, badSegment, badSize, badField, gappedHandle, elsewhere, twins}
-use Rattle.calls.specs.Numbers.{notPrimary, notReferenced, spentHandle, inUse, inactiveCluster, segmentPresent}
-use Rattle.calls.specs.Numbers.{segmentAbsent, short, fullNode, unsound, oldPassword, valid, violated, number}
+use Rattle.calls.specs.Numbers.{number, tests}
 use Rattle.calls.specs.Steps.{handles, zeroHandle, outcome, step, aesStep, left, given, clusterMade}
 use Rattle.front.specs.Entries.{handlesAlone, primaryBytes, copyOf, asked, ended, leftAlone}
 use Rattle.calls.proofs.StepLaws.{step-done}
@@ -39,7 +37,7 @@ module _ (s : Store) (m : List ℕ) (current local : ℕ) (r w : List ℕ) where
       ≡ cond (not (sound s (length m))) 1
       (cond (leb nodes current || leb clusters local) 2
       (cond (clusterAt s (current * clusters + local) .active) 6 (cond (samePassword r w) 7 0)))
-  unfolding number noPlace badField badMode badSegment badSize gappedHandle elsewhere twins notPrimary notReferenced spentHandle inUse inactiveCluster segmentPresent segmentAbsent short fullNode unsound oldPassword valid violated
+  unfolding number tests
   told = refl
 
   module _ (sd : Bool) (es : sd ≡ sound s (length m)) where
@@ -100,7 +98,7 @@ module _ (b : List ℕ) (mask : ℕ) where
   -- weakening's number in the table is the handle's
   pub number-weaken : (s : Store) (size : ℕ)
       → number (λ k. conversion) weakening-call s size ≡ weakenNumber (widthOf h) h mask
-  unfolding number noPlace badField badMode badSegment badSize gappedHandle elsewhere twins notPrimary notReferenced spentHandle inUse inactiveCluster segmentPresent segmentAbsent short fullNode unsound oldPassword valid violated weakenNumber
+  unfolding number weakenNumber tests
   number-weaken s size = simp or-false
 
   abbrev said : Weakened → List ℕ → Answer

@@ -18,9 +18,8 @@ use Rattle.store.specs.Sound.{isAbsent, sound}
 use Rattle.store.specs.Placement.{noRoomNumber, placement}
 use Rattle.calls.specs.Calls.{call, deleteCluster, newSegment, deleteSegment, read, write, reduce, newPassword}
 use Rattle.calls.specs.Calls.{recordNamed}
-use Rattle.calls.specs.Numbers.{unsound, noPlace, badMode, badSegment, badSize, badField, gappedHandle, elsewhere, inUse}
-use Rattle.calls.specs.Numbers.{twins, inactiveCluster, valid, violated, notPrimary, notReferenced, isOld, oldPassword}
-use Rattle.calls.specs.Numbers.{segmentPresent, segmentAbsent, short, fullNode, spentHandle, number}
+use Rattle.calls.specs.Numbers.{isOld, tests}
+use Rattle.calls.specs.Numbers.{number}
 use Rattle.front.specs.Entries.{badModes, asked, row, frontRows, ownerRows}
 use Rattle.guard.specs.Access.{accessRows}
 use Rattle.guard.specs.Makes.{badFields}
@@ -35,9 +34,7 @@ module _ (s : Store) (size : ℕ) (b : List ℕ) where
   pub number-delete-cluster : (current : ℕ)
       → number (λ m. conversion) (call deleteCluster (asked current 0 0 0 0 0 b [] [] [])) s size
       ≡ firstOf (ownerRows (sound s size) h c current false ++ [])
-  unfolding number unsound noPlace badMode badSegment badSize badField gappedHandle elsewhere inUse twins inactiveCluster
-      valid violated notPrimary notReferenced oldPassword segmentPresent segmentAbsent short fullNode spentHandle
-      ownerRows
+  unfolding number ownerRows tests
   number-delete-cluster current = simp or-false
 
   pub number-new-segment : (current segment bytes : ℕ)
@@ -47,9 +44,7 @@ module _ (s : Store) (size : ℕ) (b : List ℕ) where
       ++ (row 13 (not (isAbsent (placeOf (tableOf c) segment)))
       ∷ row 16 (eqb (placement (tableAt s) (h .node) bytes .number) noRoomNumber)
       ∷ []))
-  unfolding number unsound noPlace badMode badSegment badSize badField gappedHandle elsewhere inUse twins inactiveCluster
-      valid violated notPrimary notReferenced oldPassword segmentPresent segmentAbsent short fullNode spentHandle
-      ownerRows
+  unfolding number ownerRows tests
   number-new-segment current segment bytes = simp or-false
 
   pub number-delete-segment : (current segment : ℕ)
@@ -57,9 +52,7 @@ module _ (s : Store) (size : ℕ) (b : List ℕ) where
       ≡ firstOf
       (ownerRows (sound s size) h c current (leb segments segment)
       ++ (row 14 (isAbsent (placeOf (tableOf c) segment)) ∷ []))
-  unfolding number unsound noPlace badMode badSegment badSize badField gappedHandle elsewhere inUse twins inactiveCluster
-      valid violated notPrimary notReferenced oldPassword segmentPresent segmentAbsent short fullNode spentHandle
-      ownerRows
+  unfolding number ownerRows tests
   number-delete-segment current segment = simp or-false
 
   pub number-read : (i : ℕ) (d : List ℕ)
@@ -67,8 +60,7 @@ module _ (s : Store) (size : ℕ) (b : List ℕ) where
       ≡ firstOf
       (frontRows (sound s size) h c false (leb segments i) false readMode
       ++ accessRows h (placeOf (tableOf c) i) i (length d))
-  unfolding number unsound noPlace badMode badSegment badSize badField gappedHandle elsewhere inUse twins inactiveCluster
-      valid violated notPrimary notReferenced oldPassword segmentPresent segmentAbsent short fullNode spentHandle
+  unfolding number tests
   number-read i d = simp or-false
 
   pub number-write : (i : ℕ) (d : List ℕ)
@@ -76,15 +68,13 @@ module _ (s : Store) (size : ℕ) (b : List ℕ) where
       ≡ firstOf
       (frontRows (sound s size) h c false (leb segments i) false writeMode
       ++ accessRows h (placeOf (tableOf c) i) i (length d))
-  unfolding number unsound noPlace badMode badSegment badSize badField gappedHandle elsewhere inUse twins inactiveCluster
-      valid violated notPrimary notReferenced oldPassword segmentPresent segmentAbsent short fullNode spentHandle
+  unfolding number tests
   number-write i d = simp or-false
 
   pub number-reduce : (mode : ℕ)
       → number (λ m. conversion) (call reduce (asked 0 0 mode 0 0 0 b [] [] [])) s size
       ≡ firstOf (frontRows (sound s size) h c false (badModes mode) false mode ++ [])
-  unfolding number unsound noPlace badMode badSegment badSize badField gappedHandle elsewhere inUse twins inactiveCluster
-      valid violated notPrimary notReferenced oldPassword segmentPresent segmentAbsent short fullNode spentHandle
+  unfolding number tests
   number-reduce mode = simp or-false
 
   pub number-new-password : (mode : ℕ) (p : List ℕ)
@@ -92,6 +82,5 @@ module _ (s : Store) (size : ℕ) (b : List ℕ) where
       ≡ firstOf
       (frontRows (sound s size) h c false (badModes mode) false mode
       ++ (row 10 (not (allFlat (widthOf h) (h .selector))) ∷ row 12 (isOld p c) ∷ []))
-  unfolding number unsound noPlace badMode badSegment badSize badField gappedHandle elsewhere inUse twins inactiveCluster
-      valid violated notPrimary notReferenced oldPassword segmentPresent segmentAbsent short fullNode spentHandle
+  unfolding number tests
   number-new-password mode p = simp or-false

@@ -27,8 +27,7 @@ use Rattle.store.proofs.PlacementLaws.{newBase-fits}
 use Rattle.calls.specs.Calls.{Copy, Kind, Call, Arguments, call, newCluster, deleteCluster, newSegment, deleteSegment}
 use Rattle.calls.specs.Calls.{read, write, weaken, reduce, newPassword, validate, nodeFor, recordFor}
 use Rattle.calls.specs.Numbers.{number}
-use Rattle.calls.specs.Steps.{about, newBaseFor, outcome, step, left}
-use Rattle.calls.specs.Steps.{clusterMade, clusterDeleted, segmentMade, segmentDeleted, segmentWritten, passwordReplaced}
+use Rattle.calls.specs.Steps.{about, newBaseFor, outcome, step, left, effects}
 use Rattle.calls.proofs.DoneLaws.{done-range, new-base}
 use Rattle.image.specs.Parts.{slot, part}
 use Rattle.image.specs.Images.{placeBytes, recordBytes, imageBytes, placesAt, readAt, writeAt, baseIn, lengthIn}
@@ -162,7 +161,7 @@ module _ (f : Name → List ℕ → ℕ → List ℕ) where
 
     left-fits : (kind : Kind) → PasswordsFit (call kind g) → number f (call kind g) (c .store) (length (c .memory)) ≡ 0
         → StoreFits (left kind (call kind g) c .store)
-    unfolding left clusterMade clusterDeleted segmentMade segmentDeleted segmentWritten passwordReplaced
+    unfolding effects
     left-fits newCluster p e = put-fits (c .store) _ _ k (started-fits (g .first) (g .second) (p .first refl) (p .second refl))
     left-fits deleteCluster p e = put-fits (c .store) _ _ k inactive-fits
     left-fits newSegment p e =

@@ -16,27 +16,27 @@ use Rattle.loops.proofs.BelowLaws.{test-off}
 use Rattle.sizes.specs.Sizes.{passwordBytes}
 use Rattle.handle.specs.declared.Handle.{Handle}
 use Rattle.handle.specs.Sizes.{passwordAt, handleBytes}
-use Rattle.handle.specs.Selectors.{references, allFlat, gapped, spent, referenced}
-use Rattle.handle.specs.Handles.{Name, nameOf, nodeOf, widthOf, decoded, noSuchPlace, firstOf, reply}
-use Rattle.handle.specs.Handles.{weakenNumber, validates, weakened, weakening}
+use Rattle.handle.specs.Selectors.{references, allFlat}
+use Rattle.handle.specs.Handles.{Name, nameOf, nodeOf, widthOf, decoded, firstOf, reply}
+use Rattle.handle.specs.Handles.{validates}
 use Rattle.handle.proofs.PasswordLaws.{equal-validates, validates-equal}
-use Rattle.handle.proofs.CodecLaws.{encoded-none}
 use Rattle.store.specs.declared.Store.{Store}
 use Rattle.store.specs.Records.{clusterAt, tableAt, readMode, writeMode, primaryOf}
 use Rattle.store.specs.Sound.{sound}
-use Rattle.calls.specs.Calls.{Copy, Call, call, Arguments, Kind, newCluster, deleteCluster, newSegment, deleteSegment}
+use Rattle.calls.specs.Calls.{Call, call, Arguments, Kind, newCluster, deleteCluster, newSegment, deleteSegment}
 use Rattle.calls.specs.Calls.{read, write, weaken, reduce, newPassword, validate, opens, needed}
 use Rattle.calls.specs.Calls.{handleOf, buffer, recordNamed}
 use Rattle.calls.specs.Numbers.{unsound, noPlace, badMode, badSegment, badSize, badField, gappedHandle, elsewhere}
-use Rattle.calls.specs.Numbers.{inUse, twins, inactiveCluster, valid, violated, notPrimary, notReferenced, oldPassword}
-use Rattle.calls.specs.Numbers.{segmentPresent, segmentAbsent, short, fullNode, spentHandle, number}
-use Rattle.calls.specs.Steps.{zeroHandle, plain, left, given, outcome, step}
+use Rattle.calls.specs.Numbers.{inUse, twins, inactiveCluster, valid, violated, notPrimary, notReferenced, tests}
+use Rattle.calls.specs.Numbers.{number, Line, at}
+use Rattle.calls.specs.Steps.{plain, outcome, step}
 use Rattle.isolation.specs.Copies.{SixteenBytes}
-use Rattle.isolation.specs.Checks.{Refused, RefusalChangesNothing, NoneApplies, FirstTold, Opener, MustHold, DoneHeld}
+use Rattle.isolation.specs.Checks.{Refused, RefusalChangesNothing, FirstTold, Opener, MustHold, DoneHeld}
 use Rattle.isolation.specs.Checks.{Judgeable, ValidationJudges, ValidationIsReduction}
-use Rattle.isolation.specs.Checks.{weakenReply, WeakeningIs}
-use Rattle.calls.proofs.FirstLaws.{Line, at}
+use Rattle.isolation.specs.Checks.{WeakeningIs}
 use Rattle.calls.proofs.StepLaws.{number-validate}
+use Rattle.calls.proofs.WeakenLaws.{step-weaken}
+use Rattle.calls.specs.Clear.{Clear}
 use Rattle.calls.proofs.CallLaws.{or-left, record-is, violated-is}
 use Rattle.calls.proofs.DoneLaws.{no-row, done-even, done-active, done-valid}
 
@@ -55,7 +55,7 @@ module _ (f : Name → List ℕ → ℕ → List ℕ) where
             reply = ap (λ (k : ℕ). outcome f k x c .reply) e ∙ ap (λ (k : ℕ). plain k (buffer x)) (sym e);
           }
 
-  first-from : (x : Call) (s : Store) (above below : List Line) (r : Line) → NoneApplies x s above → r x s .applies ≡ true
+  first-from : (x : Call) (s : Store) (above below : List Line) (r : Line) → Clear (at x s above) → r x s .applies ≡ true
       → firstOf (at x s (above ++ (r ∷ below))) ≡ r x s .number
   first-from x s [] below r n e = ap (λ (t : Bool). cond t (r x s .number) (firstOf (at x s below))) e
   first-from x s (l ∷ ls) below r n e =
@@ -154,8 +154,7 @@ module _ (f : Name → List ℕ → ℕ → List ℕ) where
         (cond (noPlace x) 2
         (cond (badField x) 3
         (cond (gappedHandle x) 4 (cond (inactiveCluster x (tableAt s)) 8 (cond (violated f x s) 9 0)))))
-    unfolding number elsewhere inUse twins notPrimary notReferenced oldPassword segmentPresent segmentAbsent short
-        fullNode spentHandle
+    unfolding number tests
     validation-rows = refl
 
     mode-good : (g .mode ≡ readMode) ⊎ (g .mode ≡ writeMode) → badField x ≡ false
@@ -209,57 +208,5 @@ module _ (f : Name → List ℕ → ℕ → List ℕ) where
 
   -- ---- weakening
 
-  module _ (g : Arguments) (c : Copy) where
-    abbrev y : Call
-    y = call weaken g
-
-    abbrev old : Handle
-    old = handleOf y
-
-    weaken-number : (s : Store) (size : ℕ) → number f y s size ≡ weakenNumber (widthOf old) old (g .mask)
-    unfolding number weakenNumber unsound noPlace badField badMode badSegment badSize gappedHandle elsewhere inUse twins
-        inactiveCluster violated notPrimary notReferenced oldPassword segmentPresent segmentAbsent short fullNode
-        spentHandle
-    weaken-number s size =
-        go (noSuchPlace old) (gapped (widthOf old) (old .selector)) (spent (widthOf old) (g .mask) (old .selector))
-      where
-        go : (a b d : Bool) → cond {A = ℕ} (a || false || false || false) 2 (cond (b || false) 4 (cond d 17 0))
-            ≡ cond a 2 (cond b 4 (cond d 17 0))
-        go true b d = refl
-        go false true d = refl
-        go false false d = refl
-
   pub weakening-is : WeakeningIs f
-  unfolding step weakening left given
-  weakening-is g c =
-      ap (λ (n : ℕ). outcome f n x c) (weaken-number g c (c .store) (length (c .memory)))
-      ∙ go (weakenNumber (widthOf h) h (g .mask))
-    where
-      x : Call
-      x = call weaken g
-
-      h : Handle
-      h = handleOf x
-
-      w : Handle
-      w = weakened (widthOf h) (f (nameOf h)) h (g .mask)
-
-      go : (n : ℕ) → outcome f n x c
-          ≡ record { copy = c; reply = weakenReply (reply n w (referenced (widthOf h) (w .selector))) }
-      go zero = refl
-      go (suc n) =
-          ap
-          (λ (b : List ℕ).
-          record {
-            copy = c;
-            reply =
-                record {
-                  number = suc n;
-                  first = b;
-                  second = zeroHandle;
-                  count = 0;
-                  length = 0;
-                  buffer = [];
-                };
-          })
-          (sym encoded-none)
+  weakening-is = step-weaken f

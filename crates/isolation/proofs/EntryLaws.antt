@@ -19,8 +19,8 @@ use Rattle.store.proofs.ChangeLaws.{put-other, put-same, put-out}
 use Rattle.calls.specs.Calls.{Copy, Call, call, Arguments, Kind, newCluster, deleteCluster, newSegment, deleteSegment}
 use Rattle.calls.specs.Calls.{read, write, weaken, reduce, newPassword, validate, recordFor}
 use Rattle.store.specs.Records.{withPassword}
-use Rattle.calls.specs.Steps.{about, newPlace, clusterMade, clusterDeleted, segmentMade, segmentDeleted}
-use Rattle.calls.specs.Steps.{segmentWritten, passwordReplaced, left}
+use Rattle.calls.specs.Steps.{about, newPlace, effects}
+use Rattle.calls.specs.Steps.{left}
 use Rattle.isolation.specs.Copies.{Done}
 use Rattle.isolation.specs.Effects.{otherMode, OtherSegments, OtherPassword, Entries, EntriesStay}
 use Rattle.calls.proofs.DoneLaws.{done-mode}
@@ -80,7 +80,7 @@ other-stays a m p (inr q) =
 module _ (f : Name → List ℕ → ℕ → List ℕ) (g : Arguments) (c : Copy) where
   left-entries : (k : Kind) → Done f (call k g) c
       → Entries k (call k g) (about (call k g) c) (clusterAt (left k (call k g) c .store) (recordFor (call k g)))
-  unfolding left clusterMade clusterDeleted segmentMade segmentDeleted segmentWritten passwordReplaced
+  unfolding effects
   left-entries newCluster e = tt
   left-entries deleteCluster e = tt
   left-entries newSegment e =

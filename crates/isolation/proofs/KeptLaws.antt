@@ -23,9 +23,7 @@ use Rattle.calls.specs.Calls.{Copy, Call, call, Arguments, Kind, newCluster, de
 use Rattle.calls.specs.Calls.{read, write, weaken, reduce, newPassword, validate, nodeFor, localFor, recordFor}
 use Rattle.calls.specs.Calls.{start, placeFor, startFor}
 use Rattle.calls.specs.Numbers.{badSegment, number}
-use Rattle.calls.specs.Steps.{putCluster, about, newBaseFor, newPlace, newStart}
-use Rattle.calls.specs.Steps.{clusterMade, clusterDeleted, segmentMade, segmentDeleted, segmentWritten}
-use Rattle.calls.specs.Steps.{passwordReplaced}
+use Rattle.calls.specs.Steps.{putCluster, about, newBaseFor, newPlace, newStart, effects}
 use Rattle.calls.specs.Steps.{left, outcome, step}
 use Rattle.isolation.specs.Copies.{SoundCopy, Done, setApart, Outside, Held}
 use Rattle.isolation.specs.Statements.{StartSound, SoundKept, Touched, OnlyItsOwn, OthersAlone, OtherHeld}
@@ -90,7 +88,7 @@ module _ (f : Name → List ℕ → ℕ → List ℕ) where
     -- ---- soundness is kept
 
     left-sound : (kind : Kind) → Done f (call kind g) c → SoundCopy (left kind (call kind g) c)
-    unfolding left clusterMade clusterDeleted segmentMade segmentDeleted segmentWritten passwordReplaced
+    unfolding effects
     left-sound newCluster e =
         let v = done-range f (call newCluster g) (c .store) (length (c .memory)) e in
         sound-started (c .store) _ k _ _ (v .node-low) (v .local-low) (g .first) (g .second)
@@ -135,7 +133,7 @@ module _ (f : Name → List ℕ → ℕ → List ℕ) where
     same-own x = record { records = λ n ne. refl; size = refl; bytes = λ p u. refl }
 
     left-own : (kind : Kind) → Done f (call kind g) c → OnlyItsOwn (call kind g) c (left kind (call kind g) c)
-    unfolding left clusterMade clusterDeleted segmentMade segmentDeleted segmentWritten passwordReplaced
+    unfolding effects
     left-own newCluster e = put-own (call newCluster g) _
     left-own deleteCluster e = put-own (call deleteCluster g) _
     left-own newSegment e =

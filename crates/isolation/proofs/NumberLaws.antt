@@ -24,7 +24,7 @@ use Rattle.calls.specs.Numbers.{unsound, noPlace, badField, gappedHandle, inUse
 use Rattle.calls.specs.Numbers.{isOld, oldPassword, segmentPresent, segmentAbsent, short, fullNode}
 use Rattle.calls.specs.Numbers.{byTables, byRecords, rows, number}
 use Rattle.isolation.specs.Copies.{SoundCopy, setApart, Alike, Shut}
-use Rattle.calls.proofs.FirstLaws.{Agree, first-agree}
+use Rattle.calls.proofs.FirstLaws.{Agree, _▸_, first-agree}
 use Rattle.calls.proofs.CallLaws.{handle-range, mode-known, record-is, ungapped-is, violated-is}
 use Rattle.isolation.proofs.AwayLaws.{named}
 use Rattle.isolation.proofs.AwayLaws.{not-keyed}
@@ -47,56 +47,24 @@ module _ (f : Name → List ℕ → ℕ → List ℕ) (x : Call) (a b : Store) (
   both-sound = rw (sa, sb)
 
   pub same-rows : Agree x a b (rows f size)
-  same-rows = (
-    told 1 (unsound size) both-sound,
-    λ e1. (
-      refl,
-      λ e2. (
-        refl,
-        λ e3. (
-          refl,
-          λ e4. (
-            refl,
-            λ e5. (
-              looked 6 inUse,
-              λ e6. (
-                refl,
-                λ e7. (
-                  looked 8 inactiveCluster,
-                  λ e8. (
-                    told 9 (violated f) (validation e2 e4 e3),
-                    λ e9. (
-                      refl,
-                      λ e10. (
-                        refl,
-                        λ e11. (
-                          told 12 oldPassword (renewal e2 e4 e3 e9),
-                          λ e12. (
-                            looked 13 segmentPresent,
-                            λ e13. (
-                              looked 14 segmentAbsent,
-                              λ e14. (
-                                looked 15 short,
-                                λ e15. (
-                                  looked 16 fullNode,
-                                  λ e16.
-                                      (refl, λ e17. tt),
-                                ),
-                              ),
-                            ),
-                          ),
-                        ),
-                      ),
-                    ),
-                  ),
-                ),
-              ),
-            ),
-          ),
-        ),
-      ),
-    ),
-  )
+  same-rows =
+      told 1 (unsound size) both-sound ▸ λ e1.
+      refl ▸ λ e2.
+      refl ▸ λ e3.
+      refl ▸ λ e4.
+      refl ▸ λ e5.
+      looked 6 inUse ▸ λ e6.
+      refl ▸ λ e7.
+      looked 8 inactiveCluster ▸ λ e8.
+      told 9 (violated f) (validation e2 e4 e3) ▸ λ e9.
+      refl ▸ λ e10.
+      refl ▸ λ e11.
+      told 12 oldPassword (renewal e2 e4 e3 e9) ▸ λ e12.
+      looked 13 segmentPresent ▸ λ e13.
+      looked 14 segmentAbsent ▸ λ e14.
+      looked 15 short ▸ λ e15.
+      looked 16 fullNode ▸ λ e16.
+      refl ▸ λ e17. tt
 
   pub rows-number : number f x a size ≡ number f x b size
   unfolding number

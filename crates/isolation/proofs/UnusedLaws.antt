@@ -8,11 +8,9 @@ use lib.ListN.{length}
 use Rattle.handle.specs.Handles.{Name}
 use Rattle.calls.specs.Calls.{Copy, Call, call, Arguments, Kind, newCluster, deleteCluster, newSegment, deleteSegment}
 use Rattle.calls.specs.Calls.{read, write, weaken, reduce, newPassword, validate, uses, buffer}
-use Rattle.calls.specs.Numbers.{unsound, noPlace, badMode, badSegment, badSize, badField, gappedHandle, elsewhere}
-use Rattle.calls.specs.Numbers.{inUse, twins, inactiveCluster, violated, notPrimary, notReferenced, oldPassword}
-use Rattle.calls.specs.Numbers.{segmentPresent, segmentAbsent, short, fullNode, spentHandle, number}
-use Rattle.calls.specs.Steps.{plain, clusterMade, clusterDeleted, segmentMade, segmentDeleted, segmentWritten}
-use Rattle.calls.specs.Steps.{passwordReplaced, left, segmentRead, given, outcome, step}
+use Rattle.calls.specs.Numbers.{number, tests}
+use Rattle.calls.specs.Steps.{plain, effects}
+use Rattle.calls.specs.Steps.{left, given, outcome, step}
 use Rattle.isolation.specs.Checks.{trimmed, UnusedIgnored}
 
 module _ (f : Name → List ℕ → ℕ → List ℕ) where
@@ -23,9 +21,7 @@ module _ (f : Name → List ℕ → ℕ → List ℕ) where
     buffer : buffer x ≡ buffer y
 
   same : (k : Kind) (g : Arguments) (c : Copy) → Same k (call k g) (call k (trimmed (uses k) g)) c
-  unfolding number left given clusterMade clusterDeleted segmentMade segmentDeleted segmentWritten passwordReplaced
-      segmentRead unsound noPlace badMode badSegment badSize badField gappedHandle elsewhere inUse twins inactiveCluster
-      violated notPrimary notReferenced oldPassword segmentPresent segmentAbsent short fullNode spentHandle
+  unfolding number tests effects
   same newCluster g c = record { number = refl; left = refl; given = refl; buffer = refl }
   same deleteCluster g c = record { number = refl; left = refl; given = refl; buffer = refl }
   same newSegment g c = record { number = refl; left = refl; given = refl; buffer = refl }

@@ -6,27 +6,23 @@ use mathlib.Core.Path.{_≡_, refl, sym, ap, _∙_}
 use Prim.Native.Nat.{ℕ, zero, suc}
 use native.Mathlib.Omega.{arith}
 use lib.ListN.{getD}
-use Rattle.bits.specs.Sets.{has, setOf, count}
-use Rattle.bits.specs.Bytes.{bytes, wordFrom, word}
+use Rattle.bits.specs.Bytes.{bytes}
 use Rattle.loops.specs.Below.{every}
-use Rattle.loops.specs.Search.{leastFrom, least}
 use Rattle.sizes.specs.Sizes.{memory}
-use Rattle.handle.specs.Handles.{Name, encoded, decoded, samePassword, validates, weakened}
+use Rattle.handle.specs.Handles.{Name}
 use Rattle.store.specs.Records.{startingStore, tableAt}
 use Rattle.store.specs.Sound.{inRanges, endsInside, inside, soundSegment, apart, nodeApart, zeroBytes, idle, settled}
 use Rattle.store.specs.Sound.{sound}
-use Rattle.store.specs.Placement.{clear, fits, newBase, placement}
 use Rattle.store.proofs.ChangeLaws.{put-other}
-use Rattle.calls.specs.Numbers.{noPlace, badMode, badSegment, badSize, badField, gappedHandle, elsewhere}
-use Rattle.calls.specs.Numbers.{inUse, twins, inactiveCluster, valid, violated, notPrimary, notReferenced, oldPassword}
-use Rattle.calls.specs.Numbers.{segmentPresent, segmentAbsent, short, fullNode, spentHandle}
-use Rattle.calls.specs.Steps.{Ran, clusterMade, clusterDeleted, segmentMade, segmentDeleted, segmentWritten}
-use Rattle.calls.specs.Steps.{passwordReplaced, left, segmentRead, given, run}
+use Rattle.calls.specs.Steps.{Ran, effects}
+use Rattle.calls.specs.Steps.{run}
 use Rattle.isolation.specs.Copies.{SoundCopy, Outside, Alike, keyed}
 use Rattle.isolation.specs.Statements.{Agreed}
 use Rattle.isolation.specs.Witness.{one, two, tries, answers, Witnessed, shown, Bites}
 use Rattle.calls.proofs.StepLaws.{number-below}
 use Rattle.isolation.proofs.RunLaws.{run-below, ShutBelow, shut-below}
+use Rattle.calls.specs.Numbers.{tests}
+use Rattle.calls.proofs.Computing.{computing}
 use Rattle.isolation.proofs.TwoCopies.{two-copies}
 
 sound-one : SoundCopy one
@@ -56,20 +52,12 @@ alike =
 
 module _ (f : Name → List ℕ → ℕ → List ℕ) where
   replies : run f tries one .replies ≡ answers
-  unfolding left given clusterMade clusterDeleted segmentMade segmentDeleted segmentWritten passwordReplaced segmentRead
-      has setOf count bytes word wordFrom every least leastFrom encoded decoded samePassword validates weakened
-      placement newBase fits clear apart inside inRanges endsInside
-      noPlace badMode badSegment badSize badField gappedHandle elsewhere inUse twins inactiveCluster
-      valid violated notPrimary notReferenced oldPassword segmentPresent segmentAbsent short fullNode spentHandle
+  unfolding tests effects computing
   replies = ap (λ (r : Ran). r .replies) (run-below f tries one sound-one) ∙ refl
 
   -- no call is keyed, on what the rows below the first make of a copy
   below-one : ShutBelow f 0 2 tries one
-  unfolding keyed left given clusterMade clusterDeleted segmentMade segmentDeleted segmentWritten passwordReplaced
-      segmentRead has setOf count bytes word wordFrom every least leastFrom encoded decoded samePassword validates weakened
-      placement newBase fits clear apart inside inRanges endsInside
-      noPlace badMode badSegment badSize badField gappedHandle elsewhere inUse twins inactiveCluster
-      valid violated notPrimary notReferenced oldPassword segmentPresent segmentAbsent short fullNode spentHandle
+  unfolding keyed tests effects computing
   below-one = (
     (refl, refl),
     (
@@ -94,11 +82,7 @@ module _ (f : Name → List ℕ → ℕ → List ℕ) where
   )
 
   below-two : ShutBelow f 0 2 tries two
-  unfolding keyed left given clusterMade clusterDeleted segmentMade segmentDeleted segmentWritten passwordReplaced
-      segmentRead has setOf count bytes word wordFrom every least leastFrom encoded decoded samePassword validates weakened
-      placement newBase fits clear apart inside inRanges endsInside
-      noPlace badMode badSegment badSize badField gappedHandle elsewhere inUse twins inactiveCluster
-      valid violated notPrimary notReferenced oldPassword segmentPresent segmentAbsent short fullNode spentHandle
+  unfolding keyed tests effects computing
   below-two = (
     (refl, refl),
     (
@@ -141,10 +125,7 @@ module _ (f : Name → List ℕ → ℕ → List ℕ) where
       (witnessed .shut-one) (witnessed .shut-two)
 
   pub bites : Bites f
-  unfolding has setOf count bytes word wordFrom every least leastFrom encoded decoded samePassword validates
-      placement newBase fits clear apart inside inRanges endsInside
-      noPlace badMode badSegment badSize badField gappedHandle elsewhere inUse twins inactiveCluster
-      valid violated notPrimary notReferenced oldPassword segmentPresent segmentAbsent short fullNode spentHandle
+  unfolding tests computing
   bites =
       record {
         done = number-below f shown (one .store) memory sound-one ∙ refl;

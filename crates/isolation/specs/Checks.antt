@@ -2,7 +2,6 @@
 -- calls. For every conversion f:
 --     Refused x c          the copy and the buffer stay; the handles are zero bytes, the count and the length zero
 --     RefusalChangesNothing    condition 1: a call whose number is not 0 is so refused, with that number
---     NoneApplies x s ls   no row of the list ls applies to the call x on the store s
 --     FirstTold            condition 1: the number is that of a row which applies and above which none applies
 --     MustHold k x s       the column "Must hold" for the kind k:
 --       Opener m             the handle validates in the mode m, is not gapped, and its cluster is active
@@ -17,7 +16,6 @@
 --     ValidationJudges     condition 2: then a handle of 23 bytes validates if its password is what the chain gives,
 --                          and is refused with 9 in every other case
 --     ValidationIsReduction    validation gives the number that call 8 would give
---     weakenReply          the handle crate's reply to a weakening, as the guard gives it
 --     WeakeningIs          call 7 gives that reply, whatever the store, and leaves the store alone
 --     trimmed u g          the arguments g, those not used by u blank
 --     UnusedIgnored        calls that agree in what they use have equal steps
@@ -29,10 +27,9 @@ use mathlib.Core.Bool.{Bool, true, false}
 use mathlib.Core.List.{List, [], _∷_, _++_}
 use lib.ListN.{length}
 use Rattle.sizes.specs.Sizes.{passwordBytes}
-use Rattle.handle.specs.declared.Weakened.{Weakened}
 use Rattle.handle.specs.Sizes.{handleBytes}
 use Rattle.handle.specs.Selectors.{references, allFlat, gapped}
-use Rattle.handle.specs.Handles.{Name, nameOf, nodeOf, widthOf, encoded, samePassword, Row, noSuchPlace, through}
+use Rattle.handle.specs.Handles.{Name, nameOf, nodeOf, widthOf, samePassword, noSuchPlace, through}
 use Rattle.handle.specs.Handles.{weakening}
 use Rattle.store.specs.declared.Store.{Store}
 use Rattle.store.specs.Records.{recordOf, clusterAt, tableAt, readMode, writeMode, primaryOf}
@@ -41,7 +38,9 @@ use Rattle.calls.specs.Calls.{Copy, Call, call, Arguments, Kind, newCluster, de
 use Rattle.calls.specs.Calls.{read, write, weaken, reduce, newPassword, validate, Uses, uses}
 use Rattle.calls.specs.Calls.{handleOf, buffer, recordNamed}
 use Rattle.calls.specs.Numbers.{valid, rows, number}
-use Rattle.calls.specs.Steps.{Reply, zeroHandle, plain, step}
+use Rattle.calls.specs.Clear.{Clear}
+use Rattle.calls.specs.Numbers.{Line, at}
+use Rattle.calls.specs.Steps.{weakenReply, plain, step}
 
 -- ---- unused arguments
 
@@ -68,21 +67,6 @@ trimmed u g =
       bytes = bytesIf (u .bytes) (g .bytes);
     }
 
-abbrev pub weakenReply : Weakened → Reply
-weakenReply w =
-    record {
-      number = w .number;
-      first = encoded (w .handle);
-      second = zeroHandle;
-      count = w .count;
-      length = 0;
-      buffer = [];
-    }
-
-abbrev pub NoneApplies : Call → Store → List (Call → Store → Row) → Type 0
-NoneApplies x s [] = Unit {0}
-NoneApplies x s (r ∷ rs) = (r x s .applies ≡ false) × NoneApplies x s rs
-
 module _ (f : Name → List ℕ → ℕ → List ℕ) where
   abbrev pub UnusedIgnored : Type 0
   UnusedIgnored =
@@ -100,8 +84,8 @@ module _ (f : Name → List ℕ → ℕ → List ℕ) where
 
   abbrev pub FirstTold : Type 0
   FirstTold =
-      (x : Call) (s : Store) (size : ℕ) (above below : List (Call → Store → Row)) (r : Call → Store → Row)
-      → rows f size ≡ above ++ (r ∷ below) → NoneApplies x s above → r x s .applies ≡ true
+      (x : Call) (s : Store) (size : ℕ) (above below : List Line) (r : Line)
+      → rows f size ≡ above ++ (r ∷ below) → Clear (at x s above) → r x s .applies ≡ true
       → number f x s size ≡ r x s .number
 
   -- ---- the column "Must hold"

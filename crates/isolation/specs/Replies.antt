@@ -15,23 +15,24 @@ use Rattle.store.specs.Records.{startingStore, address}
 use Rattle.calls.specs.Calls.{start, Call}
 use Rattle.calls.specs.Steps.{Reply, Ran, zeroHandle, plain, handles, readReply, run}
 use Rattle.calls.specs.Cases.{added, sixteen, shown, primary, weak}
-use Rattle.calls.specs.Cases.{call1, call2, call3, call4, call5, call6, call7, call8, call9, callV}
+use Rattle.calls.specs.Calls.{makingCluster, deletingCluster, makingSegment, deletingSegment, reading}
+use Rattle.calls.specs.Calls.{writing, weakeningBy, reducing, renewing, validating}
 
 abbrev pub doneCalls : List Call
 doneCalls =
-    call1 1 2 (sixteen 3) (sixteen 4)
-    ∷ call3 1 (primary 4) 5 3
-    ∷ call5 (primary 3) 5 (1 ∷ 2 ∷ 3 ∷ 4 ∷ [])
-    ∷ call6 (primary 4) 5 (7 ∷ 8 ∷ 9 ∷ 10 ∷ [])
-    ∷ call7 (primary 3) 48
-    ∷ call5 (weak 3) 5 (0 ∷ 0 ∷ 0 ∷ 6 ∷ [])
-    ∷ call8 1 (weak 3)
-    ∷ callV 2 (primary 4)
-    ∷ call9 1 (primary 3) (sixteen 5)
-    ∷ callV 1 (primary 3)
-    ∷ call4 1 (primary 4) 5
-    ∷ call2 1 (primary 4)
-    ∷ callV 2 (primary 4)
+    makingCluster 1 2 (sixteen 3) (sixteen 4)
+    ∷ makingSegment 1 5 3 (primary 4)
+    ∷ reading 5 (primary 3) (1 ∷ 2 ∷ 3 ∷ 4 ∷ [])
+    ∷ writing 5 (primary 4) (7 ∷ 8 ∷ 9 ∷ 10 ∷ [])
+    ∷ weakeningBy 48 (primary 3)
+    ∷ reading 5 (weak 3) (0 ∷ 0 ∷ 0 ∷ 6 ∷ [])
+    ∷ reducing 1 (weak 3)
+    ∷ validating 2 (primary 4)
+    ∷ renewing 1 (primary 3) (sixteen 5)
+    ∷ validating 1 (primary 3)
+    ∷ deletingSegment 1 5 (primary 4)
+    ∷ deletingCluster 1 (primary 4)
+    ∷ validating 2 (primary 4)
     ∷ []
 
 abbrev pub doneReplies : List Reply

@@ -19,7 +19,7 @@ use Rattle.handle.specs.Selectors.{flats}
 use Rattle.handle.specs.Handles.{Name}
 use Rattle.store.specs.declared.Place.the-variants.{Present}
 use Rattle.store.specs.Records.{startingStore, started, recordOf, tableAt, putRecord, withPlace}
-use Rattle.calls.specs.Calls.{Copy, Call}
+use Rattle.calls.specs.Calls.{Copy, Call, makingCluster, deletingCluster, makingSegment, reading, weakeningBy, validating}
 use Rattle.calls.specs.Numbers.{number}
 use Rattle.calls.specs.Steps.{Reply, zeroHandle, plain, handles, readReply, run}
 use Rattle.isolation.specs.Copies.{SoundCopy, setApart, Alike, AllShut}
@@ -43,14 +43,14 @@ primary l b = C.shown 0 l b (flats segments)
 
 abbrev pub tries : List Call
 tries =
-    C.call5 (primary 2 5) 5 (replicate 6 9)
-    ∷ C.call2 0 (primary 2 5)
-    ∷ C.call1 0 2 (C.sixteen 3) (C.sixteen 4)
-    ∷ C.call7 (primary 2 17) 255
-    ∷ C.call1 0 3 (C.sixteen 3) (C.sixteen 4)
-    ∷ C.call3 0 (primary 3 4) 0 2
-    ∷ C.call5 (primary 3 3) 0 (replicate 3 9)
-    ∷ C.callV 2 (primary 2 4)
+    reading 5 (primary 2 5) (replicate 6 9)
+    ∷ deletingCluster 0 (primary 2 5)
+    ∷ makingCluster 0 2 (C.sixteen 3) (C.sixteen 4)
+    ∷ weakeningBy 255 (primary 2 17)
+    ∷ makingCluster 0 3 (C.sixteen 3) (C.sixteen 4)
+    ∷ makingSegment 0 0 2 (primary 3 4)
+    ∷ reading 0 (primary 3 3) (replicate 3 9)
+    ∷ validating 2 (primary 2 4)
     ∷ []
 
 abbrev pub answers : List Reply
@@ -66,7 +66,7 @@ answers =
     ∷ []
 
 abbrev pub shown : Call
-shown = C.call5 (primary 2 17) 5 (replicate 6 9)
+shown = reading 5 (primary 2 17) (replicate 6 9)
 
 module _ (f : Name → List ℕ → ℕ → List ℕ) where
   pub record Witnessed : Type 0 where

@@ -1,0 +1,14 @@
+-- A name that opens what a computed list runs through: sets and bytes, searches, handles and places.
+-- Assumes nothing.
+use Rattle.bits.specs.Sets.{has, setOf, count}
+use Rattle.bits.specs.Bytes.{bytes, wordFrom, word}
+use Rattle.loops.specs.Below.{every}
+use Rattle.loops.specs.Search.{leastFrom, least}
+use Rattle.handle.specs.Handles.{encoded, decoded, samePassword, validates, weakened, reduced}
+use Rattle.store.specs.Sound.{inRanges, endsInside, inside, apart}
+use Rattle.store.specs.Placement.{clear, fits, newBase, placement}
+
+unfoldable pub computing : Unit {0}
+unfolding has setOf count bytes word wordFrom every least leastFrom encoded decoded samePassword validates weakened reduced
+    placement newBase fits clear apart inside inRanges endsInside
+computing = tt
