@@ -10,3 +10,4 @@ pub mod ExampleLaws
 pub mod SoundWordLaws
 pub mod SoundCaseLaws
 pub mod RecordLaws
+pub mod PlacementWordLaws

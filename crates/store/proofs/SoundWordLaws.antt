@@ -131,24 +131,24 @@ module _ (s : Store) (size : ℕ) where
           → Inside base length
       bounds n i base length hn hi e = inside-out base length (ap inside (sym e) ∙ r .ranged n i hn hi)
 
+  pub inside-words : SoundInWords s size → (n i : ℕ) → n < 32 → i < 8 → inside (placeAt (tableAt s) n i) ≡ true
+  inside-words w n i hn hi =
+      words-inside (placeAt (tableAt s) n i)
+      (λ base length e. (w .lengths n i base length hn hi e .0, w .ends n i base length hn hi e))
+
   of-words : SoundInWords s size → Sound s size
   unfolding soundSegment
   of-words w =
       record {
         whole = w .slice;
-        ranged = within;
+        ranged = inside-words w;
         apartness = λ v l i m j hv hl hi hm hj d.
             words-apart (placeOn (tableAt s) v l i) (placeOn (tableAt s) v m j)
-            (within (v * 8 + l) i (omega arith) hi) (within (v * 8 + m) j (omega arith) hj)
+            (inside-words w (v * 8 + l) i (omega arith) hi) (inside-words w (v * 8 + m) j (omega arith) hj)
             (w .apart v l i m j hv hl hi hm hj d);
         settling = λ n h.
             words-settled (clusterAt s n) (w .noRead n h) (w .noWrite n h) (λ i hi q. w .noSegment n i h hi q);
       }
-    where
-      within : (n i : ℕ) → n < 32 → i < 8 → inside (placeAt (tableAt s) n i) ≡ true
-      within n i hn hi =
-          words-inside (placeAt (tableAt s) n i)
-          (λ base length e. (w .lengths n i base length hn hi e .0, w .ends n i base length hn hi e))
 
   pub sound-in-words : (sound s size ≡ true) ↔ SoundInWords s size
   sound-in-words = (λ e. words-of (sound-out s size e), λ w. sound-in s size (of-words w))

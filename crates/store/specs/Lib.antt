@@ -5,3 +5,4 @@ pub mod Passes
 pub mod Examples
 pub mod SoundWords
 pub mod SoundCases
+pub mod PlacementWords
