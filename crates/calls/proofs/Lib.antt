@@ -13,3 +13,4 @@ pub mod SelectorWords
 pub mod WordLaws
 pub mod ValidWords
 pub mod TableLaws
+pub mod BoundLaws

@@ -5,3 +5,5 @@ pub mod Words
 pub mod Steps
 pub mod Examples
 pub mod Cases
+pub mod Orders
+pub mod Bounds
