@@ -14,3 +14,4 @@ pub mod WordLaws
 pub mod ValidWords
 pub mod TableLaws
 pub mod BoundLaws
+pub mod ReadWordLaws

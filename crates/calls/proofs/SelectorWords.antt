@@ -11,15 +11,16 @@ use mathlib.Core.Bool.{Bool, true, false, not, _&&_, _||_, false≢true}
 use mathlib.Core.List.{List, [], _∷_}
 use lib.Dec.{eqb}
 use lib.ListN.{length, getD, drop, length-drop}
-use lib.Seq.{length-take-le}
+use lib.Seq.{length-take-le, getD-take, getD-drop}
 use borrow.Author.Tests.{ne-eqb}
 use Rattle.bits.specs.Sets.{has, one, count}
+use Rattle.bits.specs.Bytes.{word, wordFrom}
 use Rattle.sizes.specs.Sizes.{segments, passwordBytes}
 use Rattle.handle.specs.Selectors.{references, excludes, flat, allFlat, anyFlat, gapped, spent}
 use Rattle.handle.specs.Handles.{decoded, samePassword, converted, validates}
 use Rattle.handle.proofs.CodeLaws.{converted-flat, converted-other, code-opened}
 use Rattle.calls.specs.Calls.{Call, handleOf}
-use Rattle.calls.specs.Words.{Handled, Taken, Bit, References, SamePassword, Converted, Chain, subselector}
+use Rattle.calls.specs.Words.{Handled, Taken, HandleInWords, Bit, References, SamePassword, Converted, Chain, subselector}
 use Rattle.calls.proofs.TestLaws.{Is, map-is, same-is, not-is, and-is, or-is, eq-is, every-is}
 
 -- ---- along a row of subselectors
@@ -154,6 +155,18 @@ unfolding decoded
 four x t h =
     let l : length (x .args .handle) ≡ 23 = t h in
     length-take-le 4 (drop 19 (x .args .handle)) (simp length-drop (omega arith))
+
+pub handle-in-words : (b : List ℕ) → length b ≡ 23 → HandleInWords b
+unfolding decoded word wordFrom
+handle-in-words [] e = absurd (omega arith)
+handle-in-words (n ∷ []) e = absurd (omega arith)
+handle-in-words (n ∷ m ∷ bs) e =
+    record {
+      node = omega arith;
+      local = refl;
+      password = λ k h. getD-take 16 (drop 3 (n ∷ m ∷ bs)) k 0 h ∙ getD-drop 3 (n ∷ m ∷ bs) k 0;
+      selector = λ k h. getD-take 4 (drop 19 (n ∷ m ∷ bs)) k 0 h ∙ getD-drop 19 (n ∷ m ∷ bs) k 0;
+    }
 
 module _ (x : Call) (e : length (handleOf x .selector) ≡ 4) where
   abbrev ss : List ℕ

@@ -3,6 +3,7 @@ pub mod Numbers
 pub mod Clear
 pub mod Words
 pub mod Steps
+pub mod ReadWords
 pub mod Examples
 pub mod Cases
 pub mod Orders

@@ -5,6 +5,7 @@
 --     Named ks x           the call x is of one of the kinds ks
 --     Handled x            the call takes a handle: all but 1
 --     Taken x              it takes it as 23 bytes
+--     HandleInWords b      the handle that 23 bytes hold: node (high byte first), local number, password, selector
 --     subselector x k      subselector k of its handle
 --     Bit i s              bit i of s is set, 0 the least
 --     References x i       bit i is set in all four subselectors
@@ -29,7 +30,7 @@ use Prim.Native.Nat.{ℕ, _+_, _*_, _/_, _%_, _^_, _<_}
 use mathlib.Core.Bool.{true, false}
 use mathlib.Core.List.{List, [], _∷_}
 use lib.ListN.{length, getD}
-use Rattle.handle.specs.Handles.{Name, nameOf, nodeOf}
+use Rattle.handle.specs.Handles.{Name, nameOf, nodeOf, decoded}
 use Rattle.store.specs.declared.Place.{Place}
 use Rattle.store.specs.declared.Place.the-variants.{Absent, Present}
 use Rattle.store.specs.declared.Cluster.{Cluster}
@@ -60,6 +61,12 @@ Opening x =
     (deleteCluster ∷ newSegment ∷ deleteSegment ∷ read ∷ write ∷ reduce ∷ newPassword ∷ validate ∷ []) x
 
 -- ---- handles and clusters
+
+pub record HandleInWords (b : List ℕ) : Type 0 where
+  pub node : nodeOf (decoded b) ≡ getD b 0 0 * 256 + getD b 1 0
+  pub local : decoded b .local ≡ getD b 2 0
+  pub password : (k : ℕ) → k < 16 → getD (decoded b .password) k 0 ≡ getD b (3 + k) 0
+  pub selector : (k : ℕ) → k < 4 → getD (decoded b .selector) k 0 ≡ getD b (19 + k) 0
 
 abbrev pub subselector : Call → ℕ → ℕ
 subselector x k = getD (handleOf x .selector) k 0
