@@ -22,7 +22,8 @@
 --     Entry, table         a number and its words; the table, nearest the top first
 --     Nothing ls           no words of ls hold
 --     Told ls n            the words of the entry with number n hold, and none above it
---     TableInWords         0 is given just where nothing applies, n just where row n applies and nothing above it
+--     TableInWords         0 is given just where nothing applies, n just where row n applies and nothing above it; it
+--                          holds of every call that is Taken, every store, size and conversion
 -- Assumes nothing.
 use mathlib.Core.Path.{_≡_}
 use mathlib.Core.Logic.{_≢_, _⊎_, _↔_}
