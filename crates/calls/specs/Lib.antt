@@ -8,3 +8,4 @@ pub mod Examples
 pub mod Cases
 pub mod Orders
 pub mod Bounds
+pub mod Answers

@@ -1,10 +1,16 @@
 -- Document 01, "Conversion": the f of validation, weakening and reduction.
 --     conversion p c    the AES-128 encryption, under the key p, of fifteen zero bytes and the byte c
+--     product n p c     the product's conversion, at which contracts stand: of the cluster's name n, the password p and
+--                       the parameter c; it takes in no name
 -- Assumes nothing.
 use Prim.Native.Nat.{ℕ}
 use mathlib.Core.List.{List, [], _∷_, _++_}
 use lib.ListN.{replicate}
 use Rattle.aes.specs.Cipher.{cipher}
+use Rattle.handle.specs.Handles.{Name}
 
 unfoldable pub conversion : List ℕ → ℕ → List ℕ
 conversion p c = cipher p (replicate 15 0 ++ (c ∷ []))
+
+abbrev pub product : Name → List ℕ → ℕ → List ℕ
+product n p c = conversion p c
