@@ -2,41 +2,45 @@
 -- is computed once.
 -- Assumes nothing.
 use mathlib.Core.Path.{_≡_, refl, _∙_}
-use Prim.Native.Nat.{ℕ, _-_}
+use Prim.Native.Nat.{_-_}
 use mathlib.Core.Bool.{true}
 use mathlib.Core.List.{List, [], _∷_, map}
 use Rattle.bits.specs.Sets.{has, setOf, count}
 use Rattle.bits.specs.Bytes.{bytes, wordFrom, word}
-use Rattle.loops.specs.Below.{every}
 use Rattle.sizes.specs.Sizes.{memory}
 use Rattle.handle.specs.Handles.{encoded, decoded}
-use Rattle.store.specs.Sound.{inRanges, endsInside, inside, soundSegment, apart, nodeApart, zeroBytes, idle, settled}
+use Rattle.store.specs.declared.Store.{Store}
 use Rattle.store.specs.Sound.{sound}
 use Rattle.calls.specs.Calls.{Call}
 use Rattle.calls.specs.Numbers.{number, tests}
-use Rattle.calls.specs.Cases.{added, sample, Case, damaged, refusals, orders, NumbersGiven}
-use Rattle.calls.proofs.Computing.{computing}
+use Rattle.calls.specs.Cases.{added, sample, Case, calls, named, damaged, refusals, NumbersGiven}
+use Rattle.calls.specs.Orders.{Order, orders, applies, OrdersGiven}
+use Rattle.calls.proofs.Computing.{computing, sounding}
 use Rattle.calls.proofs.StepLaws.{numberBelow, number-below}
 
 sample-sound : sound sample memory ≡ true
-unfolding sound every soundSegment nodeApart settled idle zeroBytes apart inside inRanges endsInside
+unfolding sounding
 sample-sound = refl
 
-abbrev sampleNumber : Call → ℕ
-sampleNumber x = numberBelow added x sample memory
+-- the numbers of calls on a sound store are those below the first row
+module _ (s : Store) (e : sound s memory ≡ true) where
+  pub numbers-below : (xs : List Call)
+      → map (λ (x : Call). number added x s memory) xs ≡ map (λ (x : Call). numberBelow added x s memory) xs
+  numbers-below [] = refl
+  numbers-below (x ∷ xs) = λ j. number-below added x s memory e j ∷ numbers-below xs j
 
-numbers-below : (cs : List Case)
-    → map (λ (c : Case). number added (c .call) sample memory) cs ≡ map (λ (c : Case). sampleNumber (c .call)) cs
-numbers-below [] = refl
-numbers-below (c ∷ cs) = λ j. number-below added (c .call) sample memory sample-sound j ∷ numbers-below cs j
-
-refusals-below : map (λ (c : Case). sampleNumber (c .call)) refusals ≡ map (λ (c : Case). c .number) refusals
+refusals-below : map (λ (x : Call). numberBelow added x sample memory) (calls refusals) ≡ named refusals
 unfolding tests computing
 refusals-below = refl
 
-orders-below : map (λ (c : Case). sampleNumber (c .call)) orders ≡ map (λ (c : Case). c .number) orders
+orders-below : map (λ (x : Call). numberBelow added x sample memory) (map (λ (o : Order). o .call) orders)
+    ≡ map (λ (o : Order). o .upper) orders
 unfolding tests computing
 orders-below = refl
+
+orders-meet : map (λ (o : Order). applies (o .lower) (o .call)) orders ≡ map (λ (o : Order). true) orders
+unfolding tests computing
+orders-meet = refl
 
 damaged-told : map (λ (c : Case). number added (c .call) sample (memory - 1)) damaged
     ≡ map (λ (c : Case). c .number) damaged
@@ -47,6 +51,12 @@ pub numbers-given : NumbersGiven
 numbers-given =
     record {
       damaged = damaged-told;
-      refusals = numbers-below refusals ∙ refusals-below;
-      orders = numbers-below orders ∙ orders-below;
+      refusals = numbers-below sample sample-sound (calls refusals) ∙ refusals-below;
+    }
+
+pub orders-given : OrdersGiven
+orders-given =
+    record {
+      told = numbers-below sample sample-sound (map (λ (o : Order). o .call) orders) ∙ orders-below;
+      meet = orders-meet;
     }

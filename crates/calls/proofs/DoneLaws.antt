@@ -24,8 +24,8 @@ use Rattle.calls.specs.Numbers.{inUse, twins, inactiveCluster, valid, vi
 use Rattle.calls.specs.Numbers.{oldPassword}
 use Rattle.calls.specs.Numbers.{segmentPresent, segmentAbsent, short, fullNode, spentHandle, rows, number}
 use Rattle.calls.specs.Steps.{newBaseFor}
-use Rattle.calls.specs.Clear.{NoRow, DoneIsClear, Clear}
-use Rattle.calls.proofs.FirstLaws.{_▸_, first-clear, clear-first}
+use Rattle.calls.specs.Clear.{Clear}
+use Rattle.calls.proofs.FirstLaws.{first-clear}
 use Rattle.calls.proofs.CallLaws.{or-left, or-right, InRange, in-range, mode-known}
 use Rattle.calls.proofs.CallLaws.{record-is, ungapped-is, inactive-is, violated-is}
 
@@ -35,8 +35,28 @@ placed none e = absurd (true≢false e)
 placed (some b) e = refl
 
 module _ (f : Name → List ℕ → ℕ → List ℕ) where
+  -- no row of the table applies, row by row
+  pub record NoRow (x : Call) (s : Store) (size : ℕ) : Type 0 where
+    pub unsound : unsound size x s ≡ false
+    pub noPlace : noPlace x ≡ false
+    pub badField : badField x ≡ false
+    pub gappedHandle : gappedHandle x ≡ false
+    pub elsewhere : elsewhere x ≡ false
+    pub inUse : inUse x (tableAt s) ≡ false
+    pub twins : twins x ≡ false
+    pub inactiveCluster : inactiveCluster x (tableAt s) ≡ false
+    pub violated : violated f x s ≡ false
+    pub notPrimary : notPrimary x ≡ false
+    pub notReferenced : notReferenced x ≡ false
+    pub oldPassword : oldPassword x s ≡ false
+    pub segmentPresent : segmentPresent x (tableAt s) ≡ false
+    pub segmentAbsent : segmentAbsent x (tableAt s) ≡ false
+    pub short : short x (tableAt s) ≡ false
+    pub fullNode : fullNode x (tableAt s) ≡ false
+    pub spentHandle : spentHandle x ≡ false
+
   module _ (x : Call) (s : Store) (size : ℕ) where
-    from-clear : Clear (at x s (rows f size)) → NoRow f x s size
+    from-clear : Clear (at x s (rows f size)) → NoRow x s size
     from-clear r =
         record {
           unsound = search;
@@ -58,39 +78,12 @@ module _ (f : Name → List ℕ → ℕ → List ℕ) where
           spentHandle = search;
         }
 
-    to-clear : NoRow f x s size → Clear (at x s (rows f size))
-    to-clear r =
-        r .unsound ▸
-        r .noPlace ▸
-        r .badField ▸
-        r .gappedHandle ▸
-        r .elsewhere ▸
-        r .inUse ▸
-        r .twins ▸
-        r .inactiveCluster ▸
-        r .violated ▸
-        r .notPrimary ▸
-        r .notReferenced ▸
-        r .oldPassword ▸
-        r .segmentPresent ▸
-        r .segmentAbsent ▸
-        r .short ▸
-        r .fullNode ▸
-        r .spentHandle ▸ tt
-
-    pub no-row : number f x s size ≡ 0 → NoRow f x s size
+    pub no-row : number f x s size ≡ 0 → NoRow x s size
     unfolding number
     no-row e = from-clear (first-clear (at x s (rows f size)) (omega arith) e)
 
-    no-row-done : NoRow f x s size → number f x s size ≡ 0
-    unfolding number
-    no-row-done r = clear-first (at x s (rows f size)) (to-clear r)
-
-    pub done-is-clear : DoneIsClear f x s size
-    done-is-clear = record { clear = no-row; done = no-row-done }
-
   module _ (x : Call) (s : Store) (size : ℕ) (e : number f x s size ≡ 0) where
-    abbrev r : NoRow f x s size
+    abbrev r : NoRow x s size
     r = no-row x s size e
 
     pub done-range : InRange (nodeFor x) (localFor x)

@@ -46,7 +46,3 @@ first-clear (r ∷ rs) n e = go (r .applies) refl (first-clear rs (n .1)) e
         → Clear (r ∷ rs)
     go true q ih z = let h : 0 < r .number = n .0 in absurd (omega arith)
     go false q ih z = (q, ih z)
-
-pub clear-first : (rs : List Row) → Clear rs → firstOf rs ≡ 0
-clear-first [] c = refl
-clear-first (r ∷ rs) c = ap (λ (t : Bool). cond t (r .number) (firstOf rs)) (c .0) ∙ clear-first rs (c .1)

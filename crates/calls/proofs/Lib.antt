@@ -7,3 +7,11 @@ pub mod CallLaws
 pub mod DoneLaws
 pub mod ExampleLaws
 pub mod CaseLaws
+pub mod TestLaws
+pub mod KindLaws
+pub mod SelectorWords
+pub mod WordLaws
+pub mod ValidWords
+pub mod TableLaws
+pub mod BoundLaws
+pub mod ReadWordLaws

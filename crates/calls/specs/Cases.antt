@@ -6,13 +6,14 @@
 --     primary b, weak b         the primary handle of node 1 and local number 2; one that references segment 5 alone
 --     other b, gap, far, high, idle    handles that reference segment 6 alone, are gapped, name a node above 3, a local
 --                               number above 7, an inactive cluster
+--     spent                     a selector with no flat subselector
 --     room, tight               buffers of three bytes and of two
 --     sample                    a store with that cluster: passwords of sixteen 3 and sixteen 4, and three bytes at 0
 --     Case, gives               a number and a call that gets it
 --     damaged                   a call of every kind on a slice that lacks a byte: weakening alone does not get 1
 --     refusals                  for each number from 2 on, a call of each kind that its row names
---     orders                    calls to which two rows apply, which get the upper one
 --     toldOn s size cs          the numbers that the calls of the cases cs get on a store
+--     calls cs, named cs        the calls of the cases, and the numbers that they name
 --     NumbersGiven              all these numbers are given, on that store
 -- Assumes nothing.
 use mathlib.Core.Path.{_≡_}
@@ -50,36 +51,40 @@ abbrev pub weak : ℕ → List ℕ
 weak b = shown 1 2 (b + 32) (inFirst segments 32)
 
 -- a handle that references segment 6 alone
-abbrev other : ℕ → List ℕ
+abbrev pub other : ℕ → List ℕ
 other b = shown 1 2 (b + 64) (inFirst segments 64)
 
-abbrev gap : List ℕ
+abbrev pub gap : List ℕ
 gap = shown 1 2 3 (255 ∷ 254 ∷ 255 ∷ 255 ∷ [])
 
-abbrev far : List ℕ
+abbrev pub far : List ℕ
 far = shown 4 2 3 (flats segments)
 
-abbrev high : List ℕ
+abbrev pub high : List ℕ
 high = shown 1 8 3 (flats segments)
 
 -- a cluster that is inactive: its passwords are zero
-abbrev idle : List ℕ
+abbrev pub idle : List ℕ
 idle = shown 1 3 0 (flats segments)
+
+-- a selector with no flat subselector
+abbrev pub spent : List ℕ
+spent = 254 ∷ 253 ∷ 251 ∷ 247 ∷ []
 
 abbrev pub sample : Store
 sample = putRecord startingStore (recordOf 1 2) (withPlace (started (sixteen 3) (sixteen 4)) 5 (Present 0 3))
 
-abbrev room : List ℕ
+abbrev pub room : List ℕ
 room = 0 ∷ 0 ∷ 0 ∷ []
 
-abbrev tight : List ℕ
+abbrev pub tight : List ℕ
 tight = 0 ∷ 0 ∷ []
 
 pub record Case : Type 0 where
   pub number : ℕ
   pub call : Call
 
-abbrev gives : ℕ → Call → Case
+abbrev pub gives : ℕ → Call → Case
 gives n x = record { number = n; call = x }
 
 abbrev pub damaged : List Case
@@ -94,9 +99,17 @@ damaged =
     ∷ gives 1 (reducing 1 (primary 3))
     ∷ gives 1 (renewing 1 (primary 3) (sixteen 8))
     ∷ gives 1 (validating 1 (primary 3))
-    ∷ gives 1 (reading 5 far room)
-    ∷ gives 1 (reducing 3 (primary 9))
+    -- 1 above 2, and above 3 and 9
     ∷ gives 1 (makingCluster 4 3 (sixteen 1) (sixteen 1))
+    ∷ gives 1 (deletingCluster 1 far)
+    ∷ gives 1 (makingSegment 4 6 2 (primary 4))
+    ∷ gives 1 (deletingSegment 1 5 high)
+    ∷ gives 1 (reading 5 far room)
+    ∷ gives 1 (writing 5 high room)
+    ∷ gives 1 (reducing 1 far)
+    ∷ gives 1 (renewing 1 high (sixteen 8))
+    ∷ gives 1 (validating 1 far)
+    ∷ gives 1 (reducing 3 (primary 9))
     ∷ []
 
 abbrev pub refusals : List Case
@@ -164,6 +177,8 @@ refusals =
     ∷ gives 11 (writing 5 (other 4) room)
     ∷ gives 12 (renewing 1 (primary 3) (sixteen 3))
     ∷ gives 12 (renewing 1 (primary 3) (sixteen 4))
+    ∷ gives 12 (renewing 2 (primary 4) (sixteen 3))
+    ∷ gives 12 (renewing 2 (primary 4) (sixteen 4))
     ∷ gives 13 (makingSegment 1 5 2 (primary 4))
     ∷ gives 14 (deletingSegment 1 6 (primary 4))
     ∷ gives 14 (reading 6 (primary 3) room)
@@ -171,38 +186,18 @@ refusals =
     ∷ gives 15 (reading 5 (weak 3) tight)
     ∷ gives 15 (writing 5 (weak 4) tight)
     ∷ gives 16 (makingSegment 1 6 4094 (primary 4))
-    ∷ gives 17 (weakeningBy 239 (shown 1 2 3 (254 ∷ 253 ∷ 251 ∷ 247 ∷ [])))
+    ∷ gives 17 (weakeningBy 239 (shown 1 2 3 spent))
     ∷ []
 
-abbrev pub orders : List Case
-orders =
-    gives 2 (reducing 3 far)
-    ∷ gives 2 (makingCluster 4 3 (sixteen 1) (sixteen 1))
-    ∷ gives 2 (makingCluster 0 10 (sixteen 1) (sixteen 2))
-    ∷ gives 2 (weakeningBy 239 (shown 4 2 3 (254 ∷ 253 ∷ 251 ∷ 247 ∷ [])))
-    ∷ gives 3 (reducing 3 gap)
-    ∷ gives 4 (deletingCluster 0 gap)
-    ∷ gives 5 (deletingCluster 0 idle)
-    ∷ gives 6 (makingCluster 1 2 (sixteen 1) (sixteen 1))
-    ∷ gives 8 (reducing 1 (shown 1 3 7 (flats segments)))
-    ∷ gives 9 (deletingCluster 1 (weak 3))
-    ∷ gives 9 (reading 5 (other 4) room)
-    ∷ gives 9 (makingSegment 1 5 2 (primary 3))
-    ∷ gives 9 (deletingSegment 1 6 (primary 3))
-    ∷ gives 10 (renewing 1 (weak 3) (sixteen 3))
-    ∷ gives 10 (makingSegment 1 5 2 (weak 4))
-    ∷ gives 11 (reading 6 (weak 3) room)
-    ∷ gives 11 (writing 5 (other 4) tight)
-    ∷ gives 13 (makingSegment 1 5 4094 (primary 4))
-    ∷ []
+abbrev pub calls : List Case → List Call
+calls cs = map (λ (c : Case). c .call) cs
 
-abbrev toldOn : Store → ℕ → List Case → List ℕ
-toldOn s size cs = map (λ (c : Case). number added (c .call) s size) cs
+abbrev pub toldOn : Store → ℕ → List Case → List ℕ
+toldOn s size cs = map (λ (x : Call). number added x s size) (calls cs)
 
-abbrev named : List Case → List ℕ
+abbrev pub named : List Case → List ℕ
 named cs = map (λ (c : Case). c .number) cs
 
 pub record NumbersGiven : Type 0 where
   pub damaged : toldOn sample (memory - 1) damaged ≡ named damaged
   pub refusals : toldOn sample memory refusals ≡ named refusals
-  pub orders : toldOn sample memory orders ≡ named orders

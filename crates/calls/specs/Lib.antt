@@ -1,7 +1,11 @@
 pub mod Calls
 pub mod Numbers
 pub mod Clear
+pub mod Words
 pub mod Steps
+pub mod ReadWords
 pub mod Examples
 pub mod Cases
+pub mod Orders
+pub mod Bounds
 pub mod Answers

@@ -32,11 +32,10 @@ use Rattle.calls.specs.Calls.{handleOf, nodeFor, localFor, recordFor, recordNam
 use Rattle.calls.specs.Numbers.{gappedHandle, spentHandle, valid}
 use Rattle.calls.specs.Steps.{about, clusterMade, passwordReplaced, left, given}
 use Rattle.isolation.specs.Copies.{SixteenBytes}
-use Rattle.calls.specs.Clear.{NoRow}
 use Rattle.isolation.specs.Effects.{Made, MadeOpens, otherMode, Renewed, RenewedOpens, Reduced, ReducedOpens}
 use Rattle.isolation.specs.Effects.{Weakened, WeakenedOpens, Refers}
 use Rattle.calls.proofs.CallLaws.{or-left, InRange}
-use Rattle.calls.proofs.DoneLaws.{no-row, done-range, done-mode, done-even, done-active, done-valid}
+use Rattle.calls.proofs.DoneLaws.{NoRow, no-row, done-range, done-mode, done-even, done-active, done-valid}
 use Rattle.calls.proofs.StepLaws.{step-done}
 use Rattle.isolation.proofs.EntryLaws.{other-stays}
 

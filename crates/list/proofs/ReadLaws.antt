@@ -16,7 +16,7 @@ use Rattle.calls.specs.Calls.{Copy, Kind, newCluster, deleteCluster, newSegment
 use Rattle.calls.specs.Calls.{reduce, newPassword, validate, Call, call, placeFor}
 use Rattle.calls.specs.Numbers.{short, number}
 use Rattle.calls.specs.Steps.{given, segmentRead, outcome, step, aesStep}
-use Rattle.calls.proofs.DoneLaws.{done-is-clear}
+use Rattle.calls.proofs.DoneLaws.{no-row}
 use Rattle.list.specs.Records.{codeOf, kindOf, argumentsOf}
 use Rattle.list.specs.Runs.{Bench, Performed, misfits, misfitRows, refused, stepped, performedAs, performed}
 
@@ -39,7 +39,7 @@ module _ (r : List ℕ) (b : List ℕ) (c : Copy) where
   done-told deleteSegment e = omega arith
   done-told read e =
       ltb-false (length b) (lengthOf (placeFor (asks read) (tableAt (c .store))))
-      (done-is-clear f (asks read) (c .store) (length (c .memory)) .clear e .short)
+      (no-row f (asks read) (c .store) (length (c .memory)) e .short)
   done-told write e = omega arith
   done-told weaken e = omega arith
   done-told reduce e = omega arith

@@ -7,4 +7,7 @@ pub mod SoundLaws
 pub mod ClaimLaws
 pub mod ChangeLaws
 pub mod ExampleLaws
+pub mod SoundWordLaws
+pub mod SoundCaseLaws
 pub mod RecordLaws
+pub mod PlacementWordLaws

@@ -3,3 +3,6 @@ pub mod Sound
 pub mod Placement
 pub mod Passes
 pub mod Examples
+pub mod SoundWords
+pub mod SoundCases
+pub mod PlacementWords

@@ -1,0 +1,85 @@
+-- Row 9's test in words: by the mode that the call needs, the chain starts from one primary password or from the other.
+-- Where the field row does not apply, the mode needed is one of the two.
+-- Assumes nothing.
+use mathlib.Core.Path.{_≡_, refl, sym, ap}
+use mathlib.Core.Logic.{_⊎_, inl, inr}
+use Prim.Native.Nat.{ℕ}
+use native.Mathlib.Omega.{arith}
+use mathlib.Core.Bool.{Bool, true, false, not, _&&_, _||_, and-false}
+use mathlib.Core.List.{List, [], _∷_}
+use lib.Dec.{eqb}
+use borrow.Author.Tests.{eqb-true}
+use Rattle.sizes.specs.Sizes.{segments}
+use Rattle.handle.specs.Handles.{Name, nameOf, validates}
+use Rattle.store.specs.declared.Store.{Store}
+use Rattle.store.specs.Records.{primaryOf}
+use Rattle.calls.specs.Calls.{Call, among, opens, uses, needed, handleOf}
+use Rattle.calls.specs.Numbers.{valid, violated}
+use Rattle.calls.specs.Words.{Taken, Opening, ReadMode, WriteMode, Chain, Valid, Field, Violated, clusterOf}
+use Rattle.calls.proofs.TestLaws.{Is, map-is, same-is, off-is, not-is, and-is, or-is, eq-is}
+use Rattle.calls.proofs.KindLaws.{kind-is, other-kind}
+use Rattle.calls.proofs.CallLaws.{mode-known}
+use Rattle.calls.proofs.SelectorWords.{chain-is, four}
+use Rattle.calls.proofs.WordLaws.{opens-is, named-is, badField-is}
+
+-- ---- the mode needed
+
+module _ (x : Call) where
+  abbrev m : ℕ
+  m = x .args .mode
+
+  read-is : Is (eqb (needed x) 1) (ReadMode x)
+  read-is =
+      same-is (go (uses (x .kind) .mode) (among (5 ∷ []) (x .kind)))
+      (or-is (kind-is (λ k. not (uses k .mode) && among (5 ∷ []) k) _ refl x)
+      (and-is (kind-is (λ k. uses k .mode) _ refl x) (eq-is m 1)))
+    where
+      go : (u v : Bool)
+          → eqb (elim u [ true ↦ m | false ↦ elim v [ true ↦ 1 | false ↦ 2 ] ]) 1 ≡ not u && v || u && eqb m 1
+      go true v = refl
+      go false true = refl
+      go false false = refl
+
+  write-is : Opening x → Is (eqb (needed x) 2) (WriteMode x)
+  write-is o =
+      same-is (go (opens (x .kind)) (uses (x .kind) .mode) (among (5 ∷ []) (x .kind)) (opens-is x .into o))
+      (or-is (kind-is (λ k. opens k && (not (uses k .mode) && not (among (5 ∷ []) k))) _ refl x)
+      (and-is (kind-is (λ k. uses k .mode) _ refl x) (eq-is m 2)))
+    where
+      go : (w u v : Bool) → w ≡ true
+          → eqb (elim u [ true ↦ m | false ↦ elim v [ true ↦ 1 | false ↦ 2 ] ]) 2
+          ≡ w && (not u && not v) || u && eqb m 2
+      go w true v e = ap (λ (t : Bool). t || eqb m 2) (sym (and-false w))
+      go w false true e = ap (λ (t : Bool). t || false) (sym (and-false w))
+      go w false false e = ap (λ (t : Bool). t && true || false) (sym e)
+
+module _ (f : Name → List ℕ → ℕ → List ℕ) (x : Call) (s : Store) (t : Taken x) (c : ¬ Field x) where
+  from : ℕ → Bool
+  from mode = validates segments (f (nameOf (handleOf x))) (primaryOf (clusterOf x s) mode) (handleOf x)
+
+  valid-is : Opening x → Is (valid f (needed x) (handleOf x) s) (Valid f x s)
+  unfolding valid from
+  valid-is o = go (mode-known x (off-is (badField-is x) c))
+    where
+      chain : (p : List ℕ) → Is (validates segments (f (nameOf (handleOf x))) p (handleOf x))
+          (Chain (f (nameOf (handleOf x))) p x)
+      chain p = chain-is x (four x t (other-kind _ refl x o)) (f (nameOf (handleOf x))) p
+
+      go : (needed x ≡ 1) ⊎ (needed x ≡ 2) → Is (valid f (needed x) (handleOf x) s) (Valid f x s)
+      go (inl e) =
+          same-is (ap from e) (map-is (λ w. inl (read-is x .out (ap (λ (n : ℕ). eqb n 1) e), w)) back (chain (clusterOf x s .read)))
+        where
+          back : Valid f x s → Chain (f (nameOf (handleOf x))) (clusterOf x s .read) x
+          back (inl (r, w)) = w
+          back (inr (r, w)) = absurd (omega (arith, e, eqb-true (needed x) 2 (write-is x o .into r)))
+      go (inr e) =
+          same-is (ap from e) (map-is (λ w. inr (write-is x o .out (ap (λ (n : ℕ). eqb n 2) e), w)) back (chain (clusterOf x s .write)))
+        where
+          back : Valid f x s → Chain (f (nameOf (handleOf x))) (clusterOf x s .write) x
+          back (inl (r, w)) = absurd (omega (arith, e, eqb-true (needed x) 1 (read-is x .into r)))
+          back (inr (r, w)) = w
+
+  pub violated-is : Is (violated f x s) (Violated f x s)
+  unfolding violated
+  violated-is =
+      named-is x (opens-is x) (other-kind _ refl x) (λ h. not (valid f (needed x) h s)) (λ o. not-is (valid-is o))

@@ -1,0 +1,253 @@
+-- Each row's test is true just where the row's words hold. What the data about the kinds says (`uses`, `needed`, the
+-- record that a call is about) is worked out for the kinds that the row names; the rest is the test's own parts in words.
+-- Rows 9 and 16 are told that no words above them hold: there is a mode, a node and a size, and the store is sound.
+-- Assumes nothing.
+use mathlib.Core.Path.{_≡_, refl, sym, ap, _∙_, subst}
+use mathlib.Core.Logic.{_≢_, _⊎_, inl, inr}
+use Prim.Native.Nat.{ℕ, _*_, _+_, _<_}
+use native.Mathlib.Omega.{arith}
+use mathlib.Core.Bool.{Bool, true, false, not, _&&_, false≢true, or-false}
+use mathlib.Core.List.{[], _∷_}
+use lib.Dec.{eqb, ltb}
+use lib.ListN.{length}
+use borrow.Author.Tests.{ltb-true, lt-ltb}
+use Rattle.handle.specs.declared.Handle.{Handle}
+use Rattle.handle.specs.Selectors.{allFlat, gapped}
+use Rattle.handle.specs.Handles.{nodeOf, widthOf, noSuchPlace}
+use Rattle.store.specs.declared.Place.{Place}
+use Rattle.store.specs.declared.Place.the-variants.{Absent, Present}
+use Rattle.store.specs.declared.Store.{Store}
+use Rattle.store.specs.Records.{clusterAt, tableAt, placeAt, lengthOf}
+use Rattle.store.specs.Sound.{isAbsent, sound}
+use Rattle.store.specs.Placement.{placement}
+use Rattle.store.specs.SoundWords.{SoundInWords}
+use Rattle.store.specs.PlacementWords.{Room}
+use Rattle.store.proofs.SoundWordLaws.{sound-in-words}
+use Rattle.store.proofs.PlacementWordLaws.{placement-in-words}
+use Rattle.calls.specs.Calls.{Call, newCluster, newSegment, read, write, weaken}
+use Rattle.calls.specs.Calls.{among, opens, uses, handleOf, presented, anyOf}
+use Rattle.calls.specs.Calls.{buffer, nodeFor, recordFor, recordNamed, placeFor}
+use Rattle.calls.specs.Numbers.{unsound, noPlace, badMode, badSegment, badSize, badField, gappedHandle, elsewhere}
+use Rattle.calls.specs.Numbers.{inUse, twins, inactiveCluster, notPrimary, notReferenced, isOld, oldPassword}
+use Rattle.calls.specs.Numbers.{segmentPresent, segmentAbsent, short, fullNode, spentHandle}
+use Rattle.calls.specs.Words.{Named, Handled, Taken, Opening, clusterOf, place, Unsound, NoSuchPlace, Field}
+use Rattle.calls.specs.Words.{Gapped, Elsewhere, InUse, Twins, Inactive, NotPrimary, NotReferenced, OldPassword}
+use Rattle.calls.specs.Words.{SegmentPresent, SegmentAbsent, Short, NoRoom, Spent}
+use Rattle.calls.proofs.TestLaws.{Is, map-is, same-is, off-is, not-is, then-is, and-is, or-is, three-is, holds-is}
+use Rattle.calls.proofs.TestLaws.{fails-is, eq-is, le-is, lt-is}
+use Rattle.calls.proofs.KindLaws.{kind-is, but-is, other-kind}
+use Rattle.calls.proofs.SelectorWords.{references-is, other-is, gapped-is, spent-is, password-is, four}
+
+module _ (x : Call) where
+  -- ---- the kinds
+
+  handled-is : Is (uses (x .kind) .handle) (Handled x)
+  handled-is = but-is (λ k. uses k .handle) refl x
+
+  local-is : Is (uses (x .kind) .local) (Named (newCluster ∷ []) x)
+  local-is = kind-is (λ k. uses k .local) _ refl x
+
+  pub opens-is : Is (opens (x .kind)) (Opening x)
+  opens-is = kind-is opens _ refl x
+
+  -- call 1 is about the cluster of its local number on its current node, the others about the one that the handle names
+  abbrev about : Bool → ℕ
+  about u =
+      elim u [ true ↦ x .args .current | false ↦ nodeOf (handleOf x) ] * 8
+      + elim u [ true ↦ x .args .local | false ↦ handleOf x .local ]
+
+  own-record : Named (newCluster ∷ []) x → recordFor x ≡ x .args .current * 8 + x .args .local
+  own-record n = ap about (local-is .into n)
+
+  no-local : Handled x → uses (x .kind) .local ≡ false
+  unfolding Named
+  no-local h = off-is local-is none
+    where
+      none : ¬ Named (newCluster ∷ []) x
+      none (inl e) = h e
+      none (inr e) = e
+
+  handle-record : Handled x → recordFor x ≡ nodeOf (handleOf x) * 8 + handleOf x .local
+  handle-record h = ap about (no-local h)
+
+  handle-node : Handled x → nodeFor x ≡ nodeOf (handleOf x)
+  handle-node h = ap (λ (u : Bool). elim u [ true ↦ x .args .current | false ↦ nodeOf (handleOf x) ]) (no-local h)
+
+  handle-place : (s : Store) → Handled x → placeFor x (tableAt s) ≡ place x s
+  handle-place s h = ap (λ (n : ℕ). placeAt (tableAt s) n (x .args .segment)) (handle-record h)
+
+  -- a test of the handles presented is one of the call's handle, where it takes one
+  one-handle : (p : Handle → Bool) → anyOf p (presented x) ≡ uses (x .kind) .handle && p (handleOf x)
+  one-handle p = go (uses (x .kind) .handle)
+    where
+      go : (u : Bool) → anyOf p (elim u [ true ↦ handleOf x ∷ [] | false ↦ [] ]) ≡ u && p (handleOf x)
+      go true = or-false (p (handleOf x))
+      go false = refl
+
+  presented-is : (p : Handle → Bool) {P : Type 0} → (Handled x → Is (p (handleOf x)) P)
+      → Is (anyOf p (presented x)) (Handled x × P)
+  presented-is p h = same-is (one-handle p) (then-is handled-is h)
+
+  -- and beside a test of kinds that all take a handle
+  pub named-is : {a : Bool} {A P : Type 0} → Is a A → (A → Handled x) → (p : Handle → Bool)
+      → (A → Is (p (handleOf x)) P) → Is (a && anyOf p (presented x)) (A × P)
+  named-is h k p q =
+      then-is h (λ n. same-is (one-handle p ∙ ap (λ (u : Bool). u && p (handleOf x)) (handled-is .into (k n))) (q n))
+
+  -- ---- the rows of the call alone
+
+  pub noPlace-is : Is (noPlace x) (NoSuchPlace x)
+  unfolding noPlace
+  noPlace-is =
+      three-is
+      (presented-is noSuchPlace (λ h. or-is (le-is 4 (nodeOf (handleOf x))) (le-is 8 (handleOf x .local))))
+      (and-is (kind-is (λ k. uses k .current) _ refl x) (le-is 4 (x .args .current)))
+      (and-is local-is (le-is 8 (x .args .local)))
+
+  pub badField-is : Is (badField x) (Field x)
+  unfolding badField badMode badSegment badSize
+  badField-is =
+      three-is
+      (map-is (λ r. (r .0, λ e. r .1 (inl e), λ e. r .1 (inr e))) (λ r. (r .0, neither (r .1) (r .2)))
+      (and-is (kind-is (λ k. uses k .mode) _ refl x) (not-is (or-is (eq-is (x .args .mode) 1) (eq-is (x .args .mode) 2)))))
+      (and-is (kind-is (λ k. uses k .segment) _ refl x) (le-is 8 (x .args .segment)))
+      (and-is (kind-is (λ k. uses k .size) _ refl x)
+      (or-is (eq-is (x .args .size) 0) (lt-is 4096 (x .args .size))))
+    where
+      neither : x .args .mode ≢ 1 → x .args .mode ≢ 2 → ¬ ((x .args .mode ≡ 1) ⊎ (x .args .mode ≡ 2))
+      neither m n (inl e) = m e
+      neither m n (inr e) = n e
+
+  pub elsewhere-is : Is (elsewhere x) (Elsewhere x)
+  unfolding elsewhere
+  elsewhere-is =
+      then-is (kind-is (among (2 ∷ 3 ∷ 4 ∷ [])) _ refl x) (λ n.
+      same-is (ap (λ (v : ℕ). not (eqb (x .args .current) v)) (handle-node (other-kind _ refl x n)))
+      (not-is (eq-is (x .args .current) (nodeOf (handleOf x)))))
+
+  pub twins-is : Is (twins x) (Twins x)
+  unfolding twins
+  twins-is = and-is (kind-is (among (1 ∷ [])) _ refl x) (password-is (x .args .first) (x .args .second))
+
+  -- ---- the rows of a selector
+
+  module _ (t : Taken x) where
+    pub gapped-row : Is (gappedHandle x) (Gapped x)
+    unfolding gappedHandle
+    gapped-row = presented-is (λ h. gapped (widthOf h) (h .selector)) (λ h. gapped-is x (four x t h))
+
+    pub notPrimary-is : Is (notPrimary x) (NotPrimary x)
+    unfolding notPrimary
+    notPrimary-is =
+        named-is (kind-is (among (2 ∷ 3 ∷ 4 ∷ 9 ∷ [])) _ refl x) (other-kind _ refl x)
+        (λ h. not (allFlat (widthOf h) (h .selector))) (λ n. other-is x (four x t (other-kind _ refl x n)))
+
+    pub notReferenced-is : Is (notReferenced x) (NotReferenced x)
+    unfolding notReferenced
+    notReferenced-is =
+        then-is (kind-is (among (5 ∷ 6 ∷ [])) _ refl x) (λ n.
+        not-is (references-is x (four x t (other-kind _ refl x n)) (x .args .segment)))
+
+    pub spent-row : Is (spentHandle x) (Spent x)
+    unfolding spentHandle
+    spent-row =
+        map-is (λ r. (r .0, r .1 .0, r .1 .1)) (λ r. (r .0, (r .1, r .2)))
+        (then-is (kind-is (among (7 ∷ [])) _ refl x) (λ n.
+        spent-is x (four x t (other-kind _ refl x n)) (x .args .mask)))
+
+  -- ---- the rows of the store
+
+  module _ (s : Store) where
+    pub unsound-is : (size : ℕ) → Is (unsound size x s) (Unsound size x s)
+    unfolding unsound
+    unsound-is size =
+        and-is (but-is (λ k. not (among (7 ∷ []) k)) refl x)
+        (not-is (record { out = sound-in-words s size .0; into = sound-in-words s size .1 }))
+
+    pub inUse-is : Is (inUse x (tableAt s)) (InUse x s)
+    unfolding inUse
+    inUse-is =
+        then-is (kind-is (among (1 ∷ [])) _ refl x) (λ n.
+        same-is (ap (λ (k : ℕ). tableAt s k .active) (own-record n)) (holds-is _))
+
+    pub inactive-is : Is (inactiveCluster x (tableAt s)) (Inactive x s)
+    unfolding inactiveCluster
+    inactive-is =
+        named-is opens-is (other-kind _ refl x) (λ h. not (tableAt s (recordNamed h) .active)) (λ h.
+        fails-is (clusterOf x s .active))
+
+    pub oldPassword-is : Is (oldPassword x s) (OldPassword x s)
+    unfolding oldPassword
+    oldPassword-is =
+        then-is (kind-is (among (9 ∷ [])) _ refl x) (λ n.
+        same-is (ap (λ (k : ℕ). isOld (x .args .first) (clusterAt s k)) (handle-record (other-kind _ refl x n)))
+        (or-is (password-is (x .args .first) (clusterOf x s .read)) (password-is (x .args .first) (clusterOf x s .write))))
+
+    pub present-is : Is (segmentPresent x (tableAt s)) (SegmentPresent x s)
+    unfolding segmentPresent
+    present-is =
+        then-is (kind-is (among (3 ∷ [])) _ refl x) (λ n.
+        same-is (ap (λ (p : Place). not (isAbsent p)) (handle-place s (other-kind _ refl x n))) (go (place x s)))
+      where
+        go : (p : Place) → Is (not (isAbsent p)) ((base : ℕ) × (length : ℕ) × (p ≡ Present base length))
+        go Absent = record { out = λ e. absurd (false≢true e); into = λ r. ap (λ (p : Place). not (isAbsent p)) (r .2) }
+        go (Present base length) = record { out = λ e. (base, length, refl); into = λ r. refl }
+
+    pub absent-is : Is (segmentAbsent x (tableAt s)) (SegmentAbsent x s)
+    unfolding segmentAbsent
+    absent-is =
+        then-is (kind-is (among (4 ∷ 5 ∷ 6 ∷ [])) _ refl x) (λ n.
+        same-is (ap isAbsent (handle-place s (other-kind _ refl x n))) (go (place x s)))
+      where
+        go : (p : Place) → Is (isAbsent p) (p ≡ Absent)
+        go Absent = record { out = λ e. refl; into = λ r. refl }
+        go (Present base length) = record { out = λ e. absurd (false≢true e); into = λ r. ap isAbsent r }
+
+    pub short-is : Is (short x (tableAt s)) (Short x s)
+    unfolding short
+    short-is =
+        then-is (kind-is (among (5 ∷ 6 ∷ [])) _ refl x) (λ n.
+        same-is
+        (λ j. ltb (length (its n j)) (lengthOf (handle-place s (other-kind _ refl x n) j)))
+        (go (length (x .args .bytes)) (place x s)))
+      where
+        its : Named (read ∷ write ∷ []) x → buffer x ≡ x .args .bytes
+        its n =
+            ap (λ (u : Bool). elim u [ true ↦ x .args .bytes | false ↦ [] ])
+            (kind-is (λ k. uses k .bytes) (read ∷ write ∷ []) refl x .into n)
+
+        go : (m : ℕ) (p : Place)
+            → Is (ltb m (lengthOf p)) ((base : ℕ) × (n : ℕ) × (p ≡ Present base n) × (m < n))
+        go m p =
+            record { out = λ e. there p (ltb-true m (lengthOf p) e); into = λ r. lt-ltb m (lengthOf p) (back r) }
+          where
+            there : (p : Place) → m < lengthOf p → (base : ℕ) × (n : ℕ) × (p ≡ Present base n) × (m < n)
+            there Absent l = absurd (omega arith)
+            there (Present base n) l = (base, n, refl, l)
+
+            back : (base : ℕ) × (n : ℕ) × (p ≡ Present base n) × (m < n) → m < lengthOf p
+            back r = subst (λ (q : Place). m < lengthOf q) (sym (r .2)) (r .3)
+
+    -- where the store is sound, the place exists and the size is good
+    pub fullNode-is : (size : ℕ) → ¬ Unsound size x s → ¬ NoSuchPlace x → ¬ Field x
+        → Is (fullNode x (tableAt s)) (NoRoom x s)
+    unfolding fullNode
+    fullNode-is size a b c =
+        then-is (kind-is (among (3 ∷ [])) _ refl x) (λ n.
+        same-is
+        (ap (λ (v : ℕ). eqb (placement (tableAt s) v (x .args .size) .number) 16) (handle-node (other-kind _ refl x n)))
+        (placed n))
+      where
+        whole : x .kind ≢ weaken → (b : Bool) → sound s size ≡ b → SoundInWords s size
+        whole k true e = sound-in-words s size .0 e
+        whole k false e = absurd (a (k, λ w. false≢true (sym e ∙ sound-in-words s size .1 w)))
+
+        placed : Named (newSegment ∷ []) x
+            → Is (eqb (placement (tableAt s) (nodeOf (handleOf x)) (x .args .size) .number) 16)
+            ((base : ℕ) → ¬ Room s (nodeOf (handleOf x)) (x .args .size) base)
+        placed n =
+            let node : ¬ (3 < nodeOf (handleOf x)) = λ h. b (inl (other-kind _ refl x n, inl h)) in
+            let some : ¬ (x .args .size ≡ 0) = λ h. c (inr (inr (n, inl h))) in
+            let w = whole (other-kind _ refl x n) (sound s size) refl in
+            let p = placement-in-words s size w (nodeOf (handleOf x)) (x .args .size) (omega arith) (omega arith) in
+            map-is (p .nowhere .0) (p .nowhere .1) (eq-is _ 16)

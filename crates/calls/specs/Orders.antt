@@ -1,0 +1,122 @@
+-- Document 01, "Numbers a call may be turned down with": when several apply, the one nearest the table's top is given. As a
+-- computed list, on the store and with the shorthands of the numbers' lists.
+--     farGap, idleGap, idleWrong    handles that are gapped and name a node above 3, are gapped and name an inactive
+--                          cluster, or name one and do not validate
+--     Order, over u l x    a call to which two rows apply, the upper and the lower
+--     applies n x          the row with the number n applies to the call
+--     orders               every two rows that stand next to each other for a call, where they can meet
+--     OrdersGiven          the upper number is given, and the lower row applies too
+-- Assumes nothing.
+use mathlib.Core.Path.{_≡_}
+use Prim.Native.Nat.{ℕ}
+use mathlib.Core.Bool.{Bool, true, false, _&&_, _||_}
+use mathlib.Core.List.{List, [], _∷_, map}
+use lib.Dec.{eqb}
+use Rattle.sizes.specs.Sizes.{segments, memory}
+use Rattle.handle.specs.Selectors.{flats}
+use Rattle.handle.specs.Handles.{Row}
+use Rattle.calls.specs.Calls.{Call, makingCluster, deletingCluster, makingSegment, deletingSegment, reading}
+use Rattle.calls.specs.Calls.{writing, weakeningBy, reducing, renewing, validating}
+use Rattle.calls.specs.Numbers.{at, rows, number}
+use Rattle.calls.specs.Cases.{added, sixteen, shown, primary, weak, other, gap, far, high, idle, spent, room, tight}
+use Rattle.calls.specs.Cases.{sample}
+
+abbrev farGap : List ℕ
+farGap = shown 4 2 3 (255 ∷ 254 ∷ 255 ∷ 255 ∷ [])
+
+abbrev idleGap : List ℕ
+idleGap = shown 1 3 0 (255 ∷ 254 ∷ 255 ∷ 255 ∷ [])
+
+abbrev idleWrong : List ℕ
+idleWrong = shown 1 3 7 (flats segments)
+
+pub record Order : Type 0 where
+  pub upper : ℕ
+  pub lower : ℕ
+  pub call : Call
+
+abbrev over : ℕ → ℕ → Call → Order
+over u l x = record { upper = u; lower = l; call = x }
+
+abbrev among : ℕ → List Row → Bool
+among n [] = false
+among n (r ∷ rs) = eqb (r .number) n && r .applies || among n rs
+
+abbrev pub applies : ℕ → Call → Bool
+applies n x = among n (at x sample (rows added memory))
+
+-- every two rows that stand next to each other for a call, where they can meet: a segment that is absent has no length,
+-- and a gapped handle has a flat subselector
+abbrev pub orders : List Order
+orders =
+    -- 2 above 3, 4, 6, 7 and 17
+    over 2 6 (makingCluster 0 10 (sixteen 1) (sixteen 2))
+    ∷ over 2 7 (makingCluster 4 3 (sixteen 1) (sixteen 1))
+    ∷ over 2 4 (deletingCluster 1 farGap)
+    ∷ over 2 3 (makingSegment 1 8 2 far)
+    ∷ over 2 3 (makingSegment 4 6 0 (primary 4))
+    ∷ over 2 3 (deletingSegment 1 8 high)
+    ∷ over 2 3 (reading 8 far room)
+    ∷ over 2 3 (writing 8 high room)
+    ∷ over 2 4 (weakeningBy 0 farGap)
+    ∷ over 2 17 (weakeningBy 239 (shown 4 2 3 spent))
+    ∷ over 2 3 (reducing 3 far)
+    ∷ over 2 3 (renewing 3 high (sixteen 8))
+    ∷ over 2 3 (validating 3 far)
+    -- 3 above 4
+    ∷ over 3 4 (makingSegment 1 6 4097 gap)
+    ∷ over 3 4 (deletingSegment 1 8 gap)
+    ∷ over 3 4 (reading 8 gap room)
+    ∷ over 3 4 (writing 8 gap room)
+    ∷ over 3 4 (reducing 3 gap)
+    ∷ over 3 4 (renewing 0 gap (sixteen 8))
+    ∷ over 3 4 (validating 3 gap)
+    -- 4 above 5, and above 8
+    ∷ over 4 5 (deletingCluster 0 gap)
+    ∷ over 4 5 (makingSegment 0 6 2 gap)
+    ∷ over 4 5 (deletingSegment 0 5 gap)
+    ∷ over 4 8 (reading 5 idleGap room)
+    ∷ over 4 8 (writing 5 idleGap room)
+    ∷ over 4 8 (reducing 1 idleGap)
+    ∷ over 4 8 (renewing 1 idleGap (sixteen 8))
+    ∷ over 4 8 (validating 1 idleGap)
+    -- 5 above 8
+    ∷ over 5 8 (deletingCluster 0 idle)
+    ∷ over 5 8 (makingSegment 0 6 2 idle)
+    ∷ over 5 8 (deletingSegment 0 5 idle)
+    -- 6 above 7
+    ∷ over 6 7 (makingCluster 1 2 (sixteen 1) (sixteen 1))
+    -- 8 above 9
+    ∷ over 8 9 (deletingCluster 1 idleWrong)
+    ∷ over 8 9 (makingSegment 1 6 2 idleWrong)
+    ∷ over 8 9 (deletingSegment 1 5 idleWrong)
+    ∷ over 8 9 (reading 5 idleWrong room)
+    ∷ over 8 9 (writing 5 idleWrong room)
+    ∷ over 8 9 (reducing 1 idleWrong)
+    ∷ over 8 9 (renewing 1 idleWrong (sixteen 8))
+    ∷ over 8 9 (validating 1 idleWrong)
+    -- 9 above 10, above 11, and above 13 and 14
+    ∷ over 9 10 (deletingCluster 1 (weak 3))
+    ∷ over 9 10 (makingSegment 1 6 2 (weak 3))
+    ∷ over 9 10 (deletingSegment 1 5 (weak 3))
+    ∷ over 9 10 (renewing 1 (weak 4) (sixteen 8))
+    ∷ over 9 11 (reading 5 (other 4) room)
+    ∷ over 9 11 (writing 5 (other 3) room)
+    ∷ over 9 13 (makingSegment 1 5 2 (primary 3))
+    ∷ over 9 14 (deletingSegment 1 6 (primary 3))
+    -- 10 above 12, 13 and 14
+    ∷ over 10 12 (renewing 1 (weak 3) (sixteen 3))
+    ∷ over 10 13 (makingSegment 1 5 2 (weak 4))
+    ∷ over 10 14 (deletingSegment 1 6 (weak 4))
+    -- 11 above 14, and above 15
+    ∷ over 11 14 (reading 6 (weak 3) room)
+    ∷ over 11 14 (writing 6 (weak 4) room)
+    ∷ over 11 15 (reading 5 (other 3) tight)
+    ∷ over 11 15 (writing 5 (other 4) tight)
+    -- 13 above 16
+    ∷ over 13 16 (makingSegment 1 5 4094 (primary 4))
+    ∷ []
+
+pub record OrdersGiven : Type 0 where
+  pub told : map (λ (o : Order). number added (o .call) sample memory) orders ≡ map (λ (o : Order). o .upper) orders
+  pub meet : map (λ (o : Order). applies (o .lower) (o .call)) orders ≡ map (λ (o : Order). true) orders

@@ -1,0 +1,251 @@
+-- Document 01, "Numbers a call may be turned down with", row by row in the table's own words and numbers; nothing here is
+-- a test, and `number` (Numbers) is held to it both ways. The calls that a row names are listed by kind, in the order of
+-- their codes; validation stands with call 8, whose number it gives. The cluster of node v and local number l is record
+-- v * 8 + l.
+--     Named ks x           the call x is of one of the kinds ks
+--     Handled x            the call takes a handle: all but 1
+--     Taken x              it takes it as 23 bytes
+--     HandleInWords b      the handle that 23 bytes hold: node (high byte first), local number, password, selector
+--     subselector x k      subselector k of its handle
+--     Bit i s              bit i of s is set, 0 the least
+--     References x i       bit i is set in all four subselectors
+--     SamePassword p q     the sixteen bytes of p are those of q
+--     cluster s v l        the record of the cluster of node v and local number l
+--     clusterOf x s        that of the cluster which the call's handle names
+--     place x s            the place of the segment which the call names, in that cluster
+--     Converted g p s q    the step of validation by the subselector s: a flat one is skipped and q is p; by another p goes
+--                          through the conversion g with s and comes out as q
+--     Chain g p x          the chain from the primary password p, by subselector 0 first, ends as the handle's password
+--     ReadMode, WriteMode  the mode needed: read for 5, write for 2, 3, 4 and 6, the one named for 8 and 9
+--     Valid f x s          the handle validates in the mode needed
+--     Unsound .. Spent     the seventeen rows
+--     Entry, table         a number and its words; the table, nearest the top first
+--     Nothing ls           no words of ls hold
+--     Told ls n            the words of the entry with number n hold, and none above it
+--     TableInWords         0 is given just where nothing applies, n just where row n applies and nothing above it; it
+--                          holds of every call that is Taken, every store, size and conversion
+-- Assumes nothing.
+use mathlib.Core.Path.{_≡_}
+use mathlib.Core.Logic.{_≢_, _⊎_, _↔_}
+use Prim.Native.Nat.{ℕ, _+_, _*_, _/_, _%_, _^_, _<_}
+use mathlib.Core.Bool.{true, false}
+use mathlib.Core.List.{List, [], _∷_}
+use lib.ListN.{length, getD}
+use Rattle.handle.specs.Handles.{Name, nameOf, nodeOf, decoded}
+use Rattle.store.specs.declared.Place.{Place}
+use Rattle.store.specs.declared.Place.the-variants.{Absent, Present}
+use Rattle.store.specs.declared.Cluster.{Cluster}
+use Rattle.store.specs.declared.Store.{Store}
+use Rattle.store.specs.Records.{tableOf, clusterAt, placeOf}
+use Rattle.store.specs.SoundWords.{SoundInWords}
+use Rattle.store.specs.PlacementWords.{Room}
+use Rattle.calls.specs.Calls.{Call, Kind, newCluster, deleteCluster, newSegment, deleteSegment, read, write, weaken}
+use Rattle.calls.specs.Calls.{reduce, newPassword, validate, handleOf}
+use Rattle.calls.specs.Numbers.{number}
+
+-- ---- the calls that a row names
+
+unfoldable pub Named : List Kind → Call → Type 0
+Named [] x = ⊥
+Named (k ∷ ks) x = (x .kind ≡ k) ⊎ Named ks x
+
+abbrev pub Handled : Call → Type 0
+Handled x = x .kind ≢ newCluster
+
+abbrev pub Taken : Call → Type 0
+Taken x = Handled x → length (x .args .handle) ≡ 23
+
+-- 2 to 6, 8, 9
+abbrev pub Opening : Call → Type 0
+Opening x =
+    Named
+    (deleteCluster ∷ newSegment ∷ deleteSegment ∷ read ∷ write ∷ reduce ∷ newPassword ∷ validate ∷ []) x
+
+-- ---- handles and clusters
+
+pub record HandleInWords (b : List ℕ) : Type 0 where
+  pub node : nodeOf (decoded b) ≡ getD b 0 0 * 256 + getD b 1 0
+  pub local : decoded b .local ≡ getD b 2 0
+  pub password : (k : ℕ) → k < 16 → getD (decoded b .password) k 0 ≡ getD b (3 + k) 0
+  pub selector : (k : ℕ) → k < 4 → getD (decoded b .selector) k 0 ≡ getD b (19 + k) 0
+
+abbrev pub subselector : Call → ℕ → ℕ
+subselector x k = getD (handleOf x .selector) k 0
+
+abbrev pub Bit : ℕ → ℕ → Type 0
+Bit i s = s / 2 ^ i % 2 ≡ 1
+
+abbrev pub References : Call → ℕ → Type 0
+References x i = (k : ℕ) → k < 4 → Bit i (subselector x k)
+
+abbrev pub SamePassword : List ℕ → List ℕ → Type 0
+SamePassword p q = (k : ℕ) → k < 16 → getD p k 0 ≡ getD q k 0
+
+abbrev pub cluster : Store → ℕ → ℕ → Cluster
+cluster s v l = clusterAt s (v * 8 + l)
+
+abbrev pub clusterOf : Call → Store → Cluster
+clusterOf x s = cluster s (nodeOf (handleOf x)) (handleOf x .local)
+
+abbrev pub place : Call → Store → Place
+place x s = placeOf (tableOf (clusterOf x s)) (x .args .segment)
+
+-- ---- validation
+
+abbrev pub Converted : (List ℕ → ℕ → List ℕ) → List ℕ → ℕ → List ℕ → Type 0
+Converted g p s q = ((s ≡ 255) × (q ≡ p)) ⊎ ((s ≢ 255) × (q ≡ g p s))
+
+pub record Chain (g : List ℕ → ℕ → List ℕ) (p : List ℕ) (x : Call) : Type 0 where
+  pub after0 : List ℕ
+  pub after1 : List ℕ
+  pub after2 : List ℕ
+  pub after3 : List ℕ
+  pub by0 : Converted g p (subselector x 0) after0
+  pub by1 : Converted g after0 (subselector x 1) after1
+  pub by2 : Converted g after1 (subselector x 2) after2
+  pub by3 : Converted g after2 (subselector x 3) after3
+  pub ends : SamePassword after3 (handleOf x .password)
+
+abbrev pub ReadMode : Call → Type 0
+ReadMode x = Named (read ∷ []) x ⊎ (Named (reduce ∷ newPassword ∷ validate ∷ []) x × (x .args .mode ≡ 1))
+
+abbrev pub WriteMode : Call → Type 0
+WriteMode x =
+    Named (deleteCluster ∷ newSegment ∷ deleteSegment ∷ write ∷ []) x
+    ⊎ (Named (reduce ∷ newPassword ∷ validate ∷ []) x × (x .args .mode ≡ 2))
+
+abbrev pub Valid : (Name → List ℕ → ℕ → List ℕ) → Call → Store → Type 0
+Valid f x s =
+    (ReadMode x × Chain (f (nameOf (handleOf x))) (clusterOf x s .read) x)
+    ⊎ (WriteMode x × Chain (f (nameOf (handleOf x))) (clusterOf x s .write) x)
+
+-- ---- the rows
+
+-- 1, all but 7: the store is not sound
+abbrev pub Unsound : ℕ → Call → Store → Type 0
+Unsound size x s = (x .kind ≢ weaken) × ¬ SoundInWords s size
+
+-- 2: node above 3 or local number above 7, in the handle or the call. Calls 1 to 4 name a current node, 1 a local number
+abbrev pub NoSuchPlace : Call → Type 0
+NoSuchPlace x =
+    (Handled x × ((3 < nodeOf (handleOf x)) ⊎ (7 < handleOf x .local)))
+    ⊎ (Named (newCluster ∷ deleteCluster ∷ newSegment ∷ deleteSegment ∷ []) x × (3 < x .args .current))
+    ⊎ (Named (newCluster ∷ []) x × (7 < x .args .local))
+
+-- 3: mode not 1 or 2; segment above 7; size 0 or above 4,096. A mode is named by 8 and 9, a segment by 3 to 6, a size by 3
+abbrev pub Field : Call → Type 0
+Field x =
+    (Named (reduce ∷ newPassword ∷ validate ∷ []) x × (x .args .mode ≢ 1) × (x .args .mode ≢ 2))
+    ⊎ (Named (newSegment ∷ deleteSegment ∷ read ∷ write ∷ []) x × (7 < x .args .segment))
+    ⊎ (Named (newSegment ∷ []) x × ((x .args .size ≡ 0) ⊎ (4096 < x .args .size)))
+
+-- 4: the handle's selector is gapped: a flat subselector j stands below one, k, that is not flat
+abbrev pub Gapped : Call → Type 0
+Gapped x =
+    Handled x
+    × ((j : ℕ) × (k : ℕ) × (j < k) × (k < 4) × (subselector x j ≡ 255) × (subselector x k ≢ 255))
+
+-- 5, for 2, 3, 4: the current node is not the handle's
+abbrev pub Elsewhere : Call → Type 0
+Elsewhere x =
+    Named (deleteCluster ∷ newSegment ∷ deleteSegment ∷ []) x × (x .args .current ≢ nodeOf (handleOf x))
+
+-- 6, for 1: the cluster is active
+abbrev pub InUse : Call → Store → Type 0
+InUse x s = Named (newCluster ∷ []) x × (cluster s (x .args .current) (x .args .local) .active ≡ true)
+
+-- 7, for 1: the two passwords are equal
+abbrev pub Twins : Call → Type 0
+Twins x = Named (newCluster ∷ []) x × SamePassword (x .args .first) (x .args .second)
+
+-- 8, for 2 to 6, 8, 9: the cluster is inactive
+abbrev pub Inactive : Call → Store → Type 0
+Inactive x s = Opening x × (clusterOf x s .active ≡ false)
+
+-- 9, for 2 to 6, 8, 9: the handle does not validate in the mode needed
+abbrev pub Violated : (Name → List ℕ → ℕ → List ℕ) → Call → Store → Type 0
+Violated f x s = Opening x × ¬ Valid f x s
+
+-- 10, for 2, 3, 4, 9: some subselector is not flat
+abbrev pub NotPrimary : Call → Type 0
+NotPrimary x =
+    Named (deleteCluster ∷ newSegment ∷ deleteSegment ∷ newPassword ∷ []) x
+    × ((k : ℕ) × (k < 4) × (subselector x k ≢ 255))
+
+-- 11, for 5, 6: the handle does not reference the segment
+abbrev pub NotReferenced : Call → Type 0
+NotReferenced x = Named (read ∷ write ∷ []) x × ¬ References x (x .args .segment)
+
+-- 12, for 9: the new password equals either current primary password
+abbrev pub OldPassword : Call → Store → Type 0
+OldPassword x s =
+    Named (newPassword ∷ []) x
+    × (SamePassword (x .args .first) (clusterOf x s .read) ⊎ SamePassword (x .args .first) (clusterOf x s .write))
+
+-- 13, for 3: the segment is present
+abbrev pub SegmentPresent : Call → Store → Type 0
+SegmentPresent x s = Named (newSegment ∷ []) x × ((base : ℕ) × (length : ℕ) × (place x s ≡ Present base length))
+
+-- 14, for 4, 5, 6: the segment is absent
+abbrev pub SegmentAbsent : Call → Store → Type 0
+SegmentAbsent x s = Named (deleteSegment ∷ read ∷ write ∷ []) x × (place x s ≡ Absent)
+
+-- 15, for 5, 6: the buffer or the data is shorter than the segment
+abbrev pub Short : Call → Store → Type 0
+Short x s =
+    Named (read ∷ write ∷ []) x
+    × ((base : ℕ) × (n : ℕ) × (place x s ≡ Present base n) × (length (x .args .bytes) < n))
+
+-- 16, for 3: no base exists
+abbrev pub NoRoom : Call → Store → Type 0
+NoRoom x s = Named (newSegment ∷ []) x × ((base : ℕ) → ¬ Room s (nodeOf (handleOf x)) (x .args .size) base)
+
+-- 17, for 7: something would be excluded, a referenced segment whose mask bit is clear, and no subselector is flat
+abbrev pub Spent : Call → Type 0
+Spent x =
+    Named (weaken ∷ []) x
+    × ((i : ℕ) × (i < 8) × References x i × ¬ Bit i (x .args .mask))
+    × ((k : ℕ) → k < 4 → subselector x k ≢ 255)
+
+-- ---- the table
+
+pub record Entry : Type 1 where
+  pub number : ℕ
+  pub words : Type 0
+
+abbrev entry : ℕ → Type 0 → Entry
+entry n w = record { number = n; words = w }
+
+abbrev pub Nothing : List Entry → Type 0
+Nothing [] = Unit {0}
+Nothing (l ∷ ls) = (¬ l .words) × Nothing ls
+
+abbrev pub Told : List Entry → ℕ → Type 0
+Told [] n = ⊥
+Told (l ∷ ls) n = ((n ≡ l .number) × l .words) ⊎ ((¬ l .words) × Told ls n)
+
+module _ (f : Name → List ℕ → ℕ → List ℕ) (x : Call) (s : Store) (size : ℕ) where
+  abbrev pub table : List Entry
+  table =
+      entry 1 (Unsound size x s)
+      ∷ entry 2 (NoSuchPlace x)
+      ∷ entry 3 (Field x)
+      ∷ entry 4 (Gapped x)
+      ∷ entry 5 (Elsewhere x)
+      ∷ entry 6 (InUse x s)
+      ∷ entry 7 (Twins x)
+      ∷ entry 8 (Inactive x s)
+      ∷ entry 9 (Violated f x s)
+      ∷ entry 10 (NotPrimary x)
+      ∷ entry 11 (NotReferenced x)
+      ∷ entry 12 (OldPassword x s)
+      ∷ entry 13 (SegmentPresent x s)
+      ∷ entry 14 (SegmentAbsent x s)
+      ∷ entry 15 (Short x s)
+      ∷ entry 16 (NoRoom x s)
+      ∷ entry 17 (Spent x)
+      ∷ []
+
+  pub record TableInWords : Type 0 where
+    pub done : (number f x s size ≡ 0) ↔ Nothing table
+    pub told : (n : ℕ) → 0 < n → (number f x s size ≡ n) ↔ Told table n

@@ -1,0 +1,83 @@
+-- Document 01, "The store", the sentence that begins "Sound:", as computed lists: a table for each way to break it, and
+-- tables that go to its bounds.
+--     Case, told           records and a slice's size, and whether they are sound; what `sound` tells
+--     sixteen b            a password of sixteen bytes, of which the last is b and the others are zero
+--     last p               an active cluster whose segment 7 is p, the others absent
+--     holding p q          an active cluster whose segment 0 is p and segment 7 is q
+--     quiet r w            an inactive cluster with two passwords and no segment
+--     on n c               the starting store with record n replaced
+--     both n c m d         and with record m replaced too
+--     damaged, whole       tables that are unsound, each by what the comment above it says, and such as are sound
+-- Assumes nothing.
+use Prim.Native.Nat.{ℕ}
+use mathlib.Core.Bool.{Bool, true, false}
+use mathlib.Core.List.{List, [], _∷_}
+use lib.ListN.{set, replicate}
+use Rattle.store.specs.declared.Place.{Place}
+use Rattle.store.specs.declared.Place.the-variants.{Present}
+use Rattle.store.specs.declared.Cluster.{Cluster}
+use Rattle.store.specs.declared.Store.{Store}
+use Rattle.store.specs.Records.{inactive, startingStore, started, putRecord, withPlace}
+use Rattle.store.specs.Sound.{sound}
+
+pub record Case : Type 0 where
+  pub store : Store
+  pub size : ℕ
+  pub told : Bool
+
+abbrev pub told : Case → Bool
+told c = sound (c .store) (c .size)
+
+abbrev sixteen : ℕ → List ℕ
+sixteen b = set (replicate 16 0) 15 b
+
+abbrev last : Place → Cluster
+last p = withPlace (started (sixteen 1) (sixteen 2)) 7 p
+
+abbrev holding : Place → Place → Cluster
+holding p q = withPlace (last q) 0 p
+
+abbrev quiet : ℕ → ℕ → Cluster
+quiet r w = record { active = false; read = sixteen r; write = sixteen w; segments = inactive .segments }
+
+abbrev on : ℕ → Cluster → Store
+on n c = putRecord startingStore n c
+
+abbrev both : ℕ → Cluster → ℕ → Cluster → Store
+both n c m d = putRecord (on n c) m d
+
+abbrev unsound : Store → Case
+unsound s = record { store = s; size = 16384; told = false }
+
+abbrev fine : Store → Case
+fine s = record { store = s; size = 16384; told = true }
+
+-- record 31 is that of node 3 and local number 7
+unfoldable pub damaged : List Case
+damaged =
+    -- a slice one byte short, and one byte long
+    record { store = startingStore; size = 16383; told = false }
+    ∷ record { store = startingStore; size = 16385; told = false }
+    -- length 0; base 4,096; ends of 4,097
+    ∷ unsound (on 31 (last (Present 5 0)))
+    ∷ unsound (on 31 (last (Present 4096 1)))
+    ∷ unsound (on 31 (last (Present 4095 2)))
+    ∷ unsound (on 31 (last (Present 0 4097)))
+    -- a byte shared: within a cluster, and by two clusters of one node
+    ∷ unsound (on 31 (holding (Present 0 10) (Present 9 1)))
+    ∷ unsound (both 24 (last (Present 9 1)) 31 (last (Present 0 10)))
+    -- inactive with a read password, with a write password, with a segment
+    ∷ unsound (on 31 (quiet 1 0))
+    ∷ unsound (on 31 (quiet 0 1))
+    ∷ unsound (on 31 (withPlace inactive 7 (Present 0 1)))
+    ∷ []
+
+unfoldable pub whole : List Case
+whole =
+    -- the last base, and the whole memory of a node
+    fine (on 31 (last (Present 4095 1)))
+    ∷ fine (on 31 (last (Present 0 4096)))
+    -- two that touch; the same bytes of two nodes
+    ∷ fine (on 31 (holding (Present 0 10) (Present 10 4086)))
+    ∷ fine (both 23 (last (Present 0 4096)) 31 (last (Present 0 4096)))
+    ∷ []
