@@ -13,4 +13,5 @@ pub mod ReplyLaws
 pub mod WitnessLaws
 pub mod GivenLaws
 pub mod EffectLaws
+pub mod ReadLaws
 pub mod AesLaws
