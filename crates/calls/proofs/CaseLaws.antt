@@ -18,7 +18,7 @@ use Rattle.calls.specs.Cases.{added, sample, Case, damaged, refusals, or
 use Rattle.calls.proofs.Computing.{computing}
 use Rattle.calls.proofs.StepLaws.{numberBelow, number-below}
 
-sample-sound : sound sample memory ≡ true
+pub sample-sound : sound sample memory ≡ true
 unfolding sound every soundSegment nodeApart settled idle zeroBytes apart inside inRanges endsInside
 sample-sound = refl
 

@@ -7,3 +7,4 @@ pub mod CallLaws
 pub mod DoneLaws
 pub mod ExampleLaws
 pub mod CaseLaws
+pub mod WrittenLaws

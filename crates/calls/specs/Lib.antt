@@ -4,3 +4,5 @@ pub mod Clear
 pub mod Steps
 pub mod Examples
 pub mod Cases
+pub mod Literals
+pub mod Written

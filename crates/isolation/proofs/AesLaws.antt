@@ -7,13 +7,15 @@ use Rattle.handle.specs.Conversion.{conversion}
 use Rattle.handle.proofs.PasswordLaws.{length-conversion}
 use Rattle.isolation.specs.Copies.{SixteenBytes}
 use Rattle.isolation.specs.Statements.{SoundKept, TwoCopies, ReadersAlterNothing, Agreed}
-use Rattle.isolation.specs.Witness.{one, two, tries, Bites}
+use Rattle.isolation.specs.Witness.{one, two, tries, Concluded, Bites}
+use Rattle.isolation.specs.ReaderWitness.{Unharmed}
 use Rattle.isolation.specs.Checks.{ValidationJudges}
 use Rattle.isolation.proofs.KeptLaws.{sound-kept}
 use Rattle.isolation.proofs.TwoCopies.{two-copies}
 use Rattle.isolation.proofs.ReaderLaws.{readers-alter-nothing}
 use Rattle.isolation.proofs.CheckLaws.{validation-judges}
-use Rattle.isolation.proofs.WitnessLaws.{agreed, bites}
+use Rattle.isolation.proofs.WitnessLaws.{agreed, concluded, bites}
+use Rattle.isolation.proofs.ReaderWitnessLaws.{unharmed}
 
 abbrev aes : Name → List ℕ → ℕ → List ℕ
 aes n = conversion
@@ -33,8 +35,14 @@ aes-readers-alter-nothing node local = readers-alter-nothing node local aes
 pub aes-validation-judges : ValidationJudges aes
 aes-validation-judges = validation-judges aes aes-sixteen
 
-pub aes-agreed : Agreed 0 2 aes tries one two
+pub aes-agreed : Agreed 0 2 aes (tries aes) one two
 aes-agreed = agreed aes
+
+pub aes-concluded : Concluded aes
+aes-concluded = concluded aes
+
+pub aes-unharmed : Unharmed aes
+aes-unharmed = unharmed aes
 
 pub aes-bites : Bites aes
 aes-bites = bites aes

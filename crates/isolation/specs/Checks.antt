@@ -41,7 +41,7 @@ use Rattle.calls.specs.Numbers.{valid, rows, number}
 use Rattle.calls.specs.Clear.{Clear}
 use Rattle.calls.specs.Numbers.{Line, at}
 use Rattle.calls.specs.Steps.{weakenReply, step}
-use Rattle.isolation.specs.Literals.{none, told}
+use Rattle.calls.specs.Literals.{none, told}
 
 -- ---- unused arguments
 

@@ -16,7 +16,7 @@ use Rattle.store.specs.declared.Place.the-variants.{Present}
 use Rattle.store.specs.Records.{tableAt, placeOn}
 use Rattle.calls.specs.Calls.{Copy, Arguments, call, read}
 use Rattle.calls.specs.Steps.{Reply, step}
-use Rattle.isolation.specs.Literals.{none, told}
+use Rattle.calls.specs.Literals.{none, told}
 use Rattle.isolation.specs.Copies.{Done}
 
 pub record Read (g : Arguments) (c : Copy) (r : Reply) : Type 0 where

@@ -18,7 +18,7 @@ use Rattle.calls.specs.Steps.{Reply, Ran, run}
 use Rattle.calls.specs.Cases.{added}
 use Rattle.calls.specs.Calls.{makingCluster, deletingCluster, makingSegment, deletingSegment, reading}
 use Rattle.calls.specs.Calls.{writing, weakeningBy, reducing, renewing, validating}
-use Rattle.isolation.specs.Literals.{sixteen, handle, primary, none, told}
+use Rattle.calls.specs.Literals.{sixteen, handle, primary, none, told}
 
 abbrev weak : ℕ → List ℕ
 weak b = handle 1 2 (b + 32) (32 ∷ 255 ∷ 255 ∷ 255 ∷ [])
