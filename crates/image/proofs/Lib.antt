@@ -4,3 +4,4 @@ pub mod PlaceLaws
 pub mod RecordLaws
 pub mod TripLaws
 pub mod RangeLaws
+pub mod LiteralLaws

@@ -1,3 +1,4 @@
 pub mod Parts
 pub mod Images
 pub mod Ranges
+pub mod Literals
