@@ -15,7 +15,8 @@ use Rattle.handle.specs.Selectors.{gapped}
 use Rattle.handle.specs.Handles.{Name, widthOf}
 use Rattle.store.specs.declared.Store.{Store}
 use Rattle.store.specs.Records.{tableAt, readMode, writeMode, lengthOf}
-use Rattle.store.specs.Placement.{noRoomNumber, answered, newBase, placement}
+use Rattle.numbers.specs.Numbers.{noRoomNumber}
+use Rattle.store.specs.Placement.{answered, newBase, placement}
 use Rattle.calls.specs.Calls.{Call, call, Arguments, newCluster, newSegment, write, opens}
 use Rattle.calls.specs.Calls.{needed, handleOf, nodeFor, localFor, recordFor, recordNamed, placeFor}
 use Rattle.calls.specs.Numbers.{unsound, noPlace, badMode, badSegment, badSize, badField, gappedHandle, elsewhere}

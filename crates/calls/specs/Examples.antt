@@ -14,10 +14,11 @@ use mathlib.Core.List.{List, [], _∷_, _++_, map}
 use lib.ListN.{replicate}
 use Rattle.sizes.specs.Sizes.{segments, memory, passwordBytes}
 use Rattle.handle.specs.Selectors.{flats}
-use Rattle.handle.specs.Handles.{Name, encoded, gappedNumber, spentNumber}
+use Rattle.handle.specs.Handles.{Name, encoded}
 use Rattle.handle.specs.Examples as S
 use Rattle.store.specs.declared.Store.{Store}
-use Rattle.store.specs.Placement.{noRoomNumber, Answer as Placed}
+use Rattle.numbers.specs.Numbers.{noRoomNumber, gappedNumber, spentNumber}
+use Rattle.store.specs.Placement.{Answer as Placed}
 use Rattle.store.specs.Examples as P
 use Rattle.calls.specs.Calls.{Call, makingSegment, weakeningBy}
 use Rattle.calls.specs.Numbers.{number}

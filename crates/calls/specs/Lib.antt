@@ -6,3 +6,4 @@ pub mod Examples
 pub mod Cases
 pub mod Literals
 pub mod Written
+pub mod Answers

@@ -39,7 +39,8 @@ use Rattle.store.specs.declared.Cluster.{Cluster}
 use Rattle.store.specs.declared.Store.{Store}
 use Rattle.store.specs.Records.{Tables, clusterAt, tableAt, readMode, writeMode, lengthOf, primaryOf}
 use Rattle.store.specs.Sound.{isAbsent, sound}
-use Rattle.store.specs.Placement.{noRoomNumber, placement}
+use Rattle.numbers.specs.Numbers.{noRoomNumber}
+use Rattle.store.specs.Placement.{placement}
 use Rattle.calls.specs.Calls.{Call, among, opens, uses, needed}
 use Rattle.calls.specs.Calls.{handleOf, presented, anyOf, buffer, nodeFor, recordFor, recordNamed}
 use Rattle.calls.specs.Calls.{placeFor}

@@ -44,7 +44,7 @@ use Rattle.handle.specs.declared.Weakened.{Weakened}
 use Rattle.handle.specs.Sizes.{handleBytes}
 use Rattle.handle.specs.Selectors.{referenced}
 use Rattle.handle.specs.Handles.{Name, nameOf, widthOf, encoded, weakened, reduced}
-use Rattle.handle.specs.Conversion.{conversion}
+use Rattle.handle.specs.Conversion.{product}
 use Rattle.handle.specs.Opens.{primaryHandle}
 use Rattle.store.specs.declared.Place.{Place}
 use Rattle.store.specs.declared.Place.the-variants.{Absent, Present}
@@ -207,7 +207,7 @@ module _ (f : Name → List ℕ → ℕ → List ℕ) where
   run (x ∷ xs) c = followed (step x c .reply) (run xs (step x c .copy))
 
 abbrev pub aesStep : Call → Copy → Outcome
-aesStep = step (λ n. conversion)
+aesStep = step product
 
 unfoldable pub effects : Unit {0}
 unfolding left given clusterMade clusterDeleted segmentMade segmentDeleted segmentWritten passwordReplaced segmentRead

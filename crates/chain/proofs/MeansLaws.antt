@@ -10,7 +10,8 @@ use native.Mathlib.Nat.{eq-or-lt-of-le}
 use native.Mathlib.Decide.{decLt}
 use native.Mathlib.Omega.{arith}
 use Rattle.chain.specs.declared.Walked.{Walked}
-use Rattle.chain.specs.Way.{reached, met, linkNumber, loopNumber, done, refusal, stopped, answered, way}
+use Rattle.numbers.specs.Numbers.{linkNumber, loopNumber}
+use Rattle.chain.specs.Way.{reached, met, done, refusal, stopped, answered, way}
 use Rattle.chain.specs.Means.{IsRecord, OnRecords, Whole, Leaves, Again, Means}
 use Rattle.chain.proofs.WayLaws.{way-zero, way-beyond, way-again, met-none, met-on, met-off}
 use Rattle.chain.proofs.PigeonholeLaws.{pigeonhole}

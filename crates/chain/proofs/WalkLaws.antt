@@ -9,7 +9,8 @@ use native.Mathlib.Omega.{arith}
 use borrow.Author.Count.{below-more}
 use lib.ListN.{length}
 use Rattle.chain.specs.declared.Walked.{Walked}
-use Rattle.chain.specs.Way.{reached, linkNumber, loopNumber, done, refusal, way}
+use Rattle.numbers.specs.Numbers.{linkNumber, loopNumber}
+use Rattle.chain.specs.Way.{reached, done, refusal, way}
 use Rattle.chain.specs.Means.{IsRecord, OnRecords}
 use Rattle.chain.specs.Bytes.{count, nextIn, wayIn}
 use Rattle.chain.proofs.WayLaws.{reached-none, reached-more, way-zero, way-beyond, way-again}

@@ -11,7 +11,8 @@ use lib.Dec.{leb}
 use borrow.Author.Tests.{leb-true, le-leb, not-false}
 use Rattle.loops.proofs.BelowLaws.{and-left, and-right, and-both, test-off}
 use Rattle.loops.proofs.SearchLaws.{least-none, least-is, least-holds, least-below, least-missing}
-use Rattle.chain.specs.Way.{reached, numbered, met, linkNumber, loopNumber, done, refusal, stopped, answered, way}
+use Rattle.numbers.specs.Numbers.{linkNumber, loopNumber}
+use Rattle.chain.specs.Way.{reached, numbered, met, done, refusal, stopped, answered, way}
 use Rattle.chain.specs.Means.{IsRecord, OnRecords}
 
 pub reached-none : (next : ℕ → ℕ) (k : ℕ) → reached next k 0 ≡ k

@@ -10,7 +10,8 @@
 use mathlib.Core.Path.{_≡_}
 use mathlib.Core.Logic.{_↔_}
 use Prim.Native.Nat.{ℕ, suc, _≤_, _<_}
-use Rattle.chain.specs.Way.{reached, linkNumber, loopNumber, done, way}
+use Rattle.numbers.specs.Numbers.{linkNumber, loopNumber}
+use Rattle.chain.specs.Way.{reached, done, way}
 
 abbrev pub IsRecord : ℕ → ℕ → Type 0
 IsRecord n k = (1 ≤ k) × (k ≤ n)

@@ -4,7 +4,6 @@
 --     numbered n k              k is the number of a record
 --     met n next k              how many records the way from k meets before it stops at a number that is no record's;
 --                               none if it is still on records after n steps
---     linkNumber, loopNumber    the table's numbers for a link and a loop
 --     done m                    the answer 0, with how many records the way meets
 --     refusal x                 the answer of a way refused with x: no records
 --     stopped m k               the answer of a way that meets m records and stops at k
@@ -20,6 +19,7 @@ use mathlib.Core.List.{List, [], _∷_}
 use lib.Dec.{leb}
 use Rattle.loops.specs.Search.{least}
 use Rattle.chain.specs.declared.Walked.{Walked}
+use Rattle.numbers.specs.Numbers.{linkNumber, loopNumber}
 
 unfoldable pub reached : (ℕ → ℕ) → ℕ → ℕ → ℕ
 reached next k zero = k
@@ -30,12 +30,6 @@ numbered n k = leb 1 k && leb k n
 
 unfoldable pub met : ℕ → (ℕ → ℕ) → ℕ → Option ℕ
 met n next k = least (suc n) (λ i. not (numbered n (reached next k i)))
-
-abbrev pub linkNumber : ℕ
-linkNumber = 19
-
-abbrev pub loopNumber : ℕ
-loopNumber = 20
 
 abbrev pub done : ℕ → Walked
 done m = record { number = 0; records = m }

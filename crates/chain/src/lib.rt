@@ -3,12 +3,8 @@
 ghost use mathlib.Core.Path.{_≡_};
 ghost use Prim.Native.Nat.{_/_};
 ghost use Rattle.chain.specs.Bytes.{wayIn};
-
-// Refused: a record reached names a next beyond the last record.
-pub const LINK: u8 = 19;
-
-// Refused: the way comes to a record again.
-pub const LOOP: u8 = 20;
+use numbers::LINK;
+use numbers::LOOP;
 
 // The answer for a way: 0 and how many records it meets; or the number of the refusal and 0.
 pub struct Walked {

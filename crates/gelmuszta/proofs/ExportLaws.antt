@@ -8,7 +8,7 @@ use Prim.Native.Nat.{ℕ, zero, suc}
 use native.Mathlib.Omega.{arith}
 use borrow.Author.Tests.{not-true, not-false}
 use lib.ListN.{length}
-use Rattle.handle.specs.Conversion.{conversion}
+use Rattle.handle.specs.Conversion.{conversion, product}
 use Rattle.store.specs.declared.Store.{Store}
 use Rattle.front.specs.declared.Answer.{Answer}
 use Rattle.front.specs.Entries.{copyOf, replied, ended, numberAlone}
@@ -16,7 +16,8 @@ use Rattle.calls.specs.Calls.{Copy, Call, Arguments, call, weaken, validate, am
 use Rattle.calls.specs.Numbers.{number}
 use Rattle.calls.specs.Steps.{Reply, Outcome, plain, zeroHandle, left as lefts, outcome, step, aesStep}
 use Rattle.image.specs.Images.{good, storeIn, imageOf}
-use Rattle.gelmuszta.specs.Exported.{replyOf, Performed, answered, unsoundNumber, damaged, imaged}
+use Rattle.numbers.specs.Numbers.{unsoundNumber}
+use Rattle.gelmuszta.specs.Exported.{replyOf, Performed, answered, damaged, imaged}
 use Rattle.gelmuszta.specs.Exported.{performed, kept, Always}
 use Rattle.gelmuszta.proofs.ReplyLaws.{Silent, OneHandle, TwoHandles, Length, silent-reply, handle-reply}
 use Rattle.gelmuszta.proofs.ReplyLaws.{handles-reply, count-reply, length-reply, silent-known}
@@ -48,11 +49,11 @@ kept-done n s b after z e = e ∙ sym (ap (λ (k : ℕ). kept k s b) z)
 pub step-leaves : (x : Call) (c : Copy) → (aesStep x c .reply .number ≡ 0 → ⊥)
     → aesStep x c ≡ record { copy = c; reply = plain (aesStep x c .reply .number) (buffer x) }
 unfolding step
-step-leaves x c h = go (number (λ n. conversion) x (c .store) (length (c .memory))) h
+step-leaves x c h = go (number product x (c .store) (length (c .memory))) h
   where
-    go : (n : ℕ) → (outcome (λ n. conversion) n x c .reply .number ≡ 0 → ⊥)
-        → outcome (λ n. conversion) n x c
-        ≡ record { copy = c; reply = plain (outcome (λ n. conversion) n x c .reply .number) (buffer x) }
+    go : (n : ℕ) → (outcome product n x c .reply .number ≡ 0 → ⊥)
+        → outcome product n x c
+        ≡ record { copy = c; reply = plain (outcome product n x c .reply .number) (buffer x) }
     go zero h = absurd (h (done-number (x .kind) x c))
     go (suc n) h = refl
 
@@ -136,9 +137,9 @@ module _ (x : Call) (b m : List ℕ) (g : Bool) (eg : g ≡ good b) where
 
 validate-leaves : (g : Arguments) (c : Copy) → aesStep (call validate g) c .copy ≡ c
 unfolding step lefts
-validate-leaves g c = go (number (λ n. conversion) (call validate g) (c .store) (length (c .memory)))
+validate-leaves g c = go (number product (call validate g) (c .store) (length (c .memory)))
   where
-    go : (n : ℕ) → outcome (λ n. conversion) n (call validate g) c .copy ≡ c
+    go : (n : ℕ) → outcome product n (call validate g) c .copy ≡ c
     go zero = refl
     go (suc n) = refl
 

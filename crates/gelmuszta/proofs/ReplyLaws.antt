@@ -4,7 +4,7 @@ use mathlib.Core.Path.{_≡_, refl, sym, ap}
 use mathlib.Core.List.{List}
 use Prim.Native.Nat.{ℕ, zero, suc}
 use lib.ListN.{length}
-use Rattle.handle.specs.Conversion.{conversion}
+use Rattle.handle.specs.Conversion.{conversion, product}
 use Rattle.front.specs.declared.Answer.{Answer}
 use Rattle.front.specs.Entries.{replied}
 use Rattle.calls.specs.Calls.{Copy, Call, Arguments, call, newCluster, deleteCluster, newSegment, deleteSegment}
@@ -15,15 +15,15 @@ use Rattle.gelmuszta.specs.Exported.{replyOf}
 
 -- a field that is the same in every refusal and in what the call gives
 module _ {A : Type 0} (field : Reply → A) (z : A) (refusal : (n : ℕ) (b : List ℕ) → field (plain n b) ≡ z) where
-  always : (x : Call) (c : Copy) → field (given (λ n. conversion) (x .kind) x c) ≡ z → field (aesStep x c .reply) ≡ z
+  always : (x : Call) (c : Copy) → field (given product (x .kind) x c) ≡ z → field (aesStep x c .reply) ≡ z
   unfolding step
-  always x c done = go (number (λ n. conversion) x (c .store) (length (c .memory)))
+  always x c done = go (number product x (c .store) (length (c .memory)))
     where
-      go : (n : ℕ) → field (outcome (λ n. conversion) n x c .reply) ≡ z
+      go : (n : ℕ) → field (outcome product n x c .reply) ≡ z
       go zero = done
       go (suc n) = refusal (suc n) (buffer x)
 
-module _ (x : Call) (c : Copy) (r : Reply) (e : given (λ n. conversion) (x .kind) x c ≡ r) where
+module _ (x : Call) (c : Copy) (r : Reply) (e : given product (x .kind) x c ≡ r) where
   none-first : r .first ≡ zeroHandle → zeroHandle ≡ aesStep x c .reply .first
   none-first h = sym (always (λ (q : Reply). q .first) zeroHandle (λ n b. refl) x c (rw e h))
 
@@ -41,24 +41,24 @@ module _ (x : Call) (c : Copy) (r : Reply) (e : given (λ n. conversion) (x .kin
 pub record HandleAndCount (x : Call) : Type 0 where
   pub handle : Copy → List ℕ
   pub count : Copy → ℕ
-  pub gives : (c : Copy) → given (λ n. conversion) (x .kind) x c ≡ handles (handle c) zeroHandle (count c)
+  pub gives : (c : Copy) → given product (x .kind) x c ≡ handles (handle c) zeroHandle (count c)
 
 pub record Silent (x : Call) : Type 0 where
-  pub gives : (c : Copy) → given (λ n. conversion) (x .kind) x c ≡ plain 0 (buffer x)
+  pub gives : (c : Copy) → given product (x .kind) x c ≡ plain 0 (buffer x)
 
 pub record OneHandle (x : Call) : Type 0 where
   pub handle : Copy → List ℕ
-  pub gives : (c : Copy) → given (λ n. conversion) (x .kind) x c ≡ handles (handle c) zeroHandle 0
+  pub gives : (c : Copy) → given product (x .kind) x c ≡ handles (handle c) zeroHandle 0
 
 pub record TwoHandles (x : Call) : Type 0 where
   pub first : Copy → List ℕ
   pub second : Copy → List ℕ
-  pub gives : (c : Copy) → given (λ n. conversion) (x .kind) x c ≡ handles (first c) (second c) 0
+  pub gives : (c : Copy) → given product (x .kind) x c ≡ handles (first c) (second c) 0
 
 pub record Length (x : Call) : Type 0 where
   pub size : Copy → ℕ
   pub buffer : Copy → List ℕ
-  pub gives : (c : Copy) → given (λ n. conversion) (x .kind) x c ≡ readReply (size c) (buffer c)
+  pub gives : (c : Copy) → given product (x .kind) x c ≡ readReply (size c) (buffer c)
 
 module _ (g : Arguments) where
   pub delete-cluster-silent : Silent (call deleteCluster g)
@@ -102,7 +102,7 @@ module _ (g : Arguments) where
   read-length = record { size = _; buffer = _; gives = λ c. refl }
 
 -- a call done has the number 0
-pub done-number : (kind : Kind) (x : Call) (c : Copy) → given (λ n. conversion) kind x c .number ≡ 0
+pub done-number : (kind : Kind) (x : Call) (c : Copy) → given product kind x c .number ≡ 0
 unfolding given segmentRead
 done-number newCluster x c = refl
 done-number deleteCluster x c = refl
@@ -126,9 +126,9 @@ silent-known x c s =
     (none-count x c _ (s .gives c) refl j) (none-length x c _ (s .gives c) refl j) (same j)
   where
     same : buffer x ≡ aesStep x c .reply .buffer
-    same = go (number (λ n. conversion) x (c .store) (length (c .memory)))
+    same = go (number product x (c .store) (length (c .memory)))
       where
-        go : (n : ℕ) → buffer x ≡ outcome (λ n. conversion) n x c .reply .buffer
+        go : (n : ℕ) → buffer x ≡ outcome product n x c .reply .buffer
         go zero = ap (λ (r : Reply). r .buffer) (sym (s .gives c))
         go (suc n) = refl
 

@@ -5,7 +5,7 @@ use mathlib.Core.Path.{_≡_, refl, sym, ap, _∙_}
 use mathlib.Core.Bool.{Bool, true, false}
 use mathlib.Core.List.{List, [], _∷_}
 use Prim.Native.Nat.{ℕ}
-use Rattle.handle.specs.Conversion.{conversion}
+use Rattle.handle.specs.Conversion.{conversion, product}
 use Rattle.store.specs.declared.Store.{Store}
 use Rattle.calls.specs.Calls.{Call, among}
 use Rattle.calls.specs.Steps.{Outcome, run, aesStep}
@@ -35,13 +35,13 @@ performed-image s k x m =
     ∙ ap (λ (t : Store). imaged (aesStep x (copyOf t m))) (store-image s k)
 
 row-run : (xs : List Call) (s : Store) (m : List ℕ) → AllFit xs → StoreFits s
-    → row xs (imageOf s) m ≡ imagedRun (run (λ n. conversion) xs (copyOf s m))
+    → row xs (imageOf s) m ≡ imagedRun (run product xs (copyOf s m))
 row-run [] s m p k = refl
 row-run (x ∷ xs) s m p k =
     ap (λ (o : Performed). followedBy (o .reply) (row xs (o .image) (o .memory))) (performed-image s k x m)
     ∙ ap (followedBy (aesStep x (copyOf s m) .reply))
     (row-run xs (aesStep x (copyOf s m) .copy .store) (aesStep x (copyOf s m) .copy .memory) (p .1)
-    (step-fits (λ n. conversion) x (copyOf s m) (p .0) k))
+    (step-fits product x (copyOf s m) (p .0) k))
 
 pub rows-are-runs : RowsAreRuns
 rows-are-runs xs b m p h g =

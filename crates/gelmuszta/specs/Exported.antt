@@ -3,7 +3,6 @@
 --     Performed             the reply, and the image and the memory that are left
 --     answered ..           what an exported function gave and left: its number, two handles, count, length, buffer, image
 --                           and memory; where it gives no such value, zeros stand for it, as in every reply
---     unsoundNumber         the table's number for unsound
 --     damaged x b m         an image that holds no store is refused as an unsound one is, with 1, and all stays as it was;
 --                           weakening alone, which looks at no store, is answered as ever
 --     imaged o              what a step gave and left, the store as its image
@@ -20,6 +19,7 @@ use Rattle.calls.specs.Calls.{Call, among, buffer}
 use Rattle.calls.specs.Steps.{Reply, Outcome, plain, aesStep}
 use Rattle.front.specs.Entries.{copyOf}
 use Rattle.image.specs.Images.{good, storeIn, imageOf}
+use Rattle.numbers.specs.Numbers.{unsoundNumber}
 
 abbrev pub replyOf : ℕ → List ℕ → List ℕ → ℕ → ℕ → List ℕ → Reply
 replyOf number first second count length buffer =
@@ -33,9 +33,6 @@ pub record Performed : Type 0 where
 abbrev pub answered : ℕ → List ℕ → List ℕ → ℕ → ℕ → List ℕ → List ℕ → List ℕ → Performed
 answered number first second count length buffer image memory =
     record { reply = replyOf number first second count length buffer; image = image; memory = memory }
-
-abbrev pub unsoundNumber : ℕ
-unsoundNumber = 1
 
 abbrev pub damaged : Call → List ℕ → List ℕ → Performed
 damaged x b m =

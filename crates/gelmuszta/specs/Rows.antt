@@ -19,7 +19,7 @@ use mathlib.Core.Bool.{true}
 use mathlib.Core.List.{List, [], _∷_}
 use Prim.Native.Nat.{ℕ, _<_}
 use Rattle.sizes.specs.Sizes.{nodes, clusters}
-use Rattle.handle.specs.Conversion.{conversion}
+use Rattle.handle.specs.Conversion.{conversion, product}
 use Rattle.handle.specs.Handles.{Name, Bytes}
 use Rattle.store.specs.Records.{tableAt}
 use Rattle.calls.specs.Calls.{Copy, Call, buffer}
@@ -53,7 +53,7 @@ imagedRun n = record { replies = n .replies; image = imageOf (n .copy .store); m
 abbrev pub RowsAreRuns : Type 0
 RowsAreRuns =
     (xs : List Call) (b m : List ℕ) → AllFit xs → Bytes imageBytes b → good b ≡ true
-    → row xs b m ≡ imagedRun (run (λ n. conversion) xs (copyOf (storeIn b) m))
+    → row xs b m ≡ imagedRun (run product xs (copyOf (storeIn b) m))
 
 abbrev pub f : Name → List ℕ → ℕ → List ℕ
 f n = conversion

@@ -3,7 +3,7 @@ use front::UNSOUND;
 use image::IMAGE;
 ghost use mathlib.Core.Path.{_≡_};
 ghost use mathlib.Core.List.{[]};
-ghost use Rattle.handle.specs.Conversion.{conversion};
+ghost use Rattle.handle.specs.Conversion.{conversion, product};
 ghost use Rattle.calls.specs.Calls as calls;
 ghost use Rattle.calls.specs.Steps.{zeroHandle};
 ghost use Rattle.front.specs.Entries.{asked};

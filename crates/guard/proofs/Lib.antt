@@ -1,10 +1,1 @@
-pub mod NumberLaws
 pub mod OpenLaws
-pub mod ChangeLaws
-pub mod PasswordLaws
-pub mod CreateLaws
-pub mod CopyLaws
-pub mod AccessLaws
-pub mod BytesLaws
-pub mod ClearLaws
-pub mod MakeLaws

@@ -1,71 +1,77 @@
--- Validation and reduction: the shared rows are all that they have, and a call done changes nothing.
+-- What was opened is what the core is to be given; the record that it leaves, put back, is what the step leaves.
 -- Assumes nothing.
-use mathlib.Core.Path.{_≡_, sym, ap, ap₂, _∙_}
-use mathlib.Core.Bool.{Bool, false}
+use mathlib.Core.Path.{_≡_, refl, sym, ap, _∙_}
+use mathlib.Core.Bool.{Bool}
 use mathlib.Core.List.{List, []}
-use Prim.Native.Nat.{ℕ, zero, suc}
+use Prim.Native.Nat.{ℕ, _<_}
 use lib.ListN.{length}
+use Rattle.sizes.specs.Sizes.{records}
 use Rattle.handle.specs.declared.Handle.{Handle}
-use Rattle.handle.specs.Handles.{widthOf, Row, firstOf, decoded, encoded, reduced}
-use Rattle.handle.specs.Conversion.{conversion}
+use Rattle.handle.specs.Handles.{nodeOf, decoded, firstOf}
 use Rattle.store.specs.declared.Cluster.{Cluster}
 use Rattle.store.specs.declared.Store.{Store}
-use Rattle.store.specs.Records.{clusterAt, primaryOf, recordAt}
+use Rattle.store.specs.declared.Found.{Found}
+use Rattle.store.specs.Records.{clusterAt, tableAt, putRecord, recordAt}
+use Rattle.store.specs.Placement.{placement, answer}
 use Rattle.store.specs.Sound.{sound}
-use Rattle.front.specs.declared.Answer.{Answer}
-use Rattle.calls.specs.Calls.{call, reduce, validate, recordNamed}
-use Rattle.calls.specs.Numbers.{number}
-use Rattle.calls.specs.Steps.{handles, zeroHandle, outcome, step, aesStep, left, given}
-use Rattle.front.specs.Entries.{badModes, handlesAlone, copyOf, asked, ended, numberAlone, frontRows}
-use Rattle.front.proofs.LookLaws.{after-none, front-told, front-passed}
-use Rattle.calls.proofs.StepLaws.{step-refused, step-done, number-validate}
-use Rattle.guard.proofs.NumberLaws.{number-reduce}
+use Rattle.calls.specs.declared.Left.{Left}
+use Rattle.calls.specs.declared.RecordLeft.{RecordLeft}
+use Rattle.calls.specs.Calls.{Call, makingSegment}
+use Rattle.calls.specs.Steps.{aesStep}
+use Rattle.calls.specs.Answers.{copyOf, ended, leftAlone}
+use Rattle.refusals.specs.Given.{Given, GivenPlace, recordFound, put}
+use Rattle.cluster.specs.Makes.{makeRows}
+use Rattle.cluster.proofs.MakeLaws.{segment-refused}
+use Rattle.guard.specs.declared.Opened.{Opened}
+use Rattle.guard.specs.Opens.{Opens, putBack}
 
-module _ (s : Store) (m b : List ℕ) (mode : ℕ) (h : Handle) (eh : h ≡ decoded b) (at : ℕ) (ea : at ≡ recordAt (h .node) (h .local))
-    (sd : Bool) (es : sd ≡ sound s (length m)) (bad : Bool) (eb : bad ≡ badModes mode) (n : ℕ)
-    (en : n ≡ firstOf (frontRows sd h (clusterAt s at) false bad false mode)) where
-  none : Handle → Cluster → List Row
-  none g c = []
+pub opens-so : (s : Store) (size : ℕ) (b : List ℕ) (h : Handle) → h ≡ decoded b → (v : ℕ) → v ≡ nodeOf h → (at : ℕ)
+    → at ≡ recordAt v (h .local) → at < records → (sd : Bool) → sd ≡ sound s size
+    → Opens (record { handle = h; at = at; cluster = clusterAt s at; sound = sd }) s size b
+opens-so s size b h eh v ev at ea low sd es =
+    record {
+      at = there;
+      low = low;
+      given = λ m e.
+          record { sound = es ∙ ap (sound s) (sym e); handle = eh; found = ap (clusterAt s) there };
+    }
+  where
+    there : at ≡ recordAt (nodeOf h) (h .local)
+    there = ea ∙ ap (λ (u : ℕ). recordAt u (h .local)) ev
 
-  told : number (λ k. conversion) (call reduce (asked 0 0 mode 0 0 0 b [] [] [])) s (length m) ≡ n
-  unfolding none
-  told =
-      front-told s (length m) b h eh at ea sd es none n _ (badModes mode) mode known (number-reduce s (length m) b mode)
-      ∙ after-none n
-    where
-      known : n ≡ firstOf (frontRows sd h (clusterAt s at) false (badModes mode) false mode)
-      known = en ∙ ap (λ (t : Bool). firstOf (frontRows sd h (clusterAt s at) false t false mode)) eb
+module _ (s : Store) (m after : List ℕ) (x : Call) (i j : ℕ) (e : i ≡ j) (l : RecordLeft) where
+  pub put-back-is : ended (putRecord s j (l .cluster)) after (l .answer) [] ≡ aesStep x (copyOf s m) → (r : Left)
+      → r ≡ putBack s i l → ended (r .store) after (r .answer) [] ≡ aesStep x (copyOf s m)
+  put-back-is t r er =
+      ap (λ (q : Left). ended (q .store) after (q .answer) []) er
+      ∙ ap (λ (k : ℕ). ended (putRecord s k (l .cluster)) after (l .answer) []) e
+      ∙ t
 
-  pub validate-is : n ≡ aesStep (call validate (asked 0 0 mode 0 0 0 b [] [] [])) (copyOf s m) .reply .number
-  unfolding step given
-  validate-is = go _ (sym told ∙ sym (number-validate (λ k. conversion) (asked 0 0 mode 0 0 0 b [] [] []) s (length m)))
-    where
-      go : (k : ℕ) → n ≡ k → n ≡ outcome (λ i. conversion) k (call validate (asked 0 0 mode 0 0 0 b [] [] [])) (copyOf s m) .reply .number
-      go zero e = e
-      go (suc k) e = e
+-- ---- call 1, which names the place itself
 
-  pub reduce-refused : (n ≡ 0 → ⊥) → (a : Answer) → a ≡ numberAlone n
-      → ended s m a [] ≡ aesStep (call reduce (asked 0 0 mode 0 0 0 b [] [] [])) (copyOf s m)
-  reduce-refused t a e =
-      ap (λ (x : Answer). ended s m x []) e
-      ∙ sym (step-refused (λ k. conversion) (call reduce (asked 0 0 mode 0 0 0 b [] [] [])) (copyOf s m) n told t)
+pub given-place : (s : Store) (m : List ℕ) (current local : ℕ) (sd : Bool) → sd ≡ sound s (length m) → (at : ℕ)
+    → at ≡ recordAt current local → GivenPlace sd (clusterAt s at) s m current local
+given-place s m current local sd es at ea = record { sound = es; found = ap (clusterAt s) ea }
 
-  pub reduce-done : (n ≡ 0) → (p : List ℕ) → p ≡ primaryOf (clusterAt s at) mode → (r : Handle)
-      → r ≡ reduced (widthOf h) conversion h p → (e : List ℕ) → e ≡ encoded r → (a : Answer)
-      → a ≡ handlesAlone e zeroHandle
-      → ended s m a []
-      ≡ aesStep (call reduce (asked 0 0 mode 0 0 0 b [] [] [])) (copyOf s m)
-  unfolding left given
-  reduce-done z p ep r er e ee a aa =
-      ap (λ (x : Answer). ended s m x []) aa
-      ∙ ap (λ (x : List ℕ). record { copy = copyOf s m; reply = handles x zeroHandle 0 }) (ee ∙ ap encoded (er ∙ same))
-      ∙ sym (step-done (λ k. conversion) (call reduce (asked 0 0 mode 0 0 0 b [] [] [])) (copyOf s m) (told ∙ z))
-    where
-      there : at ≡ recordNamed (decoded b)
-      there = front-passed s (length m) b h eh at ea sd es none n 0 bad mode en z .there
+-- ---- call 3, whose core comes in two
 
-      same : reduced (widthOf h) conversion h p
-          ≡ reduced (widthOf (decoded b)) conversion (decoded b) (primaryOf (clusterAt s (recordNamed (decoded b))) mode)
-      same =
-          ap₂ (λ (g : Handle) (q : List ℕ). reduced (widthOf g) conversion g q) eh
-          (ep ∙ ap (λ (i : ℕ). primaryOf (clusterAt s i) mode) there)
+module _ (s : Store) (m b : List ℕ) (current segment size : ℕ) (o : Opened) (w : Opens o s (length m) b) (n : ℕ)
+    (en : n ≡ firstOf (makeRows (o .sound) (o .handle) (o .cluster) current segment size)) where
+  pub new-segment-refused : (n ≡ 0 → ⊥) → (r : Left) → r ≡ leftAlone s n
+      → ended (r .store) m (r .answer) [] ≡ aesStep (makingSegment current segment size b) (copyOf s m)
+  new-segment-refused t r er =
+      ap (λ (q : Left). ended (q .store) m (q .answer) []) er
+      ∙ segment-refused s m b current segment size (o .sound) (o .handle) (o .cluster) (w .given m refl) n en t
+
+  -- what the core promises, asked of these records, and put back
+  pub new-segment-left : n ≡ 0 → (v : ℕ) → v ≡ nodeOf (o .handle) → (f : Found) → answer f ≡ placement (tableAt s) v size
+      → (after : List ℕ) (l : RecordLeft)
+      → ((sd : Bool) (t : Store) (d : List ℕ) (i : ℕ) → Given sd (o .handle) (o .cluster) t m d
+      → firstOf (makeRows sd (o .handle) (o .cluster) i segment size) ≡ 0
+      → answer f ≡ placement (tableAt t) (nodeOf (o .handle)) size
+      → ended (put (o .handle) (l .cluster) t) after (l .answer) [] ≡ aesStep (makingSegment i segment size d) (copyOf t m))
+      → (r : Left) → r ≡ putBack s (o .at) l
+      → ended (r .store) after (r .answer) [] ≡ aesStep (makingSegment current segment size b) (copyOf s m)
+  new-segment-left z v ev f ef after l core =
+      put-back-is s m after (makingSegment current segment size b) (o .at) (recordFound (o .handle)) (w .at) l
+      (core (o .sound) s b current (w .given m refl) (sym en ∙ z) (ef ∙ ap (λ (u : ℕ). placement (tableAt s) u size) ev))

@@ -1,23 +1,194 @@
 // The calls of document 01 on a store and the memory that goes with it. Each entry point takes the records by value and
-// the memory lent, and gives what `step` gives: a refused call leaves all as it was.
+// the memory lent, and gives what `step` gives: a refused call leaves all as it was. It looks up the record of the cluster
+// that the call is about, has the core (`cluster`) do the call on it, and puts the record back.
+use calls::Answer;
+use calls::Left;
+use calls::RecordLeft;
+use calls::unchanged;
+use handle::Handle;
+use handle::HandleBytes;
+use sizes::Password;
+use store::Cluster;
+use store::Store;
+ghost use mathlib.Core.Path.{_≡_};
+ghost use mathlib.Core.List.{[]};
+ghost use Prim.Native.Nat.{_<_};
+ghost use Rattle.sizes.specs.Sizes.{records};
+ghost use Rattle.calls.specs.Calls as calls;
+ghost use Rattle.calls.specs.Steps.{aesStep};
+ghost use Rattle.calls.specs.Answers.{copyOf, ended};
+ghost use Rattle.guard.specs.Opens.{Opens, putBack};
 
-mod bytes; // bytes.rt: the calls that move the bytes of a segment
-mod change; // change.rt: the calls that change a record and no byte
-mod create; // create.rt: calls 1 and 7
-mod make; // make.rt: the call that makes a segment
-mod open; // open.rt: validation and reduction, which change nothing
+// Weakening looks at no store.
+pub use cluster::weaken;
 
-pub use bytes::read;
-pub use bytes::write;
-pub use change::delete_cluster;
-pub use change::delete_segment;
-pub use change::new_password;
-pub use create::new_cluster;
-pub use create::weaken;
-pub use make::new_segment;
-pub use open::reduce;
-pub use open::validate;
+// What a call that opens a cluster begins with: the handle; the number and the record of its cluster, the first where there
+// is no such place; whether the store is sound.
+struct Opened {
+    handle: Handle,
+    at: usize,
+    cluster: Cluster,
+    sound: bool,
+}
 
-// What a call answers is `front`'s.
-pub use front::Answer;
-pub use front::Done;
+fn look_up(store: Store, size: usize, bytes: HandleBytes) -> Opened
+    ensures { λ r. ⌜ Opens r store size bytes ⌝ }
+{
+    let handle = Handle::decode(bytes);
+    let at = store::record_at(handle.node(), handle.local as usize);
+    let cluster = store.clusters[at];
+    let sound = store::sound(store, size);
+    Opened {
+        handle,
+        at,
+        cluster,
+        sound,
+    }
+}
+
+// The records with one of them as the core left it.
+fn put_back(store: Store, at: usize, left: RecordLeft) -> Left
+    requires { ⌜ at < records ⌝ }
+    ensures { λ r. ⌜ r ≡ putBack store at left ⌝ }
+{
+    let cluster = left.cluster;
+    let answer = left.answer;
+    let mut next = store;
+    next.clusters[at] = cluster;
+    Left {
+        store: next,
+        answer,
+    }
+}
+
+// Call 1: a cluster of the current node becomes active with two passwords; its read and its write primary handle.
+pub fn new_cluster(
+    store: Store,
+    memory: &[u8],
+    current: usize,
+    local: usize,
+    read: Password,
+    write: Password,
+) -> Left
+    ensures { λ r. ⌜ ended (r .store) (now (memory .entry)) (r .answer) []
+        ≡ aesStep (calls.makingCluster current local read write) (copyOf store (now (memory .entry))) ⌝ }
+{
+    let at = store::record_at(current, local);
+    let cluster = store.clusters[at];
+    let sound = store::sound(store, memory.len());
+    let left = cluster::new_cluster(sound, cluster, current, local, read, write);
+    put_back(store, at, left)
+}
+
+// Call 2: the cluster's record becomes that of the starting store.
+pub fn delete_cluster(store: Store, memory: &[u8], current: usize, bytes: HandleBytes) -> Left
+    ensures { λ r. ⌜ ended (r .store) (now (memory .entry)) (r .answer) []
+        ≡ aesStep (calls.deletingCluster current bytes) (copyOf store (now (memory .entry))) ⌝ }
+{
+    let o = look_up(store, memory.len(), bytes);
+    let left = cluster::delete_cluster(o.sound, o.handle, o.cluster, current);
+    put_back(store, o.at, left)
+}
+
+// Call 3: the segment is present at the smallest base at which it fits, and its bytes are zero.
+pub fn new_segment(
+    store: Store,
+    memory: &mut [u8],
+    current: usize,
+    segment: usize,
+    size: usize,
+    bytes: HandleBytes,
+) -> Left
+    ensures { λ r. ⌜ ended (r .store) (now (memory .exit)) (r .answer) []
+        ≡ aesStep (calls.makingSegment current segment size bytes) (copyOf store (now (memory .entry))) ⌝ }
+{
+    let o = look_up(store, memory.len(), bytes);
+    let handle = o.handle;
+    let number = cluster::segment_refusal(o.sound, handle, o.cluster, current, segment, size);
+    if number != 0 {
+        return unchanged(store, number);
+    }
+    let found = store::new_base(store, handle.node(), size);
+    let left = cluster::new_segment(found, handle, o.cluster, memory, segment, size);
+    put_back(store, o.at, left)
+}
+
+// Call 4: the segment is absent; memory bytes stay.
+pub fn delete_segment(
+    store: Store,
+    memory: &[u8],
+    current: usize,
+    segment: usize,
+    bytes: HandleBytes,
+) -> Left
+    ensures { λ r. ⌜ ended (r .store) (now (memory .entry)) (r .answer) []
+        ≡ aesStep (calls.deletingSegment current segment bytes) (copyOf store (now (memory .entry))) ⌝ }
+{
+    let o = look_up(store, memory.len(), bytes);
+    let left = cluster::delete_segment(o.sound, o.handle, o.cluster, current, segment);
+    put_back(store, o.at, left)
+}
+
+// Call 5: the first bytes of the buffer become those of the segment, and its length is told.
+pub fn read(
+    store: Store,
+    memory: &[u8],
+    buffer: &mut [u8],
+    segment: usize,
+    bytes: HandleBytes,
+) -> Answer
+    ensures { λ r. ⌜ ended store (now (memory .entry)) r (now (buffer .exit))
+        ≡ aesStep (calls.reading segment bytes (now (buffer .entry))) (copyOf store (now (memory .entry))) ⌝ }
+{
+    let o = look_up(store, memory.len(), bytes);
+    cluster::read(o.sound, o.handle, o.cluster, memory, buffer, segment)
+}
+
+// Call 6: the segment becomes the first bytes of the data.
+pub fn write(
+    store: Store,
+    memory: &mut [u8],
+    segment: usize,
+    bytes: HandleBytes,
+    written: &[u8],
+) -> Answer
+    ensures { λ r. ⌜ ended store (now (memory .exit)) r (now (written .entry))
+        ≡ aesStep (calls.writing segment bytes (now (written .entry))) (copyOf store (now (memory .entry))) ⌝ }
+{
+    let o = look_up(store, memory.len(), bytes);
+    cluster::write(o.sound, o.handle, o.cluster, memory, segment, written)
+}
+
+// Call 8: the handle reduced in the mode named.
+pub fn reduce(store: Store, memory: &[u8], mode: usize, bytes: HandleBytes) -> Answer
+    ensures { λ r. ⌜ ended store (now (memory .entry)) r []
+        ≡ aesStep (calls.reducing mode bytes) (copyOf store (now (memory .entry))) ⌝ }
+{
+    let o = look_up(store, memory.len(), bytes);
+    cluster::reduce(o.sound, o.handle, o.cluster, mode)
+}
+
+// Call 9: the primary password of the mode named becomes the new one; the new primary handle.
+pub fn new_password(
+    store: Store,
+    memory: &[u8],
+    mode: usize,
+    bytes: HandleBytes,
+    password: Password,
+) -> Left
+    ensures { λ r. ⌜ ended (r .store) (now (memory .entry)) (r .answer) []
+        ≡ aesStep (calls.renewing mode bytes password) (copyOf store (now (memory .entry))) ⌝ }
+{
+    let o = look_up(store, memory.len(), bytes);
+    let left = cluster::new_password(o.sound, o.handle, o.cluster, mode, password);
+    put_back(store, o.at, left)
+}
+
+// Validation asked for by itself: the number that reduction would give.
+pub fn validate(store: Store, memory: &[u8], mode: usize, bytes: HandleBytes) -> u8
+    ensures { λ r. ⌜ r ≡ aesStep (calls.validating mode bytes) (copyOf store (now (memory .entry))) .reply .number ⌝ }
+{
+    let tables = aes::tables();
+    let o = look_up(store, memory.len(), bytes);
+    cluster::validate(&tables, o.sound, o.handle, o.cluster, mode)
+}

@@ -17,7 +17,8 @@ use Rattle.handle.specs.Sizes.{subselectors}
 use Rattle.handle.specs.Selectors.{references, flat, allFlat, anyFlat, gapped, firstFlat, common}
 use Rattle.handle.specs.Selectors.{keepsAll, parameter, replaced, spent, inFirst}
 use Rattle.handle.specs.Handles.{nameOf, renewed, through, weakened, made, reduced}
-use Rattle.handle.specs.Handles.{placeNumber, gappedNumber, spentNumber, noSuchPlace, weakenNumber}
+use Rattle.numbers.specs.Numbers.{placeNumber, gappedNumber, spentNumber}
+use Rattle.handle.specs.Handles.{noSuchPlace, weakenNumber}
 use Rattle.handle.specs.Opens.{Whole}
 use Rattle.handle.proofs.SelectorLaws.{replaced-here, replaced-past}
 use Rattle.handle.proofs.SelectorLaws.{references-replaced, gapped-replaced, within-replaced}

@@ -8,6 +8,7 @@ use mathlib.Core.Bool.{Bool, true, false, not, _&&_, false≢true, cond}
 use mathlib.Core.List.{List}
 use lib.Bits.{bitAnd}
 use lib.ListN.{length, set}
+use lib.Dec.{leb}
 use borrow.Author.Tests.{eq-eqb, ne-eqb, le-leb, lt-leb}
 use Rattle.bits.specs.Sets.{full, setOf}
 use Rattle.bits.proofs.SetLaws.{count-none}
@@ -19,7 +20,8 @@ use Rattle.handle.specs.Sizes.{subselectors}
 use Rattle.handle.specs.Selectors.{references, excludes, anyFlat, gapped, firstFlat, common, referenced}
 use Rattle.handle.specs.Selectors.{keepsAll, parameter, spent}
 use Rattle.handle.specs.Handles.{renewed, weakened, weakening}
-use Rattle.handle.specs.Handles.{placeNumber, gappedNumber, spentNumber, refusal, reply, weakenNumber}
+use Rattle.numbers.specs.Numbers.{placeNumber, gappedNumber, spentNumber}
+use Rattle.handle.specs.Handles.{nodeOf, refusal, reply, weakenNumber}
 use Rattle.handle.proofs.SelectorLaws.{any-flat, none-flat}
 use Rattle.handle.proofs.HandleLaws.{weakened-cases}
 
@@ -38,76 +40,81 @@ module _ (w : ℕ) (f : List ℕ → ℕ → List ℕ) (h : Handle) (mask : ℕ)
   unfolding weakening
   done-with k r b a e = b ∙ sym (ap replying e ∙ ap (λ (g : Handle). reply 0 g (referenced w (g .selector))) a)
 
-  pub refused-node : (r : Weakened) → r ≡ refusal placeNumber → nodes ≤ h .node → r ≡ weakening w f h mask
-  unfolding weakenNumber
-  refused-node r a t = refused-with placeNumber (omega arith) r a (simp (le-leb nodes (h .node) t))
-
-  module _ (n : h .node < nodes) where
-    pub refused-local : (r : Weakened) → r ≡ refusal placeNumber → clusters ≤ h .local → r ≡ weakening w f h mask
+  -- the node as the code has it
+  module _ (v : ℕ) (ev : v ≡ nodeOf h) where
+    pub refused-node : (r : Weakened) → r ≡ refusal placeNumber → nodes ≤ v → r ≡ weakening w f h mask
     unfolding weakenNumber
-    refused-local r a t =
-        refused-with placeNumber (omega arith) r a
-        (simp (lt-leb nodes (h .node) n, le-leb clusters (h .local) t))
+    refused-node r a t = refused-with placeNumber (omega arith) r a (simp (le-leb nodes (nodeOf h) (omega (arith, ev))))
 
-    module _ (l : h .local < clusters) (g : Bool) (eg : g ≡ gapped w (h .selector)) where
-      pub refused-gapped : (r : Weakened) → r ≡ refusal gappedNumber → g ≡ true → r ≡ weakening w f h mask
+    module _ (n : v < nodes) where
+      known : leb nodes (nodeOf h) ≡ false
+      known = lt-leb nodes (nodeOf h) (omega (arith, ev))
+
+      pub refused-local : (r : Weakened) → r ≡ refusal placeNumber → clusters ≤ h .local → r ≡ weakening w f h mask
       unfolding weakenNumber
-      refused-gapped r a t =
-          refused-with gappedNumber (omega arith) r a
-          (simp (lt-leb nodes (h .node) n, lt-leb clusters (h .local) l, sym eg ∙ t))
+      refused-local r a t =
+          refused-with placeNumber (omega arith) r a
+          (simp (known, le-leb clusters (h .local) t))
 
-      module _ (u : g ≡ false) where
-        -- only the last row is left
-        last-row : (b : Bool) → spent w mask (h .selector) ≡ b → weakenNumber w h mask ≡ cond b spentNumber 0
+      module _ (l : h .local < clusters) (g : Bool) (eg : g ≡ gapped w (h .selector)) where
+        pub refused-gapped : (r : Weakened) → r ≡ refusal gappedNumber → g ≡ true → r ≡ weakening w f h mask
         unfolding weakenNumber
-        last-row b e = simp (lt-leb nodes (h .node) n, lt-leb clusters (h .local) l, sym eg ∙ u, e)
+        refused-gapped r a t =
+            refused-with gappedNumber (omega arith) r a
+            (simp (known, lt-leb clusters (h .local) l, sym eg ∙ t))
 
-        module _ (m : mask < 2 ^ w) (x : ℕ) (ex : x ≡ common w (h .selector)) where
-          -- the bits of the excluded segments
-          excluded : bitAnd x (full w - mask) ≡ setOf w (excludes mask (h .selector))
-          excluded = ap (λ (n : ℕ). bitAnd n (full w - mask)) ex ∙ and-not w (references (h .selector)) mask m
+        module _ (u : g ≡ false) where
+          -- only the last row is left
+          last-row : (b : Bool) → spent w mask (h .selector) ≡ b → weakenNumber w h mask ≡ cond b spentNumber 0
+          unfolding weakenNumber
+          last-row b e = simp (known, lt-leb clusters (h .local) l, sym eg ∙ u, e)
 
-          keeps : bitAnd x (full w - mask) ≡ 0 → keepsAll w mask (h .selector) ≡ true
-          keeps t =
-              count-none w (excludes mask (h .selector))
-              ∙ eq-eqb (setOf w (excludes mask (h .selector))) 0 (sym excluded ∙ t)
+          module _ (m : mask < 2 ^ w) (x : ℕ) (ex : x ≡ common w (h .selector)) where
+            -- the bits of the excluded segments
+            excluded : bitAnd x (full w - mask) ≡ setOf w (excludes mask (h .selector))
+            excluded = ap (λ (n : ℕ). bitAnd n (full w - mask)) ex ∙ and-not w (references (h .selector)) mask m
 
-          takes : (bitAnd x (full w - mask) ≡ 0 → ⊥) → keepsAll w mask (h .selector) ≡ false
-          takes t =
-              count-none w (excludes mask (h .selector))
-              ∙ ne-eqb (setOf w (excludes mask (h .selector))) 0 (λ e. t (excluded ∙ e))
+            keeps : bitAnd x (full w - mask) ≡ 0 → keepsAll w mask (h .selector) ≡ true
+            keeps t =
+                count-none w (excludes mask (h .selector))
+                ∙ eq-eqb (setOf w (excludes mask (h .selector))) 0 (sym excluded ∙ t)
 
-          pub weaken-unchanged : bitAnd x (full w - mask) ≡ 0 → (r : Weakened)
-              → r ≡ reply 0 h (referenced w (h .selector)) → r ≡ weakening w f h mask
-          weaken-unchanged t r er =
-              done-with h r er
-              (weakened-cases w f h mask (λ k. k ≡ h) (λ e. refl) (λ e. absurd (false≢true (sym e ∙ keeps t))))
-              (last-row false (ap (λ (b : Bool). not b && not (anyFlat w (h .selector))) (keeps t)))
+            takes : (bitAnd x (full w - mask) ≡ 0 → ⊥) → keepsAll w mask (h .selector) ≡ false
+            takes t =
+                count-none w (excludes mask (h .selector))
+                ∙ ne-eqb (setOf w (excludes mask (h .selector))) 0 (λ e. t (excluded ∙ e))
 
-          module _ (t : bitAnd x (full w - mask) ≡ 0 → ⊥) (four : length (h .selector) ≡ subselectors)
-              (k : ℕ) (ek : k ≡ firstFlat w (h .selector)) where
-            row-spent : (b : Bool) → anyFlat w (h .selector) ≡ b → weakenNumber w h mask ≡ cond (not b) spentNumber 0
-            row-spent b e = last-row (not b) (ap₂ (λ (x y : Bool). not x && not y) (takes t) e)
+            pub weaken-unchanged : bitAnd x (full w - mask) ≡ 0 → (r : Weakened)
+                → r ≡ reply 0 h (referenced w (h .selector)) → r ≡ weakening w f h mask
+            weaken-unchanged t r er =
+                done-with h r er
+                (weakened-cases w f h mask (λ k. k ≡ h) (λ e. refl) (λ e. absurd (false≢true (sym e ∙ keeps t))))
+                (last-row false (ap (λ (b : Bool). not b && not (anyFlat w (h .selector))) (keeps t)))
 
-            pub refused-spent : subselectors ≤ k → (r : Weakened) → r ≡ refusal spentNumber → r ≡ weakening w f h mask
-            refused-spent s r a =
-                refused-with spentNumber (omega arith) r a
-                (row-spent false (none-flat w (h .selector) (omega arith)))
+            module _ (t : bitAnd x (full w - mask) ≡ 0 → ⊥) (four : length (h .selector) ≡ subselectors)
+                (k : ℕ) (ek : k ≡ firstFlat w (h .selector)) where
+              row-spent : (b : Bool) → anyFlat w (h .selector) ≡ b → weakenNumber w h mask ≡ cond (not b) spentNumber 0
+              row-spent b e = last-row (not b) (ap₂ (λ (x y : Bool). not x && not y) (takes t) e)
 
-            -- the parameter, as the code has it
-            abbrev v : ℕ
-            v = full w - bitAnd x (full w - mask)
+              pub refused-spent : subselectors ≤ k → (r : Weakened) → r ≡ refusal spentNumber → r ≡ weakening w f h mask
+              refused-spent s r a =
+                  refused-with spentNumber (omega arith) r a
+                  (row-spent false (none-flat w (h .selector) (omega arith)))
 
-            pub weaken-changed : k < subselectors → (p : List ℕ) → p ≡ f (h .password) v → (r : Weakened)
-                → r ≡ reply 0 (renewed h p (set (h .selector) k v)) (referenced w (set (h .selector) k v))
-                → r ≡ weakening w f h mask
-            weaken-changed s p ep r er =
-                done-with (renewed h p (set (h .selector) k v)) r er
-                (weakened-cases w f h mask (λ g. g ≡ renewed h p (set (h .selector) k v))
-                (λ e. absurd (false≢true (sym (takes t) ∙ e)))
-                (λ e j.
-                renewed h ((ap (f (h .password)) (sym ev) ∙ sym ep) j) (set (h .selector) (sym ek j) (sym ev j))))
-                (row-spent true (any-flat w (h .selector) (omega arith)))
-              where
-                ev : v ≡ parameter w mask (h .selector)
-                ev = ap (λ (n : ℕ). full w - n) excluded
+              -- the parameter, as the code has it
+              abbrev q : ℕ
+              q = full w - bitAnd x (full w - mask)
+
+              pub weaken-changed : k < subselectors → (p : List ℕ) → p ≡ f (h .password) q → (r : Weakened)
+                  → r ≡ reply 0 (renewed h p (set (h .selector) k q)) (referenced w (set (h .selector) k q))
+                  → r ≡ weakening w f h mask
+              weaken-changed s p ep r er =
+                  done-with (renewed h p (set (h .selector) k q)) r er
+                  (weakened-cases w f h mask (λ g. g ≡ renewed h p (set (h .selector) k q))
+                  (λ e. absurd (false≢true (sym (takes t) ∙ e)))
+                  (λ e j.
+                  renewed h ((ap (f (h .password)) (sym eq) ∙ sym ep) j) (set (h .selector) (sym ek j) (sym eq j))))
+                  (row-spent true (any-flat w (h .selector) (omega arith)))
+                where
+                  eq : q ≡ parameter w mask (h .selector)
+                  eq = ap (λ (n : ℕ). full w - n) excluded

@@ -15,7 +15,8 @@ use Rattle.sizes.specs.Sizes.{segments}
 use Rattle.handle.specs.declared.Handle.{Handle}
 use Rattle.handle.specs.declared.Weakened.{Weakened}
 use Rattle.handle.specs.Selectors.{common, referenced}
-use Rattle.handle.specs.Handles.{gappedNumber, spentNumber, refusal, reply, weakening, reduced}
+use Rattle.numbers.specs.Numbers.{gappedNumber, spentNumber}
+use Rattle.handle.specs.Handles.{refusal, reply, weakening, reduced}
 
 pub data Question : Type 0 where
   referencing : List ℕ → Question

@@ -11,7 +11,6 @@
 --     renewed h p ss     the name of h, with the password p and the selector ss
 -- Weakening's numbers and replies:
 --     Row, firstOf       a number of the table and whether it applies; the first that applies, or 0
---     placeNumber, gappedNumber, spentNumber    the table's numbers for no such place, gapped and spent
 --     noSuchPlace h      node above 3 or local number above 7
 --     refusal n          the reply to a call refused with n: 23 zero bytes and a zero count
 --     reply n h c        the handle h and the count c where n is 0, else the refusal with n
@@ -37,6 +36,7 @@ use Rattle.loops.specs.Below.{every}
 use Rattle.handle.specs.declared.Handle.{Handle}
 use Rattle.handle.specs.declared.Weakened.{Weakened}
 use Rattle.sizes.specs.Sizes.{nodes, clusters, segments, passwordBytes}
+use Rattle.numbers.specs.Numbers.{placeNumber, gappedNumber, spentNumber}
 use Rattle.handle.specs.Sizes.{subselectors}
 use Rattle.handle.specs.Sizes.{nodeBytes, localAt, passwordAt, selectorAt}
 use Rattle.handle.specs.Selectors.{flat, allFlat, gapped, common, referenced}
@@ -96,15 +96,6 @@ pub record Row : Type 0 where
 abbrev pub firstOf : List Row → ℕ
 firstOf [] = 0
 firstOf (r ∷ rs) = cond (r .applies) (r .number) (firstOf rs)
-
-abbrev pub placeNumber : ℕ
-placeNumber = 2
-
-abbrev pub gappedNumber : ℕ
-gappedNumber = 4
-
-abbrev pub spentNumber : ℕ
-spentNumber = 17
 
 abbrev pub noSuchPlace : Handle → Bool
 noSuchPlace h = leb nodes (nodeOf h) || leb clusters (h .local)

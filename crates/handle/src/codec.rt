@@ -1,14 +1,22 @@
 // The 23 bytes of a handle: node (high byte first), local number, password, selector.
+use crate::FLAT;
+use crate::HANDLE_BYTES;
 use crate::Handle;
+use crate::HandleBytes;
+use crate::SUBSELECTORS;
+use sizes::Password;
 ghost use mathlib.Core.Path.{_≡_};
+ghost use Rattle.loops.specs.First.{firstBytes};
+ghost use Rattle.handle.specs.Sizes.{handleBytes};
 ghost use Rattle.handle.specs.Handles as spec;
+ghost use Rattle.handle.specs.Opens.{primaryBytes};
 
 // How many values a byte has.
 const BYTE: u16 = 256;
 
 impl Handle {
     // The handle that 23 bytes hold.
-    pub fn decode(bytes: [u8; 23]) -> Handle
+    pub fn decode(bytes: HandleBytes) -> Handle
         ensures { λ r. ⌜ r ≡ spec.decoded bytes ⌝ }
     {
         let b = bytes;
@@ -38,7 +46,7 @@ impl Handle {
     }
 
     // The 23 bytes of the handle.
-    pub fn encode(self) -> [u8; 23]
+    pub fn encode(self) -> HandleBytes
         ensures { λ r. ⌜ r ≡ spec.encoded self ⌝ }
     {
         let node = self.node;
@@ -71,4 +79,31 @@ impl Handle {
             s[3],
         ]
     }
+}
+
+// The first 23 bytes of a part, by value; zeros where it has fewer.
+pub fn bytes_in(part: &[u8]) -> HandleBytes
+    ensures { λ r. ⌜ r ≡ firstBytes handleBytes (now (part .entry)) ⌝ }
+{
+    let mut r = [0u8; HANDLE_BYTES];
+    if part.len() < HANDLE_BYTES {
+        return r;
+    }
+    for i in 0..HANDLE_BYTES {
+        r[i] = part[i];
+    }
+    r
+}
+
+// The bytes of the primary handle of a cluster with a password.
+pub fn primary_bytes(node: u16, local: u8, password: Password) -> HandleBytes
+    ensures { λ r. ⌜ r ≡ primaryBytes node local password ⌝ }
+{
+    let handle = Handle {
+        node,
+        local,
+        password,
+        selector: [FLAT; SUBSELECTORS],
+    };
+    handle.encode()
 }

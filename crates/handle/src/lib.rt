@@ -1,23 +1,24 @@
 // Handles (document 01, "The handle"): what they reference, conversion, validation, weakening, reduction; their bytes
 // are in `codec`. A function whose name ends in `_with` is lent the tables of the cipher, which a caller takes once.
-mod codec;
+mod codec; // codec.rt: a handle from its bytes, and back
 
 use aes::Tables;
+pub use codec::bytes_in;
+pub use codec::primary_bytes;
+use numbers::GAPPED;
+use numbers::NO_SUCH_PLACE;
+use numbers::SPENT;
+use sizes::CLUSTERS;
+use sizes::NODES;
+use sizes::PASSWORD_BYTES;
+use sizes::Password;
+use sizes::SEGMENTS;
 ghost use mathlib.Core.Path.{_≡_};
 ghost use Rattle.aes.specs.Tables.{IsTables};
 ghost use Rattle.sizes.specs.Sizes.{segments};
 ghost use Rattle.handle.specs.Selectors as sel;
 ghost use Rattle.handle.specs.Handles as spec;
-ghost use Rattle.handle.specs.Conversion.{conversion};
-
-// How many nodes there are.
-const NODES: u16 = 4;
-
-// How many clusters a node has.
-const CLUSTERS: u8 = 8;
-
-// How many segments a cluster has.
-const SEGMENTS: u8 = 8;
+ghost use Rattle.handle.specs.Conversion.{conversion, product};
 
 // How many subselectors a selector has.
 const SUBSELECTORS: usize = 4;
@@ -25,27 +26,20 @@ const SUBSELECTORS: usize = 4;
 // A flat subselector: a bit for each segment.
 const FLAT: u8 = 255;
 
-// How many bytes a password has.
-const PASSWORD_BYTES: usize = 16;
-
 // The place of the parameter in the block that a conversion encrypts: the last.
 const PARAMETER_AT: usize = 15;
 
-// Weakening is refused: the node or the local number is too large.
-const NO_SUCH_PLACE: u8 = 2;
+// The bytes of a handle.
+pub const HANDLE_BYTES: usize = 23;
 
-// Weakening is refused: the selector is gapped.
-const GAPPED: u8 = 4;
-
-// Weakening is refused: something would be excluded and no subselector is flat.
-const SPENT: u8 = 17;
+pub type HandleBytes = [u8; HANDLE_BYTES];
 
 // What opens some segments of the cluster that it names by node and local number.
 pub struct Handle {
     pub node: u16,
     pub local: u8,
-    pub password: [u8; 16],
-    pub selector: [u8; 4],
+    pub password: Password,
+    pub selector: [u8; SUBSELECTORS],
 }
 
 // The reply of a weakening: 0, the new handle and how many segments it references; or the number of the refusal, the
@@ -57,17 +51,17 @@ pub struct Weakened {
 }
 
 // The password that a parameter turns a password into.
-pub fn convert_with(tables: &Tables, password: [u8; 16], parameter: u8) -> [u8; 16]
+pub fn convert_with(tables: &Tables, password: Password, parameter: u8) -> Password
     requires { ⌜ IsTables (now tables) ⌝ }
     ensures { λ r. ⌜ r ≡ conversion password parameter ⌝ }
 {
-    let mut block = [0u8; 16];
+    let mut block = [0u8; PASSWORD_BYTES];
     block[PARAMETER_AT] = parameter;
     aes::encrypt_with(tables, password, block)
 }
 
 // A password through the conversion of one subselector; a flat one is skipped.
-fn converted_with(tables: &Tables, password: [u8; 16], subselector: u8) -> [u8; 16]
+fn converted_with(tables: &Tables, password: Password, subselector: u8) -> Password
     requires { ⌜ IsTables (now tables) ⌝ }
     ensures { λ r. ⌜ r ≡ spec.converted segments conversion password subselector ⌝ }
 {
@@ -79,7 +73,7 @@ fn converted_with(tables: &Tables, password: [u8; 16], subselector: u8) -> [u8; 
 
 // Whether two passwords are equal. All sixteen bytes are looked at, so that the time taken tells nothing of how many
 // agree.
-pub fn same(a: [u8; 16], b: [u8; 16]) -> bool
+pub fn same(a: Password, b: Password) -> bool
     ensures { λ r. ⌜ r ≡ spec.samePassword a b ⌝ }
 {
     let mut differing = 0u8;
@@ -96,8 +90,8 @@ fn refused(number: u8) -> Weakened
     let none = Handle {
         node: 0,
         local: 0,
-        password: [0u8; 16],
-        selector: [0u8; 4],
+        password: [0u8; PASSWORD_BYTES],
+        selector: [0u8; SUBSELECTORS],
     };
     Weakened {
         number: number,
@@ -119,6 +113,13 @@ fn done(handle: Handle) -> Weakened
 }
 
 impl Handle {
+    // The node that the handle names.
+    pub fn node(self) -> usize
+        ensures { λ r. ⌜ r ≡ spec.nodeOf self ⌝ }
+    {
+        self.node as usize
+    }
+
     // The bits that all four subselectors have.
     pub fn common(self) -> u8
         ensures { λ r. ⌜ r ≡ sel.common (spec.widthOf self) (self .selector) ⌝ }
@@ -136,7 +137,7 @@ impl Handle {
     }
 
     // Whether the handle references a segment; it references none at or above the width.
-    pub fn references(self, segment: u8) -> bool
+    pub fn references(self, segment: usize) -> bool
         ensures { λ r. ⌜ r ≡ sel.references (self .selector) segment ⌝ }
     {
         if SEGMENTS <= segment {
@@ -180,9 +181,9 @@ impl Handle {
     }
 
     // A primary password through the conversions of the handle's subselectors, 0 first.
-    fn opened_with(self, tables: &Tables, primary: [u8; 16]) -> [u8; 16]
+    fn opened_with(self, tables: &Tables, primary: Password) -> Password
         requires { ⌜ IsTables (now tables) ⌝ }
-        ensures { λ r. ⌜ r ≡ spec.through (spec.widthOf self) conversion (self .selector) primary ⌝ }
+        ensures { λ r. ⌜ r ≡ spec.through (spec.widthOf self) (product (spec.nameOf self)) (self .selector) primary ⌝ }
     {
         let s = self.selector;
         let a = converted_with(tables, primary, s[0]);
@@ -192,9 +193,9 @@ impl Handle {
     }
 
     // Whether the handle validates from a primary password.
-    pub fn validates_with(self, tables: &Tables, primary: [u8; 16]) -> bool
+    pub fn validates_with(self, tables: &Tables, primary: Password) -> bool
         requires { ⌜ IsTables (now tables) ⌝ }
-        ensures { λ r. ⌜ r ≡ spec.validates (spec.widthOf self) conversion primary self ⌝ }
+        ensures { λ r. ⌜ r ≡ spec.validates (spec.widthOf self) (product (spec.nameOf self)) primary self ⌝ }
     {
         let opened = self.opened_with(tables, primary);
         let password = self.password;
@@ -204,14 +205,12 @@ impl Handle {
     // The handle weakened by a mask, and how many segments the new one references. The store plays no part.
     pub fn weaken_with(self, tables: &Tables, mask: u8) -> Weakened
         requires { ⌜ IsTables (now tables) ⌝ }
-        ensures { λ r. ⌜ r ≡ spec.weakening (spec.widthOf self) conversion self mask ⌝ }
+        ensures { λ r. ⌜ r ≡ spec.weakening (spec.widthOf self) (product (spec.nameOf self)) self mask ⌝ }
     {
-        let node = self.node;
-        let local = self.local;
-        if NODES <= node {
+        if NODES <= self.node() {
             return refused(NO_SUCH_PLACE);
         }
-        if CLUSTERS <= local {
+        if CLUSTERS <= self.local as usize {
             return refused(NO_SUCH_PLACE);
         }
         if self.gapped() {
@@ -231,8 +230,8 @@ impl Handle {
         let mut selector = self.selector;
         selector[place] = parameter;
         let weaker = Handle {
-            node,
-            local,
+            node: self.node,
+            local: self.local,
             password,
             selector,
         };
@@ -241,16 +240,16 @@ impl Handle {
 
     // The same, with the tables taken for this one call.
     pub fn weaken(self, mask: u8) -> Weakened
-        ensures { λ r. ⌜ r ≡ spec.weakening (spec.widthOf self) conversion self mask ⌝ }
+        ensures { λ r. ⌜ r ≡ spec.weakening (spec.widthOf self) (product (spec.nameOf self)) self mask ⌝ }
     {
         let tables = aes::tables();
         self.weaken_with(&tables, mask)
     }
 
     // The handle reduced: the common bits in subselector 0, the password made from the primary one.
-    pub fn reduce_with(self, tables: &Tables, primary: [u8; 16]) -> Handle
+    pub fn reduce_with(self, tables: &Tables, primary: Password) -> Handle
         requires { ⌜ IsTables (now tables) ⌝ }
-        ensures { λ r. ⌜ r ≡ spec.reduced (spec.widthOf self) conversion self primary ⌝ }
+        ensures { λ r. ⌜ r ≡ spec.reduced (spec.widthOf self) (product (spec.nameOf self)) self primary ⌝ }
     {
         if self.primary() {
             return self;

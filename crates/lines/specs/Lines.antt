@@ -15,7 +15,7 @@ use mathlib.Core.Bool.{cond, _||_}
 use mathlib.Core.List.{List, [], _∷_, _++_}
 use lib.Dec.{eqb}
 use Rattle.lines.specs.Text.{ascii, space, lineFeed, decimal, hexadecimal}
-pub use Rattle.front.specs.declared.Answer.{Answer}
+pub use Rattle.calls.specs.declared.Answer.{Answer}
 
 unfoldable pub spaced : List (List ℕ) → List ℕ
 spaced [] = []

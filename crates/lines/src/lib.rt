@@ -1,6 +1,13 @@
 // The lines that `benchrun` writes (document 01, "The list of calls"), each put at the start of a lent buffer. An inner
 // function puts its text after the buffer's first `at` bytes and tells where it ends.
-use front::Answer;
+use calls::Answer;
+use calls::NEW_CLUSTER;
+use calls::NEW_PASSWORD;
+use calls::READ;
+use calls::REDUCE;
+use calls::WEAKEN;
+use handle::HANDLE_BYTES;
+use handle::HandleBytes;
 use sizes::NODE_MEMORY;
 ghost use Prim.Native.Nat.{_+_, _*_, _≤_, _<_};
 ghost use mathlib.Core.Path.{_≡_};
@@ -19,25 +26,11 @@ const BYTE_DIGITS: usize = 3;
 // The most bytes of a call's line: three numbers with a space after each, the longest segment, the line feed.
 pub const LONGEST: usize = 3 * (BYTE_DIGITS + 1) + 2 * NODE_MEMORY + 1;
 
-// The bytes of a handle.
-const HANDLE: usize = 23;
-
 // The most bytes of the line of any call but a read: three numbers and two handles, a space or the line feed after each.
-pub const BRIEF: usize = 3 * (BYTE_DIGITS + 1) + 2 * (2 * HANDLE + 1);
+pub const BRIEF: usize = 3 * (BYTE_DIGITS + 1) + 2 * (2 * HANDLE_BYTES + 1);
 
 // The most bytes after the word of a line: a space, a number, the line feed.
 const AFTER_WORD: usize = 1 + BYTE_DIGITS + 1;
-
-// The codes of the calls that give something.
-const NEW_CLUSTER: u8 = 1;
-
-const READ: u8 = 5;
-
-const WEAKEN: u8 = 7;
-
-const REDUCE: u8 = 8;
-
-const NEW_PASSWORD: u8 = 9;
 
 fn digit(d: u8) -> u8
     requires { ⌜ d < 16 ⌝ }
@@ -126,7 +119,7 @@ fn put_bytes(out: &mut [u8], at: usize, bytes: &[u8]) -> usize
 }
 
 // A space, and the bytes of a handle.
-fn put_handle(out: &mut [u8], at: usize, handle: [u8; 23]) -> usize
+fn put_handle(out: &mut [u8], at: usize, handle: HandleBytes) -> usize
     requires { ⌜ at + (1 + 2 * handleBytes) ≤ length (now out) ⌝ }
     ensures { λ r. ⌜ Put (now (out .entry)) (now (out .exit)) at r (spaced (hexadecimal handle ∷ [])) ⌝ }
     ensures { λ r. ⌜ r ≡ at + (1 + 2 * handleBytes) ⌝ }

@@ -11,7 +11,8 @@ use Rattle.chain.specs.declared.Walked.{Walked}
 use Rattle.chain.specs.Way.{done, refusal}
 use Rattle.chain.specs.Bytes.{wayIn}
 use Rattle.list.specs.Records.{recordBytes, mostBytes}
-use Rattle.list.specs.Texts.{lengthNumber, badLength, checked}
+use Rattle.numbers.specs.Numbers.{lengthNumber}
+use Rattle.list.specs.Texts.{badLength, checked}
 
 module _ (list : List ℕ) where
   pub by-length : (t : Bool) → badLength (length list) ≡ t

@@ -1,3 +1,4 @@
+pub mod FieldLaws
 pub mod PerformLaws
 pub mod CheckLaws
 pub mod ReadLaws

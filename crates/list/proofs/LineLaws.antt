@@ -9,7 +9,7 @@ use lib.ListN.{length, getD, take, drop}
 use lib.Seq.{length-take-le}
 use Rattle.sizes.specs.Sizes.{nodeMemory}
 use Rattle.store.specs.declared.Store.{Store}
-use Rattle.front.specs.declared.Done.{Done}
+use Rattle.calls.specs.declared.Left.{Left}
 use Rattle.lines.specs.Lines.{callLine}
 use Rattle.lines.specs.Buffers.{brief, callLineWithin, Begins}
 use Rattle.lines.proofs.LineLaws.{callLine-fits}
@@ -21,7 +21,7 @@ use Rattle.list.proofs.ReadLaws.{performed-told}
 
 -- ---- the bytes that a read tells
 
-module _ (d : Done) (n l r : List ℕ) (b : Bench) (e : ran d n l ≡ performed r b) (k : length l ≡ length (b .buffer)) where
+module _ (d : Left) (n l r : List ℕ) (b : Bench) (e : ran d n l ≡ performed r b) (k : length l ≡ length (b .buffer)) where
   pub told-fits : d .answer .length ≤ length l
   told-fits =
       let h : performed r b .answer .length ≤ length (b .buffer) = performed-told r b in
@@ -46,7 +46,7 @@ module _ (list : List ℕ) (k : ℕ) where
   pub one-brief : (w : ℕ) → ((codeOf cut ≡ 5 → ⊥) → w ≤ brief) → (codeOf (recordIn list k) ≡ 5 → ⊥) → w ≤ brief
   one-brief w = subst (λ (r : List ℕ). (codeOf r ≡ 5 → ⊥) → w ≤ brief) cut-is
 
-  module _ (s : Store) (m b out : List ℕ) (reach : Reach list k b out) (d : Done) (n l : List ℕ)
+  module _ (s : Store) (m b out : List ℕ) (reach : Reach list k b out) (d : Left) (n l : List ℕ)
       (e : ran d n l ≡ performed cut (bench s m b)) (same : length l ≡ length b) where
     abbrev p : Performed
     p = performed (recordIn list k) (bench s m b)

@@ -12,13 +12,14 @@ use borrow.Author.Tests.{lt-ltb, ne-eqb}
 use lib.Dec.{eqb}
 use lib.ListN.{length}
 use Rattle.handle.specs.Handles.{Row, firstOf}
-use Rattle.handle.specs.Conversion.{conversion}
+use Rattle.handle.specs.Conversion.{conversion, product}
 use Rattle.calls.specs.Calls.{Copy, Kind, newCluster, deleteCluster, newSegment, deleteSegment, read, write, weaken}
 use Rattle.calls.specs.Calls.{reduce, newPassword, validate, Arguments, call, uses}
 use Rattle.calls.specs.Numbers.{unsound, noPlace}
 use Rattle.calls.specs.Steps.{Outcome}
 use Rattle.chain.specs.declared.Walked.{Walked}
-use Rattle.chain.specs.Way.{linkNumber, loopNumber, done}
+use Rattle.numbers.specs.Numbers.{linkNumber, loopNumber}
+use Rattle.chain.specs.Way.{done}
 use Rattle.chain.specs.Means.{Whole, Leaves, Again}
 use Rattle.chain.specs.Bytes.{count, nextIn, wayIn}
 use Rattle.chain.proofs.MeansLaws.{means}
@@ -109,7 +110,7 @@ unused-bytes k r q b e s =
     branches true = ap (λ (rs : List Row). refused (firstOf rs) b) rows-same
     branches false =
         ap (λ (o : Outcome). afterStep k o b)
-        (unused-ignored (λ n. conversion) k (asked r) (asked q) (b .copy) (s .arguments))
+        (unused-ignored product k (asked r) (asked q) (b .copy) (s .arguments))
 
 pub bad-code : BadCode
 unfolding performed

@@ -13,20 +13,22 @@ use lib.ListN.{length}
 use Rattle.sizes.specs.Sizes.{nodes, clusters, passwordBytes}
 use Rattle.handle.specs.Sizes.{handleBytes}
 use Rattle.handle.specs.declared.Handle.{Handle}
-use Rattle.handle.specs.Handles.{firstOf, noSuchPlace, decoded}
-use Rattle.handle.specs.Conversion.{conversion}
+use Rattle.handle.specs.Handles.{nodeOf, firstOf, noSuchPlace, decoded}
+use Rattle.handle.specs.Conversion.{conversion, product}
 use Rattle.store.specs.declared.Store.{Store}
 use Rattle.store.specs.Sound.{sound}
 use Rattle.calls.specs.Calls.{Kind, newCluster, deleteCluster, newSegment, deleteSegment, read, write, weaken, reduce}
 use Rattle.calls.specs.Calls.{newPassword, code, Arguments, call, uses}
 use Rattle.calls.specs.Numbers.{unsound, noPlace}
 use Rattle.calls.specs.Steps.{Outcome, aesStep}
-use Rattle.front.specs.declared.Answer.{Answer}
-use Rattle.front.specs.declared.Done.{Done}
-use Rattle.front.specs.Entries.{copyOf, asked, ended, leftAlone}
+use Rattle.calls.specs.declared.Answer.{Answer}
+use Rattle.calls.specs.declared.Left.{Left}
+use Rattle.calls.specs.Answers.{copyOf, ended, leftAlone}
+use Rattle.calls.specs.Calls.{makingCluster, deletingCluster, makingSegment, deletingSegment, reading, writing}
+use Rattle.calls.specs.Calls.{weakeningBy, reducing, renewing}
 use Rattle.isolation.specs.Checks.{trimmed}
 use Rattle.isolation.proofs.UnusedLaws.{unused-ignored}
-use Rattle.list.specs.Records.{mostData, byte, part, codeOf, dataLength, ownCalls, otherCalls, kindAmong, kindOf}
+use Rattle.list.specs.Records.{mostData, byte, field, codeOf, dataLength, ownCalls, otherCalls, kindAmong, kindOf}
 use Rattle.list.specs.Records.{argumentsOf}
 use Rattle.list.specs.Runs.{bench, ran, Performed, misfits, misfitRows, refused, afterStep, stepped, performedAs}
 use Rattle.list.specs.Runs.{performed}
@@ -65,7 +67,7 @@ module _ (r : List ℕ) (s : Store) (m : List ℕ) where
   unfolding chosen
   as-step k g b t e o eo =
       ap (λ (p : Outcome). afterStep k p (bench s m b))
-      (eo ∙ unused-ignored (λ n. conversion) k g (argumentsOf k r b) (copyOf s m) e)
+      (eo ∙ unused-ignored product k g (argumentsOf k r b) (copyOf s m) e)
       ∙ sym (ap (chosen k b) t)
 
   -- ---- calls 1 to 4
@@ -73,70 +75,70 @@ module _ (r : List ℕ) (s : Store) (m : List ℕ) where
   own : ℕ → (b : List ℕ) → Performed
   own c b = performedAs (kindAmong ownCalls c) r (bench s m b)
 
-  pub own-new-cluster : codeOf r ≡ 1 → (p : List ℕ) → p ≡ part r 32 passwordBytes → (q : List ℕ)
-      → q ≡ part r 48 passwordBytes → (v : ℕ) → v ≡ byte r 2 → (l : ℕ) → l ≡ byte r 4 → (d : Done)
-      → ended (d .store) m (d .answer) [] ≡ aesStep (call newCluster (asked v l 0 0 0 0 [] p q [])) (copyOf s m)
+  pub own-new-cluster : codeOf r ≡ 1 → (p : List ℕ) → p ≡ field r 32 passwordBytes → (q : List ℕ)
+      → q ≡ field r 48 passwordBytes → (v : ℕ) → v ≡ byte r 2 → (l : ℕ) → l ≡ byte r 4 → (d : Left)
+      → ended (d .store) m (d .answer) [] ≡ aesStep (makingCluster v l p q) (copyOf s m)
       → (b : List ℕ) → ran d m b ≡ performedAs (kindAmong ownCalls (codeOf r)) r (bench s m b)
   unfolding own
   own-new-cluster e p ep q eq v ev l el d ed b =
-      as-step newCluster (asked v l 0 0 0 0 [] p q []) b refl (λ j. asked (ev j) (el j) 0 0 0 0 [] (ep j) (eq j) []) _ ed
+      as-step newCluster (makingCluster v l p q .args) b refl (λ j. makingCluster (ev j) (el j) (ep j) (eq j) .args) _ ed
       ∙ sym (ap (λ (c : ℕ). own c b) e)
 
-  module _ (h : List ℕ) (eh : h ≡ part r 8 handleBytes) where
-    pub own-delete-cluster : codeOf r ≡ 2 → (v : ℕ) → v ≡ byte r 2 → (d : Done)
-        → ended (d .store) m (d .answer) [] ≡ aesStep (call deleteCluster (asked v 0 0 0 0 0 h [] [] [])) (copyOf s m)
+  module _ (h : List ℕ) (eh : h ≡ field r 8 handleBytes) where
+    pub own-delete-cluster : codeOf r ≡ 2 → (v : ℕ) → v ≡ byte r 2 → (d : Left)
+        → ended (d .store) m (d .answer) [] ≡ aesStep (deletingCluster v h) (copyOf s m)
         → (b : List ℕ) → ran d m b ≡ performedAs (kindAmong ownCalls (codeOf r)) r (bench s m b)
     unfolding own
     own-delete-cluster e v ev d ed b =
-        as-step deleteCluster (asked v 0 0 0 0 0 h [] [] []) b refl (λ j. asked (ev j) 0 0 0 0 0 (eh j) [] [] []) _ ed
+        as-step deleteCluster (deletingCluster v h .args) b refl (λ j. deletingCluster (ev j) (eh j) .args) _ ed
         ∙ sym (ap (λ (c : ℕ). own c b) e)
 
     pub own-new-segment : codeOf r ≡ 3 → (z : ℕ) → z ≡ byte r 6 * 256 + byte r 7 → (v : ℕ) → v ≡ byte r 2 → (i : ℕ)
-        → i ≡ byte r 4 → (n : List ℕ) (d : Done)
-        → ended (d .store) n (d .answer) [] ≡ aesStep (call newSegment (asked v 0 0 i z 0 h [] [] [])) (copyOf s m)
+        → i ≡ byte r 4 → (n : List ℕ) (d : Left)
+        → ended (d .store) n (d .answer) [] ≡ aesStep (makingSegment v i z h) (copyOf s m)
         → (b : List ℕ) → ran d n b ≡ performedAs (kindAmong ownCalls (codeOf r)) r (bench s m b)
     unfolding own
     own-new-segment e z ez v ev i ei n d ed b =
-        as-step newSegment (asked v 0 0 i z 0 h [] [] []) b refl (λ j. asked (ev j) 0 0 (ei j) (ez j) 0 (eh j) [] [] []) _
+        as-step newSegment (makingSegment v i z h .args) b refl (λ j. makingSegment (ev j) (ei j) (ez j) (eh j) .args) _
         ed
         ∙ sym (ap (λ (c : ℕ). own c b) e)
 
-    pub own-delete-segment : codeOf r ≡ 4 → (v : ℕ) → v ≡ byte r 2 → (i : ℕ) → i ≡ byte r 4 → (d : Done)
-        → ended (d .store) m (d .answer) [] ≡ aesStep (call deleteSegment (asked v 0 0 i 0 0 h [] [] [])) (copyOf s m)
+    pub own-delete-segment : codeOf r ≡ 4 → (v : ℕ) → v ≡ byte r 2 → (i : ℕ) → i ≡ byte r 4 → (d : Left)
+        → ended (d .store) m (d .answer) [] ≡ aesStep (deletingSegment v i h) (copyOf s m)
         → (b : List ℕ) → ran d m b ≡ performedAs (kindAmong ownCalls (codeOf r)) r (bench s m b)
     unfolding own
     own-delete-segment e v ev i ei d ed b =
-        as-step deleteSegment (asked v 0 0 i 0 0 h [] [] []) b refl (λ j. asked (ev j) 0 0 (ei j) 0 0 (eh j) [] [] []) _ ed
+        as-step deleteSegment (deletingSegment v i h .args) b refl (λ j. deletingSegment (ev j) (ei j) (eh j) .args) _ ed
         ∙ sym (ap (λ (c : ℕ). own c b) e)
 
-  pub own-none : (codeOf r ≡ 1 → ⊥) → (codeOf r ≡ 2 → ⊥) → (codeOf r ≡ 3 → ⊥) → (codeOf r ≡ 4 → ⊥) → (d : Done)
+  pub own-none : (codeOf r ≡ 1 → ⊥) → (codeOf r ≡ 2 → ⊥) → (codeOf r ≡ 3 → ⊥) → (codeOf r ≡ 4 → ⊥) → (d : Left)
       → d ≡ leftAlone s 3 → (b : List ℕ) → ran d m b ≡ performedAs (kindAmong ownCalls (codeOf r)) r (bench s m b)
   own-none t1 t2 t3 t4 d ed b =
-      ap (λ (k : Done). ran k m b) ed
+      ap (λ (k : Left). ran k m b) ed
       ∙ sym
       (ap (λ (k : Option Kind). performedAs k r (bench s m b)) (differ ownCalls (codeOf r) (t1, (t2, (t3, (t4, tt))))))
 
   -- ---- call 6
 
-  module _ (h : List ℕ) (eh : h ≡ part r 8 handleBytes) (z : ℕ) (ez : z ≡ dataLength r) where
+  module _ (h : List ℕ) (eh : h ≡ field r 8 handleBytes) (z : ℕ) (ez : z ≡ dataLength r) where
     pub write-misfit : mostData < z → (n : ℕ)
-        → n ≡ firstOf (misfitRows (call write (asked 0 0 0 0 0 0 h [] [] [])) (copyOf s m)) → (d : Done) → d ≡ leftAlone s n
+        → n ≡ firstOf (misfitRows (writing 0 h []) (copyOf s m)) → (d : Left) → d ≡ leftAlone s n
         → (b : List ℕ) → ran d m b ≡ performedAs (some write) r (bench s m b)
     unfolding unsound noPlace chosen
     write-misfit l n en d ed b =
-        ap (λ (k : Done). ran k m b) ed
+        ap (λ (k : Left). ran k m b) ed
         ∙ ap (λ (k : ℕ). ran (leftAlone s k) m b)
-        (en ∙ ap (λ (g : List ℕ). firstOf (misfitRows (call write (asked 0 0 0 0 0 0 g [] [] [])) (copyOf s m))) eh)
+        (en ∙ ap (λ (g : List ℕ). firstOf (misfitRows (writing 0 g []) (copyOf s m))) eh)
         ∙ sym (ap (chosen write b) (ap (ltb mostData) (sym ez) ∙ lt-ltb mostData z l))
 
     pub write-fits : z ≤ mostData → (i : ℕ) → i ≡ byte r 4 → (n : List ℕ) (a : Answer)
-        → let w = part r 32 (32 + z - 32) in
-        ended s n a w ≡ aesStep (call write (asked 0 0 0 i 0 0 h [] [] w)) (copyOf s m)
+        → let w = field r 32 (32 + z - 32) in
+        ended s n a w ≡ aesStep (writing i h w) (copyOf s m)
         → (b : List ℕ) → ran (record { store = s; answer = a }) n b ≡ performedAs (some write) r (bench s m b)
     write-fits l i ei n a ea b =
-        as-step write (asked 0 0 0 i 0 0 h [] [] (part r 32 (32 + z - 32))) b
+        as-step write (writing i h (field r 32 (32 + z - 32)) .args) b
         (ap (ltb mostData) (sym ez) ∙ le-ltb mostData z l)
-        (λ j. asked 0 0 0 (ei j) 0 0 (eh j) [] [] (part r 32 ((back ∙ ez) j))) _ ea
+        (λ j. writing (ei j) (eh j) (field r 32 ((back ∙ ez) j)) .args) _ ea
       where
         back : 32 + z - 32 ≡ z
         back = omega arith
@@ -147,24 +149,24 @@ module _ (r : List ℕ) (s : Store) (m : List ℕ) where
     by-code : ℕ → Performed
     by-code c = performedAs (kindOf c) r (bench s m b)
 
-    pub perform-write : codeOf r ≡ 6 → (n : List ℕ) (d : Done)
+    pub perform-write : codeOf r ≡ 6 → (n : List ℕ) (d : Left)
         → ((l : List ℕ) → ran d n l ≡ performedAs (some write) r (bench s m l))
         → ran d n b ≡ performed r (bench s m b)
     unfolding by-code kindOf performed
     perform-write e n d f = f b ∙ sym (ap by-code e)
 
-    pub perform-new-password : codeOf r ≡ 9 → (h : List ℕ) → h ≡ part r 8 handleBytes → (p : List ℕ)
-        → p ≡ part r 32 passwordBytes → (d : Done)
-        → ended (d .store) m (d .answer) [] ≡ aesStep (call newPassword (asked 0 0 (byte r 3) 0 0 0 h p [] [])) (copyOf s m)
+    pub perform-new-password : codeOf r ≡ 9 → (h : List ℕ) → h ≡ field r 8 handleBytes → (p : List ℕ)
+        → p ≡ field r 32 passwordBytes → (w : ℕ) → w ≡ byte r 3 → (d : Left)
+        → ended (d .store) m (d .answer) [] ≡ aesStep (renewing w h p) (copyOf s m)
         → ran d m b ≡ performed r (bench s m b)
     unfolding by-code kindOf performed
-    perform-new-password e h eh p ep d ed =
-        as-step newPassword (asked 0 0 (byte r 3) 0 0 0 h p [] []) b refl
-        (λ j. asked 0 0 (byte r 3) 0 0 0 (eh j) (ep j) [] []) _ ed
+    perform-new-password e h eh p ep w ew d ed =
+        as-step newPassword (renewing w h p .args) b refl
+        (λ j. renewing (ew j) (eh j) (ep j) .args) _ ed
         ∙ sym (ap by-code e)
 
     pub perform-own : (codeOf r ≡ 5 → ⊥) → (codeOf r ≡ 6 → ⊥) → (codeOf r ≡ 7 → ⊥) → (codeOf r ≡ 8 → ⊥)
-        → (codeOf r ≡ 9 → ⊥) → (n : List ℕ) (d : Done)
+        → (codeOf r ≡ 9 → ⊥) → (n : List ℕ) (d : Left)
         → ((l : List ℕ) → ran d n l ≡ performedAs (kindAmong ownCalls (codeOf r)) r (bench s m l))
         → ran d n b ≡ performed r (bench s m b)
     unfolding kindOf performed
@@ -174,42 +176,42 @@ module _ (r : List ℕ) (s : Store) (m : List ℕ) where
         (ap (λ (k : Option Kind). performedAs k r (bench s m b))
         (among-first ownCalls otherCalls (codeOf r) (t5, (t6, (t7, (t8, (t9, tt)))))))
 
-    module _ (h : List ℕ) (eh : h ≡ part r 8 handleBytes) (a : Answer) where
-      abbrev answered : Done
+    module _ (h : List ℕ) (eh : h ≡ field r 8 handleBytes) (a : Answer) where
+      abbrev answered : Left
       answered = record { store = s; answer = a }
 
       pub perform-read : codeOf r ≡ 5 → (i : ℕ) → i ≡ byte r 4 → (l : List ℕ)
-          → ended s m a l ≡ aesStep (call read (asked 0 0 0 i 0 0 h [] [] b)) (copyOf s m)
+          → ended s m a l ≡ aesStep (reading i h b) (copyOf s m)
           → ran answered m l ≡ performed r (bench s m b)
       unfolding by-code kindOf performed
       perform-read e i ei l el =
-          as-step read (asked 0 0 0 i 0 0 h [] [] b) b refl (λ j. asked 0 0 0 (ei j) 0 0 (eh j) [] [] b) _ el
+          as-step read (reading i h b .args) b refl (λ j. reading (ei j) (eh j) b .args) _ el
           ∙ sym (ap by-code e)
 
       pub perform-weaken : codeOf r ≡ 7
           → ((t : Store) (n : List ℕ)
-          → ended t n a [] ≡ aesStep (call weaken (asked 0 0 0 0 0 (byte r 4) h [] [] [])) (copyOf t n))
+          → ended t n a [] ≡ aesStep (weakeningBy (byte r 4) h) (copyOf t n))
           → ran answered m b ≡ performed r (bench s m b)
       unfolding by-code kindOf performed
       perform-weaken e f =
-          as-step weaken (asked 0 0 0 0 0 (byte r 4) h [] [] []) b refl
-          (λ j. asked 0 0 0 0 0 (byte r 4) (eh j) [] [] []) _ (f s m)
+          as-step weaken (weakeningBy (byte r 4) h .args) b refl
+          (λ j. weakeningBy (byte r 4) (eh j) .args) _ (f s m)
           ∙ sym (ap by-code e)
 
-      pub perform-reduce : codeOf r ≡ 8
-          → ended s m a [] ≡ aesStep (call reduce (asked 0 0 (byte r 3) 0 0 0 h [] [] [])) (copyOf s m)
+      pub perform-reduce : codeOf r ≡ 8 → (w : ℕ) → w ≡ byte r 3
+          → ended s m a [] ≡ aesStep (reducing w h) (copyOf s m)
           → ran answered m b ≡ performed r (bench s m b)
       unfolding by-code kindOf performed
-      perform-reduce e ea =
-          as-step reduce (asked 0 0 (byte r 3) 0 0 0 h [] [] []) b refl
-          (λ j. asked 0 0 (byte r 3) 0 0 0 (eh j) [] [] []) _ ea
+      perform-reduce e w ew ea =
+          as-step reduce (reducing w h .args) b refl
+          (λ j. reducing (ew j) (eh j) .args) _ ea
           ∙ sym (ap by-code e)
 
 -- ---- the number of a misfit
 
 module _ (s : Store) (m b : List ℕ) (h : Handle) (eh : h ≡ decoded b) (sd : Bool) (es : sd ≡ sound s (length m)) where
   abbrev first : ℕ
-  first = firstOf (misfitRows (call write (asked 0 0 0 0 0 0 b [] [] [])) (copyOf s m))
+  first = firstOf (misfitRows (writing 0 b []) (copyOf s m))
 
   told : first ≡ cond (not sd) 1 (cond (noSuchPlace h) 2 3)
   unfolding unsound noPlace
@@ -224,15 +226,17 @@ module _ (s : Store) (m b : List ℕ) (h : Handle) (eh : h ≡ decoded b) (sd : 
     rest : first ≡ cond (noSuchPlace h) 2 3
     rest = told ∙ ap (λ (u : Bool). cond u 1 (cond (noSuchPlace h) 2 3)) t
 
-    pub misfit-node : nodes ≤ h .node → 2 ≡ first
-    misfit-node l = sym (rest ∙ ap (λ (u : Bool). cond (u || leb clusters (h .local)) 2 3) (le-leb nodes (h .node) l))
+    module _ (v : ℕ) (ev : v ≡ nodeOf h) where
+      pub misfit-node : nodes ≤ v → 2 ≡ first
+      misfit-node l =
+          sym (rest ∙ ap (λ (u : Bool). cond (u || leb clusters (h .local)) 2 3) (le-leb nodes (nodeOf h) (omega (arith, ev))))
 
-    module _ (n : h .node < nodes) where
-      local : (u : Bool) → leb clusters (h .local) ≡ u → first ≡ cond u 2 3
-      local u e = rest ∙ ap₂ (λ (x y : Bool). cond (x || y) 2 3) (lt-leb nodes (h .node) n) e
+      module _ (n : v < nodes) where
+        local : (u : Bool) → leb clusters (h .local) ≡ u → first ≡ cond u 2 3
+        local u e = rest ∙ ap₂ (λ (x y : Bool). cond (x || y) 2 3) (lt-leb nodes (nodeOf h) (omega (arith, ev))) e
 
-      pub misfit-local : clusters ≤ h .local → 2 ≡ first
-      misfit-local l = sym (local true (le-leb clusters (h .local) l))
+        pub misfit-local : clusters ≤ h .local → 2 ≡ first
+        misfit-local l = sym (local true (le-leb clusters (h .local) l))
 
-      pub misfit-field : h .local < clusters → 3 ≡ first
-      misfit-field l = sym (local false (lt-leb clusters (h .local) l))
+        pub misfit-field : h .local < clusters → 3 ≡ first
+        misfit-field l = sym (local false (lt-leb clusters (h .local) l))

@@ -23,7 +23,8 @@ use Rattle.chain.proofs.MeansLaws.{number-whole, whole-few}
 use Rattle.lines.specs.Buffers.{longest, brief, Begins}
 use Rattle.list.specs.Records.{recordBytes, mostBytes, recordIn, codeOf}
 use Rattle.list.specs.Runs.{Bench, bench, bufferBytes, starting, Performed, performed}
-use Rattle.list.specs.Texts.{lengthNumber, badLength, checked, chain, recordLine, recordLines}
+use Rattle.numbers.specs.Numbers.{lengthNumber}
+use Rattle.list.specs.Texts.{badLength, checked, chain, recordLine, recordLines}
 use Rattle.list.specs.Loops.{Reach, Lined, Ends, Ready}
 use Rattle.list.proofs.PartLaws.{part-start, part-rest}
 use Rattle.list.proofs.RoomLaws.{quiet-at, ends-none, ends-more, room-line, room-last}

@@ -17,14 +17,15 @@ use mathlib.Core.List.{List}
 use mathlib.Core.Option.{none, some}
 use lib.ListN.{length}
 use Rattle.calls.specs.Calls.{Kind, uses}
-use Rattle.chain.specs.Way.{linkNumber, loopNumber, done, refusal}
+use Rattle.chain.specs.Way.{done, refusal}
 use Rattle.chain.specs.Means.{Whole, Leaves, Again}
 use Rattle.chain.specs.Bytes.{count, nextIn}
 use Rattle.isolation.specs.Checks.{trimmed}
 use Rattle.lines.specs.Lines.{refusedLine}
 use Rattle.list.specs.Records.{recordBytes, mostBytes, codeOf, kindOf, argumentsOf}
-use Rattle.list.specs.Runs.{Bench, misfits, fieldNumber, refused, performed}
-use Rattle.list.specs.Texts.{lengthNumber, badLength, checked, output}
+use Rattle.numbers.specs.Numbers.{fieldNumber, lengthNumber, linkNumber, loopNumber}
+use Rattle.list.specs.Runs.{Bench, misfits, refused, performed}
+use Rattle.list.specs.Texts.{badLength, checked, output}
 
 pub record ListMeans (list : List ℕ) : Type 0 where
   pub no-list : badLength (length list) ≡ true → checked list ≡ refusal lengthNumber

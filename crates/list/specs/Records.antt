@@ -3,7 +3,7 @@
 --     mostData                  the most bytes of data that a record holds
 --     recordIn list k           the 64 bytes of record k, numbered from 1
 --     byte r i                  byte i of a record
---     part r a n                n bytes of a record, from byte a on
+--     field r a n               n bytes of a record, from byte a on
 --     codeOf r                  byte 1: the code
 --     dataLength r              byte 5: the length of a write's data
 --     ownCalls, otherCalls      the kinds that a code may name: 1 to 4, which name a current node, and 5 to 9
@@ -41,8 +41,8 @@ recordIn list k = take recordBytes (drop ((k - 1) * recordBytes) list)
 abbrev pub byte : List ℕ → ℕ → ℕ
 byte r i = getD r i 0
 
-abbrev pub part : List ℕ → ℕ → ℕ → List ℕ
-part r a n = take n (drop a r)
+abbrev pub field : List ℕ → ℕ → ℕ → List ℕ
+field r a n = take n (drop a r)
 
 abbrev pub codeOf : List ℕ → ℕ
 codeOf r = byte r 1
@@ -74,8 +74,8 @@ argumentsOf k r b =
       segment = byte r 4;
       size = byte r 6 * 256 + byte r 7;
       mask = byte r 4;
-      handle = part r 8 handleBytes;
-      first = part r 32 passwordBytes;
-      second = part r 48 passwordBytes;
-      bytes = elim (among (6 ∷ []) k) [ true ↦ part r 32 (dataLength r) | false ↦ b ];
+      handle = field r 8 handleBytes;
+      first = field r 32 passwordBytes;
+      second = field r 48 passwordBytes;
+      bytes = elim (among (6 ∷ []) k) [ true ↦ field r 32 (dataLength r) | false ↦ b ];
     }

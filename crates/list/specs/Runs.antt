@@ -21,15 +21,17 @@ use mathlib.Core.Option.{Option, none, some}
 use lib.Dec.{eqb, ltb}
 use lib.ListN.{length, replicate}
 use Rattle.handle.specs.Handles.{Row, firstOf}
-use Rattle.handle.specs.Conversion.{conversion}
+use Rattle.handle.specs.Conversion.{conversion, product}
 use Rattle.store.specs.declared.Store.{Store}
 use Rattle.calls.specs.Calls.{Copy, start, Kind, Call, call, among}
-use Rattle.calls.specs.Numbers.{rows}
+use Rattle.calls.specs.Numbers.{at, rows}
 use Rattle.calls.specs.Steps.{Reply, Outcome, aesStep}
-use Rattle.front.specs.declared.Answer.{Answer}
-use Rattle.front.specs.declared.Done.{Done}
-use Rattle.front.specs.Entries.{copyOf, row, numberAlone}
+use Rattle.calls.specs.declared.Answer.{Answer}
+use Rattle.calls.specs.declared.Left.{Left}
+use Rattle.calls.specs.Answers.{copyOf, numberAlone}
+use Rattle.refusals.specs.Rows.{row}
 use Rattle.list.specs.Records.{mostData, codeOf, dataLength, kindOf, argumentsOf}
+use Rattle.numbers.specs.Numbers.{fieldNumber}
 
 pub record Bench : Type 0 where
   pub copy : Copy
@@ -48,13 +50,10 @@ pub record Performed : Type 0 where
   pub bench : Bench
   pub answer : Answer
 
-abbrev pub ran : Done → List ℕ → List ℕ → Performed
+abbrev pub ran : Left → List ℕ → List ℕ → Performed
 ran d m b = record { bench = bench (d .store) m b; answer = d .answer }
 
 -- ---- a call refused by the list's own rules
-
-abbrev pub fieldNumber : ℕ
-fieldNumber = 3
 
 abbrev pub misfits : Kind → List ℕ → Bool
 misfits k r = among (6 ∷ []) k && ltb mostData (dataLength r)
@@ -66,7 +65,7 @@ rowsAbove n (r ∷ rs) = elim (eqb (r .number) n) [ true ↦ [] | false ↦ r �
 abbrev pub misfitRows : Call → Copy → List Row
 misfitRows x c =
     rowsAbove fieldNumber
-    (map (λ (r : Call → Store → Row). r x (c .store)) (rows (λ n. conversion) (length (c .memory))))
+    (at x (c .store) (rows product (length (c .memory))))
     ++ (row fieldNumber true ∷ [])
 
 abbrev pub refused : ℕ → Bench → Performed

@@ -1,5 +1,4 @@
 -- Document 01, "The list of calls": the check of the chain, and the text of the whole run.
---     lengthNumber            the table's number for a list's length
 --     badLength n             not a multiple of 64, or above 16,320
 --     checked list            the chain from record 1: 18 for the length, 19, 20, or how many records it has; an empty list
 --                             has none
@@ -29,11 +28,9 @@ use Rattle.lines.specs.Lines.{callLine, endWord, endLine, refusedLine}
 use Rattle.lines.specs.Buffers.{longest, brief, longestWith}
 use Rattle.list.specs.Records.{recordBytes, mostBytes, recordIn, codeOf}
 use Rattle.list.specs.Runs.{Bench, starting, Performed, performed}
+use Rattle.numbers.specs.Numbers.{lengthNumber}
 
 -- ---- the chain
-
-abbrev pub lengthNumber : ℕ
-lengthNumber = 18
 
 unfoldable pub badLength : ℕ → Bool
 badLength n = not (eqb (n % recordBytes) 0) || ltb mostBytes n

@@ -1,4 +1,6 @@
 // The parts of a record of 64 bytes.
+use handle::HandleBytes;
+use sizes::Password;
 ghost use mathlib.Core.Path.{_≡_};
 ghost use Prim.Native.Nat.{_+_, _*_};
 ghost use lib.ListN.{length};
@@ -52,82 +54,25 @@ pub fn pair(high: u8, low: u8) -> usize
     high as usize * BYTE + low as usize
 }
 
-// The sixteen bytes of a password.
-pub fn sixteen(part: &[u8]) -> [u8; 16]
-    requires { ⌜ length (now part) ≡ passwordBytes ⌝ }
-    ensures { λ r. ⌜ r ≡ now (part .entry) ⌝ }
-{
-    [
-        part[0],
-        part[1],
-        part[2],
-        part[3],
-        part[4],
-        part[5],
-        part[6],
-        part[7],
-        part[8],
-        part[9],
-        part[10],
-        part[11],
-        part[12],
-        part[13],
-        part[14],
-        part[15],
-    ]
-}
-
-// The 23 bytes of a handle.
-pub fn twenty_three(part: &[u8]) -> [u8; 23]
-    requires { ⌜ length (now part) ≡ handleBytes ⌝ }
-    ensures { λ r. ⌜ r ≡ now (part .entry) ⌝ }
-{
-    [
-        part[0],
-        part[1],
-        part[2],
-        part[3],
-        part[4],
-        part[5],
-        part[6],
-        part[7],
-        part[8],
-        part[9],
-        part[10],
-        part[11],
-        part[12],
-        part[13],
-        part[14],
-        part[15],
-        part[16],
-        part[17],
-        part[18],
-        part[19],
-        part[20],
-        part[21],
-        part[22],
-    ]
-}
-
 // The handle of a record.
-pub fn handle(record: &[u8]) -> [u8; 23]
+pub fn handle(record: &[u8]) -> HandleBytes
     requires { ⌜ length (now «record») ≡ records.recordBytes ⌝ }
-    ensures { λ r. ⌜ r ≡ records.part (now («record» .entry)) 8 handleBytes ⌝ }
+    ensures { λ r. ⌜ r ≡ records.field (now («record» .entry)) 8 handleBytes ⌝ }
 {
-    twenty_three(&record[HANDLE..HANDLE_END])
+    handle::bytes_in(&record[HANDLE..HANDLE_END])
 }
 
 // The first password of a record, and the second.
-pub fn first(record: &[u8]) -> [u8; 16]
+pub fn first(record: &[u8]) -> Password
     requires { ⌜ length (now «record») ≡ records.recordBytes ⌝ }
-    ensures { λ r. ⌜ r ≡ records.part (now («record» .entry)) 32 passwordBytes ⌝ }
+    ensures { λ r. ⌜ r ≡ records.field (now («record» .entry)) 32 passwordBytes ⌝ }
 {
-    sixteen(&record[FIRST..SECOND])
+    store::password_in(&record[FIRST..SECOND])
 }
 
-pub fn second(record: &[u8]) -> [u8; 16]
+pub fn second(record: &[u8]) -> Password
     requires { ⌜ length (now «record») ≡ records.recordBytes ⌝ }
-    ensures { λ r. ⌜ r ≡ records.part (now («record» .entry)) 48 passwordBytes ⌝ }
+    ensures { λ r. ⌜ r ≡ records.field (now («record» .entry)) 48 passwordBytes ⌝ }
 {
-    sixteen(&record[SECOND..RECORD])
+    store::password_in(&record[SECOND..RECORD])
 }

@@ -13,12 +13,22 @@ use crate::fields::handle;
 use crate::fields::pair;
 use crate::fields::second;
 use crate::fields::wide;
-use front::Done;
-use front::FIELD;
-use front::NO_SUCH_PLACE;
-use front::UNSOUND;
-use front::unchanged;
+use calls::DELETE_CLUSTER;
+use calls::DELETE_SEGMENT;
+use calls::Left;
+use calls::NEW_CLUSTER;
+use calls::NEW_PASSWORD;
+use calls::NEW_SEGMENT;
+use calls::READ;
+use calls::REDUCE;
+use calls::WEAKEN;
+use calls::WRITE;
+use calls::unchanged;
 use handle::Handle;
+use handle::HandleBytes;
+use numbers::FIELD;
+use numbers::NO_SUCH_PLACE;
+use numbers::UNSOUND;
 use sizes::CLUSTERS;
 use sizes::NODES;
 use store::Store;
@@ -29,50 +39,29 @@ ghost use Prim.Native.Nat.{ℕ};
 ghost use lib.ListN.{length};
 ghost use Rattle.handle.specs.Handles.{firstOf};
 ghost use Rattle.calls.specs.Calls as calls;
-ghost use Rattle.front.specs.Entries.{copyOf, asked};
+ghost use Rattle.calls.specs.Answers.{copyOf};
 ghost use Rattle.list.specs.Records as records;
 ghost use Rattle.list.specs.Runs.{bench, ran, misfitRows, performedAs, performed};
 
-// The codes.
-const NEW_CLUSTER: u8 = 1;
-
-const DELETE_CLUSTER: u8 = 2;
-
-const NEW_SEGMENT: u8 = 3;
-
-const DELETE_SEGMENT: u8 = 4;
-
-pub const READ: u8 = 5;
-
-const WRITE: u8 = 6;
-
-const WEAKEN: u8 = 7;
-
-const REDUCE: u8 = 8;
-
-const NEW_PASSWORD: u8 = 9;
-
 // The number of a write whose data length is above 32: 1, 2, or else 3.
-fn misfit(store: Store, memory: &[u8], bytes: [u8; 23]) -> u8
-    ensures { λ r. ⌜ r ≡ firstOf (misfitRows (calls.call calls.Kind.write (asked 0 0 0 0 0 0 bytes [] [] [])) (copyOf store (now (memory .entry)))) ⌝ }
+fn misfit(store: Store, memory: &[u8], bytes: HandleBytes) -> u8
+    ensures { λ r. ⌜ r ≡ firstOf (misfitRows (calls.writing 0 bytes []) (copyOf store (now (memory .entry)))) ⌝ }
 {
     let named = Handle::decode(bytes);
     if !store::sound(store, memory.len()) {
         return UNSOUND;
     }
-    let node = named.node as usize;
-    if NODES <= node {
+    if NODES <= named.node() {
         return NO_SUCH_PLACE;
     }
-    let local = named.local as usize;
-    if CLUSTERS <= local {
+    if CLUSTERS <= named.local as usize {
         return NO_SUCH_PLACE;
     }
     FIELD
 }
 
 // Calls 1 to 4; any other code is 3, and nothing else is looked at.
-fn perform_own(store: Store, memory: &mut [u8], record: &[u8]) -> Done
+fn perform_own(store: Store, memory: &mut [u8], record: &[u8]) -> Left
     requires { ⌜ length (now «record») ≡ records.recordBytes ⌝ }
     ensures { λ r. ⌜ ((b : List ℕ)
         → ran r (now (memory .exit)) b ≡ performedAs (records.kindAmong records.ownCalls (records.codeOf (now («record» .entry)))) (now («record» .entry)) (bench store (now (memory .entry)) b)) ⌝ }
@@ -120,7 +109,7 @@ fn perform_own(store: Store, memory: &mut [u8], record: &[u8]) -> Done
 }
 
 // A write: its data stands in the record.
-fn perform_write(store: Store, memory: &mut [u8], record: &[u8]) -> Done
+fn perform_write(store: Store, memory: &mut [u8], record: &[u8]) -> Left
     requires { ⌜ length (now «record») ≡ records.recordBytes ⌝ }
     ensures { λ r. ⌜ ((b : List ℕ)
         → ran r (now (memory .exit)) b ≡ performedAs (some calls.Kind.write) (now («record» .entry)) (bench store (now (memory .entry)) b)) ⌝ }
@@ -138,11 +127,11 @@ fn perform_write(store: Store, memory: &mut [u8], record: &[u8]) -> Done
         bytes,
         &record[FIRST..FIRST + size],
     );
-    Done { store, answer }
+    Left { store, answer }
 }
 
 // The call of a record: calls 5 to 9 here, the others above.
-pub fn perform(store: Store, memory: &mut [u8], buffer: &mut [u8], record: &[u8]) -> Done
+pub fn perform(store: Store, memory: &mut [u8], buffer: &mut [u8], record: &[u8]) -> Left
     requires { ⌜ length (now «record») ≡ records.recordBytes ⌝ }
     ensures { λ r. ⌜ ran r (now (memory .exit)) (now (buffer .exit)) ≡ performed (now («record» .entry)) (bench store (now (memory .entry)) (now (buffer .entry))) ⌝ }
 {
@@ -150,7 +139,7 @@ pub fn perform(store: Store, memory: &mut [u8], buffer: &mut [u8], record: &[u8]
     if code == READ {
         let bytes = handle(record);
         let answer = guard::read(store, memory, buffer, wide(record[ENTRY]), bytes);
-        return Done { store, answer };
+        return Left { store, answer };
     }
     if code == WRITE {
         return perform_write(store, memory, record);
@@ -158,17 +147,17 @@ pub fn perform(store: Store, memory: &mut [u8], buffer: &mut [u8], record: &[u8]
     if code == WEAKEN {
         let bytes = handle(record);
         let answer = guard::weaken(bytes, record[ENTRY]);
-        return Done { store, answer };
+        return Left { store, answer };
     }
     if code == REDUCE {
         let bytes = handle(record);
-        let answer = guard::reduce(store, memory, record[MODE], bytes);
-        return Done { store, answer };
+        let answer = guard::reduce(store, memory, wide(record[MODE]), bytes);
+        return Left { store, answer };
     }
     if code == NEW_PASSWORD {
         let bytes = handle(record);
         let password = first(record);
-        return guard::new_password(store, memory, record[MODE], bytes, password);
+        return guard::new_password(store, memory, wide(record[MODE]), bytes, password);
     }
     perform_own(store, memory, record)
 }

@@ -2,11 +2,12 @@
 use crate::fields::CODE;
 use crate::fields::RECORD;
 use crate::fields::wide;
-use crate::perform::READ;
 use crate::perform::perform;
+use calls::READ;
 use chain::Walked;
 use lines::BRIEF;
 use lines::LONGEST;
+use numbers::LIST_LENGTH;
 use sizes::MEMORY;
 use store::Store;
 ghost use mathlib.Core.Path.{_≡_};
@@ -18,9 +19,6 @@ ghost use Rattle.list.specs.Records as records;
 ghost use Rattle.list.specs.Runs as runs;
 ghost use Rattle.list.specs.Texts as texts;
 ghost use Rattle.list.specs.Loops as loops;
-
-// The number of a list whose length is not a list's.
-pub const LIST_LENGTH: u8 = 18;
 
 // The most bytes that a list has.
 pub const MOST_BYTES: usize = 16320;

@@ -8,7 +8,7 @@ use Rattle.sizes.specs.Sizes.{segments}
 use Rattle.handle.specs.declared.Handle.{Handle}
 use Rattle.handle.specs.declared.Weakened.{Weakened}
 use Rattle.handle.specs.Handles.{decoded, encoded, validates, weakening}
-use Rattle.handle.specs.Conversion.{conversion}
+use Rattle.handle.specs.Conversion.{conversion, product}
 
 module _ (b : List ℕ) (h : Handle) (e : h ≡ decoded b) where
   pub validated : (p : List ℕ) (r : Bool) → r ≡ validates segments conversion p h

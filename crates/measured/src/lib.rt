@@ -12,7 +12,7 @@ ghost use Rattle.sizes.specs.Sizes.{records, segments};
 ghost use Rattle.store.specs.Sound as sound-spec;
 ghost use Rattle.measured.specs.Stores.{placeFrom, segmentFrom, storeFrom};
 ghost use Rattle.handle.specs.Handles.{decoded, encoded, validates, weakening};
-ghost use Rattle.handle.specs.Conversion.{conversion};
+ghost use Rattle.handle.specs.Conversion.{conversion, product};
 
 // A block encrypted under a key.
 #[no_mangle]

@@ -1,10 +1,10 @@
 -- The parts of a record as the code reads and replaces them: by the bounds, by the place, by the mode.
 -- Assumes nothing.
-use mathlib.Core.Path.{_≡_, sym, ap, _∙_}
+use mathlib.Core.Path.{_≡_, refl, sym, ap, _∙_}
 use mathlib.Core.Bool.{Bool, true, false}
-use mathlib.Core.List.{List, map}
-use Prim.Native.Nat.{ℕ, _+_, _*_, _≤_, _<_}
-use lib.ListN.{length, length-map, List·getD-eq-default}
+use mathlib.Core.List.{List, [], _∷_, map}
+use Prim.Native.Nat.{ℕ, zero, suc, _+_, _*_, _≤_, _<_}
+use lib.ListN.{length, getD, set, length-map, List·getD-eq-default}
 use lib.Seq.{set-out}
 use borrow.Author.Tests.{le-leb, lt-leb, eq-eqb, ne-eqb}
 use Rattle.sizes.specs.Sizes.{nodes, clusters, segments}
@@ -13,7 +13,8 @@ use Rattle.store.specs.declared.Place.the-variants.{Absent}
 use Rattle.store.specs.declared.Segment.{Segment}
 use Rattle.store.specs.declared.Cluster.{Cluster}
 use Rattle.store.specs.Records.{absentSegment, tableOf, placeOf, withPlace, recordAt, readMode, primaryOf}
-use Rattle.store.specs.Records.{withPassword}
+use Rattle.store.specs.declared.Store.{Store}
+use Rattle.store.specs.Records.{noCluster, clusterAt, putRecord, withPassword}
 
 -- ---- the number of a record
 
@@ -73,3 +74,13 @@ module _ (c : Cluster) (mode : ℕ) where
         → record { active = c .active; read = c .read; write = p; segments = c .segments } ≡ withPassword c mode p
     unfolding replacing
     replaced-write e = sym (ap replacing (ne-eqb mode readMode e))
+
+-- ---- a record put back as it was
+
+set-itself : {A : Type 0} (l : List A) (n : ℕ) (d : A) → set l n (getD l n d) ≡ l
+set-itself [] n d = refl
+set-itself (x ∷ l) zero d = refl
+set-itself (x ∷ l) (suc n) d = λ j. x ∷ set-itself l n d j
+
+pub put-itself : (s : Store) (n : ℕ) → putRecord s n (clusterAt s n) ≡ s
+put-itself s n = ap (λ (l : List Cluster). record { clusters = l }) (set-itself (s .clusters) n noCluster)

@@ -21,6 +21,7 @@ use Rattle.store.specs.declared.Found.the-variants.{At, Nowhere}
 use Rattle.sizes.specs.Sizes.{nodes, clusters, segments, nodeMemory}
 use Rattle.store.specs.Records.{Tables, placeOn}
 use Rattle.store.specs.Sound.{inside, apart}
+use Rattle.numbers.specs.Numbers.{noRoomNumber}
 
 unfoldable pub clear : Tables → ℕ → Place → Bool
 clear ts node p = every clusters (λ l. every segments (λ i. apart p (placeOn ts node l i)))
@@ -34,9 +35,6 @@ newBase ts node size = least nodeMemory (fits ts node size)
 pub record Answer : Type 0 where
   pub number : ℕ
   pub base : ℕ
-
-abbrev pub noRoomNumber : ℕ
-noRoomNumber = 16
 
 abbrev pub roomAt : ℕ → Answer
 roomAt b = record { number = 0; base = b }

@@ -12,4 +12,4 @@ returns-2 : tie.Need-returns-2
 returns-2 c = search (needs, code-references)
 
 pub references-spec : {M : Type 1} → statement M
-references-spec = tie.close (tie.spec returns (λ c κs. search needs) (λ c. search needs) returns-2)
+references-spec = tie.close (tie.spec returns (λ c κs. search needs) (λ c. search needs) (λ c. search needs) returns-2)

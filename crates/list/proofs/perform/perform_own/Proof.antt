@@ -6,7 +6,7 @@ use borrow.Author.Needs.{needs}
 use Rattle.list.proofs.perform.perform_own.Statement.{statement}
 use Rattle.list.proofs.perform.perform_own.Tie as tie
 use Rattle.list.proofs.perform.perform_own.Reads as reads
-use Rattle.front.proofs.unchanged.Reads as unchanged-reads
+use Rattle.calls.proofs.unchanged.Reads as unchanged-reads
 use Rattle.guard.proofs.delete_cluster.Reads as delete-cluster-reads
 use Rattle.guard.proofs.delete_segment.Reads as delete-segment-reads
 use Rattle.guard.proofs.new_cluster.Reads as new-cluster-reads

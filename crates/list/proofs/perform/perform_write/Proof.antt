@@ -5,7 +5,7 @@ use borrow.Author.Needs.{needs}
 use Rattle.list.proofs.perform.perform_write.Statement.{statement}
 use Rattle.list.proofs.perform.perform_write.Tie as tie
 use Rattle.list.proofs.perform.perform_write.Reads as reads
-use Rattle.front.proofs.unchanged.Reads as unchanged-reads
+use Rattle.calls.proofs.unchanged.Reads as unchanged-reads
 use Rattle.guard.proofs.write.Reads as write-reads
 use Rattle.list.proofs.fields.handle.Reads as handle-reads
 use Rattle.list.proofs.fields.wide.Reads as wide-reads

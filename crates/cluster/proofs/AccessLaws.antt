@@ -1,0 +1,148 @@
+-- A read or a write: the rows of all calls that open a cluster, then 11, 14 and 15. A call that no row turns down moves a
+-- part that lies inside the slice, since the store is sound.
+-- Assumes nothing.
+use mathlib.Core.Path.{_≡_, refl, sym, ap, _∙_}
+use mathlib.Core.Bool.{Bool, true, false, not, cond}
+use mathlib.Core.List.{List}
+use Prim.Native.Nat.{ℕ, _+_, _*_, _-_, _≤_, _<_}
+use native.Mathlib.Omega.{arith}
+use lib.Dec.{leb, ltb}
+use lib.ListN.{length}
+use borrow.Author.Tests.{not-false, leb-false, ltb-true, ltb-false, lt-ltb, le-ltb}
+use Rattle.sizes.specs.Sizes.{nodes, clusters, segments, records, nodeMemory, memory}
+use Rattle.handle.specs.declared.Handle.{Handle}
+use Rattle.handle.specs.Selectors.{references}
+use Rattle.handle.specs.Handles.{nodeOf, firstOf}
+use Rattle.store.specs.declared.Place.{Place}
+use Rattle.store.specs.declared.Place.the-variants.{Absent, Present}
+use Rattle.store.specs.declared.Cluster.{Cluster}
+use Rattle.store.specs.declared.Store.{Store}
+use Rattle.store.specs.Records.{tableOf, tableAt, placeOf, baseOf, lengthOf, address}
+use Rattle.store.specs.Sound.{isAbsent, inside, soundSegment}
+use Rattle.store.proofs.PlaceLaws.{inside-out}
+use Rattle.store.proofs.SoundLaws.{Sound, sound-out}
+use Rattle.calls.specs.Calls.{recordNamed}
+use Rattle.calls.proofs.CallLaws.{or-left, or-right}
+use Rattle.refusals.specs.Rows.{sharedRows, after}
+use Rattle.refusals.specs.Given.{recordFound}
+use Rattle.refusals.proofs.AfterLaws.{after-told, after-zero}
+use Rattle.refusals.proofs.GivenLaws.{judged, shown, found, Passed, found-is, shared-passed, shared-field}
+use Rattle.cluster.specs.Access.{accessRows, accessed, Reaches}
+
+-- ---- the rows of the code, return by return
+
+module _ (sd : Bool) (h : Handle) (c : Cluster) (p : Place) (i room mode n : ℕ)
+    (en : n ≡ firstOf (sharedRows sd h c false (leb segments i) false mode)) where
+  pub access-shared : (n ≡ 0 → ⊥) → n ≡ accessed sd h c p i room mode
+  unfolding accessed
+  access-shared t =
+      sym (after-told n (firstOf (accessRows h p i room)) t) ∙ ap (λ (k : ℕ). after k (firstOf (accessRows h p i room))) en
+
+  module _ (z : n ≡ 0) (r : Bool) (er : r ≡ references (h .selector) i) where
+    rest : (t : Bool) → not r ≡ t
+        → accessed sd h c p i room mode ≡ cond t 11 (cond (isAbsent p) 14 (cond (ltb room (lengthOf p)) 15 0))
+    unfolding accessed
+    rest t e =
+        ap (λ (k : ℕ). after k (firstOf (accessRows h p i room))) (sym en ∙ z)
+        ∙ ap (λ (b : Bool). cond b 11 (cond (isAbsent p) 14 (cond (ltb room (lengthOf p)) 15 0))) (ap not (sym er) ∙ e)
+
+    pub access-not-referenced : not r ≡ true → 11 ≡ accessed sd h c p i room mode
+    access-not-referenced t = sym (rest true t)
+
+    module _ (t : not r ≡ false) where
+      last : (q : Place) → p ≡ q → accessed sd h c p i room mode ≡ cond (isAbsent q) 14 (cond (ltb room (lengthOf q)) 15 0)
+      last q e = rest false t ∙ ap (λ (q : Place). cond (isAbsent q) 14 (cond (ltb room (lengthOf q)) 15 0)) e
+
+      pub access-absent : p ≡ Absent → 14 ≡ accessed sd h c p i room mode
+      access-absent e = sym (last Absent e)
+
+      module _ (base size : ℕ) (e : p ≡ Present base size) where
+        pub access-short : room < size → 15 ≡ accessed sd h c p i room mode
+        access-short l = sym (last (Present base size) e ∙ ap (λ (b : Bool). cond b 15 0) (lt-ltb room size l))
+
+        pub access-none : size ≤ room → 0 ≡ accessed sd h c p i room mode
+        access-none l = sym (last (Present base size) e ∙ ap (λ (b : Bool). cond b 15 0) (le-ltb room size l))
+
+-- ---- whether the slice is too short
+
+module _ (all from size : ℕ) where
+  pub lacks-all : all < size → true ≡ ltb all (from + size)
+  lacks-all t = sym (lt-ltb all (from + size) (omega arith))
+
+  pub lacks-some : size ≤ all → ltb (all - size) from ≡ ltb all (from + size)
+  lacks-some t = go (ltb (all - size) from) refl
+    where
+      go : (u : Bool) → ltb (all - size) from ≡ u → ltb (all - size) from ≡ ltb all (from + size)
+      go true e = e ∙ sym (lt-ltb all (from + size) (let k = ltb-true (all - size) from e in omega arith))
+      go false e = e ∙ sym (le-ltb all (from + size) (let k = ltb-false (all - size) from e in omega arith))
+
+-- ---- no row applies
+
+own-enough : (a c d : Bool) → _≡_ {A = ℕ} (cond a 11 (cond c 14 (cond d 15 0))) 0 → d ≡ false
+own-enough a c false e = refl
+own-enough true c true e = absurd (omega arith)
+own-enough false true true e = absurd (omega arith)
+own-enough false false true e = absurd (omega arith)
+
+place-ends : (p : Place) → inside p ≡ true → baseOf p + lengthOf p ≤ nodeMemory
+place-ends Absent e = omega arith
+place-ends (Present base length) e = inside-out base length e .ends
+
+module _ (sd : Bool) (h : Handle) (c : Cluster) (p : Place) (i room mode n : ℕ)
+    (en : n ≡ accessed sd h c p i room mode) (z : n ≡ 0) where
+  both : (firstOf (sharedRows sd h c false (leb segments i) false mode) ≡ 0) × (firstOf (accessRows h p i room) ≡ 0)
+  unfolding accessed
+  both = after-zero _ _ (sym en ∙ z)
+
+  -- the bounds that copying asks for: of the buffer by row 15, of the memory as it was tested
+  pub access-reaches : (from size all : ℕ) → size ≡ lengthOf p → (v : Bool) → v ≡ ltb all (from + size) → v ≡ false
+      → Reaches from size all room
+  access-reaches from size all el v ev t =
+      let l : lengthOf p ≤ room =
+      ltb-false room (lengthOf p) (own-enough (not (references (h .selector) i)) (isAbsent p) (ltb room (lengthOf p)) (both .1)) in
+      record { ends = ltb-false all (from + size) (sym ev ∙ t); enough = omega arith }
+
+-- on what a store holds, that test never fails
+module _ (s : Store) (m b : List ℕ) (i room mode n : ℕ) where
+  abbrev k : Handle
+  k = shown s m b
+
+  abbrev e : Cluster
+  e = found s m b
+
+  module _ (en : n ≡ accessed (judged s m b) k e (placeOf (tableOf e) i) i room mode) (z : n ≡ 0) where
+    opened : firstOf (sharedRows (judged s m b) k e false (leb segments i) false mode) ≡ 0
+    opened = both (judged s m b) k e (placeOf (tableOf e) i) i room mode n en z .0
+
+    passed : Passed (judged s m b) k
+    passed = shared-passed (judged s m b) k e false (leb segments i) false mode opened
+
+    pub access-there : recordFound k ≡ recordNamed k
+    access-there = found-is s m b (passed .place)
+
+    settled : Sound s (length m)
+    settled = sound-out s (length m) (not-false (judged s m b) (passed .sound))
+
+    node-low : nodeOf k < nodes
+    node-low = leb-false nodes (nodeOf k) (or-left (leb nodes (nodeOf k)) (leb clusters (k .local)) (passed .place))
+
+    local-low : k .local < clusters
+    local-low = leb-false clusters (k .local) (or-right (leb nodes (nodeOf k)) (leb clusters (k .local)) (passed .place))
+
+    ends : baseOf (placeOf (tableOf e) i) + lengthOf (placeOf (tableOf e) i) ≤ nodeMemory
+    unfolding soundSegment
+    ends =
+        place-ends (placeOf (tableOf e) i)
+        (ap (λ (j : ℕ). inside (placeOf (tableAt s j) i)) access-there
+        ∙ settled .ranged (recordNamed k) i (low (nodeOf k) (k .local) node-low local-low)
+        (leb-false segments i (shared-field (judged s m b) k e false (leb segments i) false mode opened)))
+      where
+        low : (node local : ℕ) → node < nodes → local < clusters → node * clusters + local < records
+        low node local a b = omega arith
+
+    pub access-inside : address (nodeOf k) (baseOf (placeOf (tableOf e) i)) + lengthOf (placeOf (tableOf e) i) ≤ length m
+    access-inside =
+        let w : length m ≡ memory = settled .whole in
+        let v : nodeOf k < nodes = node-low in
+        let q : baseOf (placeOf (tableOf e) i) + lengthOf (placeOf (tableOf e) i) ≤ nodeMemory = ends in
+        omega arith

@@ -1,0 +1,11 @@
+pub mod NumberLaws
+pub mod CoreLaws
+pub mod OpenLaws
+pub mod ChangeLaws
+pub mod PasswordLaws
+pub mod CreateLaws
+pub mod ClearLaws
+pub mod MakeLaws
+pub mod CopyLaws
+pub mod AccessLaws
+pub mod BytesLaws

@@ -1,0 +1,120 @@
+-- The number of a call as that of its own rows on what a core is given: at a concrete kind the rows of other calls compute
+-- away, and the record may be the one found (`either-record`).
+-- Assumes nothing.
+use mathlib.Core.Path.{_≡_, _∙_}
+use mathlib.Core.Bool.{Bool, false, not, or-false}
+use mathlib.Core.List.{List, [], _∷_, _++_}
+use Prim.Native.Nat.{ℕ}
+use lib.Dec.{leb, eqb}
+use lib.ListN.{length}
+use Rattle.sizes.specs.Sizes.{nodes, segments}
+use Rattle.numbers.specs.Numbers.{noRoomNumber}
+use Rattle.handle.specs.declared.Handle.{Handle}
+use Rattle.handle.specs.Selectors.{allFlat}
+use Rattle.handle.specs.Handles.{nodeOf, widthOf, Row, firstOf}
+use Rattle.handle.specs.Conversion.{product}
+use Rattle.store.specs.declared.Cluster.{Cluster}
+use Rattle.store.specs.declared.Store.{Store}
+use Rattle.store.specs.Records.{tableOf, tableAt, placeOf, readMode, writeMode}
+use Rattle.store.specs.Sound.{isAbsent}
+use Rattle.store.specs.Placement.{placement}
+use Rattle.calls.specs.Calls.{deletingCluster, makingSegment, deletingSegment, reading, writing, reducing, renewing}
+use Rattle.calls.specs.Numbers.{isOld, number, tests}
+use Rattle.refusals.specs.Rows.{badModes, row, openRows, sharedRows, ownerRows}
+use Rattle.refusals.proofs.GivenLaws.{judged, shown, found, named, either-record}
+use Rattle.cluster.specs.Access.{accessRows}
+use Rattle.cluster.specs.Makes.{badFields, makeRows}
+
+module _ (s : Store) (m b : List ℕ) where
+  abbrev sd : Bool
+  sd = judged s m b
+
+  abbrev h : Handle
+  h = shown s m b
+
+  abbrev c : Cluster
+  c = found s m b
+
+  abbrev d : Cluster
+  d = named s m b
+
+  -- the rows from the third on of the calls that open a cluster, and of calls 2, 3 and 4
+  abbrev opened : Bool → ℕ → (Cluster → List Row) → Cluster → ℕ
+  opened field mode own e = firstOf (openRows h e field false mode ++ own e)
+
+  abbrev owned : ℕ → Bool → (Cluster → List Row) → Cluster → ℕ
+  owned current field own e =
+      firstOf
+      ((openRows h e field (not (eqb current (nodeOf h))) writeMode ++ (row 10 (not (allFlat (widthOf h) (h .selector))) ∷ []))
+      ++ own e)
+
+  -- ---- calls 2, 3 and 4
+
+  abbrev absentRow : ℕ → Cluster → List Row
+  absentRow segment e = row 14 (isAbsent (placeOf (tableOf e) segment)) ∷ []
+
+  abbrev presentRow : ℕ → Cluster → List Row
+  presentRow segment e = row 13 (not (isAbsent (placeOf (tableOf e) segment))) ∷ []
+
+  on-delete-cluster : (current : ℕ) → number product (deletingCluster current b) s (length m) ≡ firstOf (ownerRows sd h d current false)
+  unfolding number tests ownerRows
+  on-delete-cluster current = simp or-false
+
+  pub number-delete-cluster : (current : ℕ) → number product (deletingCluster current b) s (length m) ≡ firstOf (ownerRows sd h c current false)
+  unfolding ownerRows
+  number-delete-cluster current = on-delete-cluster current ∙ either-record s m b (not sd) (leb nodes current) (owned current false (λ e. []))
+
+  on-delete-segment : (current segment : ℕ) → number product (deletingSegment current segment b) s (length m) ≡ firstOf (ownerRows sd h d current (leb segments segment) ++ absentRow segment d)
+  unfolding number tests ownerRows
+  on-delete-segment current segment = simp or-false
+
+  pub number-delete-segment : (current segment : ℕ) → number product (deletingSegment current segment b) s (length m) ≡ firstOf (ownerRows sd h c current (leb segments segment) ++ absentRow segment c)
+  unfolding ownerRows
+  number-delete-segment current segment = on-delete-segment current segment ∙ either-record s m b (not sd) (leb nodes current) (owned current (leb segments segment) (absentRow segment))
+
+  abbrev roomRow : ℕ → List Row
+  roomRow size = row 16 (eqb (placement (tableAt s) (nodeOf h) size .number) noRoomNumber) ∷ []
+
+  on-new-segment : (current segment size : ℕ) → number product (makingSegment current segment size b) s (length m) ≡ firstOf (makeRows sd h d current segment size ++ roomRow size)
+  unfolding number tests ownerRows
+  on-new-segment current segment size = simp or-false
+
+  pub number-new-segment : (current segment size : ℕ) → number product (makingSegment current segment size b) s (length m) ≡ firstOf (makeRows sd h c current segment size ++ roomRow size)
+  unfolding ownerRows
+  number-new-segment current segment size = on-new-segment current segment size ∙ either-record s m b (not sd) (leb nodes current) (owned current (badFields segment size) (λ e. presentRow segment e ++ roomRow size))
+
+  -- ---- the others
+
+  on-reduce : (mode : ℕ) → number product (reducing mode b) s (length m) ≡ firstOf (sharedRows sd h d false (badModes mode) false mode)
+  unfolding number tests
+  on-reduce mode = simp or-false
+
+  pub number-reduce : (mode : ℕ) → number product (reducing mode b) s (length m) ≡ firstOf (sharedRows sd h c false (badModes mode) false mode)
+  number-reduce mode = on-reduce mode ∙ either-record s m b (not sd) (false) (opened (badModes mode) mode (λ e. []))
+
+  abbrev newRows : List ℕ → Cluster → List Row
+  newRows p e = row 10 (not (allFlat (widthOf h) (h .selector))) ∷ row 12 (isOld p e) ∷ []
+
+  on-new-password : (mode : ℕ) (p : List ℕ) → number product (renewing mode b p) s (length m) ≡ firstOf (sharedRows sd h d false (badModes mode) false mode ++ newRows p d)
+  unfolding number tests
+  on-new-password mode p = simp or-false
+
+  pub number-new-password : (mode : ℕ) (p : List ℕ) → number product (renewing mode b p) s (length m) ≡ firstOf (sharedRows sd h c false (badModes mode) false mode ++ newRows p c)
+  number-new-password mode p = on-new-password mode p ∙ either-record s m b (not sd) (false) (opened (badModes mode) mode (newRows p))
+
+  abbrev moved : ℕ → List ℕ → Cluster → List Row
+  moved i bytes e = accessRows h (placeOf (tableOf e) i) i (length bytes)
+
+  on-read : (i : ℕ) (buffer : List ℕ) → number product (reading i b buffer) s (length m) ≡ firstOf (sharedRows sd h d false (leb segments i) false readMode ++ moved i buffer d)
+  unfolding number tests
+  on-read i buffer = simp or-false
+
+  pub number-read : (i : ℕ) (buffer : List ℕ) → number product (reading i b buffer) s (length m) ≡ firstOf (sharedRows sd h c false (leb segments i) false readMode ++ moved i buffer c)
+  number-read i buffer = on-read i buffer ∙ either-record s m b (not sd) (false) (opened (leb segments i) readMode (moved i buffer))
+
+  on-write : (i : ℕ) (written : List ℕ) → number product (writing i b written) s (length m) ≡ firstOf (sharedRows sd h d false (leb segments i) false writeMode ++ moved i written d)
+  unfolding number tests
+  on-write i written = simp or-false
+
+  pub number-write : (i : ℕ) (written : List ℕ) → number product (writing i b written) s (length m) ≡ firstOf (sharedRows sd h c false (leb segments i) false writeMode ++ moved i written c)
+  number-write i written = on-write i written ∙ either-record s m b (not sd) (false) (opened (leb segments i) writeMode (moved i written))

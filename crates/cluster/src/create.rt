@@ -1,0 +1,79 @@
+// Call 1, which makes a cluster, and call 7, which never looks at the store.
+use calls::Answer;
+use calls::RecordLeft;
+use calls::record_alone;
+use calls::two_handles;
+use handle::HANDLE_BYTES;
+use handle::Handle;
+use handle::HandleBytes;
+use numbers::IN_USE;
+use numbers::NO_SUCH_PLACE;
+use numbers::TWINS;
+use numbers::UNSOUND;
+use sizes::CLUSTERS;
+use sizes::NODES;
+use sizes::Password;
+use store::Cluster;
+ghost use mathlib.Core.Path.{_≡_};
+ghost use mathlib.Core.List.{List, []};
+ghost use Prim.Native.Nat.{ℕ};
+ghost use Rattle.store.specs.declared.Store as declared;
+ghost use Rattle.store.specs.Records.{putRecord, recordAt};
+ghost use Rattle.calls.specs.Calls as calls;
+ghost use Rattle.calls.specs.Steps.{aesStep};
+ghost use Rattle.calls.specs.Answers.{copyOf, ended};
+ghost use Rattle.refusals.specs.Given.{GivenPlace};
+
+// Call 1: a cluster of the current node becomes active with two passwords; its read and its write primary handle. The
+// record is that of the place, or the first where there is no such place.
+pub fn new_cluster(
+    sound: bool,
+    cluster: Cluster,
+    current: usize,
+    local: usize,
+    read: Password,
+    write: Password,
+) -> RecordLeft
+    ensures { λ r. ⌜ ((s : declared.Store) (m : List ℕ) → GivenPlace sound cluster s m current local
+        → ended (putRecord s (recordAt current local) (r .cluster)) m (r .answer) []
+        ≡ aesStep (calls.makingCluster current local read write) (copyOf s m)) ⌝ }
+{
+    if !sound {
+        return record_alone(cluster, UNSOUND);
+    }
+    if NODES <= current {
+        return record_alone(cluster, NO_SUCH_PLACE);
+    }
+    if CLUSTERS <= local {
+        return record_alone(cluster, NO_SUCH_PLACE);
+    }
+    let active = cluster.active;
+    if active {
+        return record_alone(cluster, IN_USE);
+    }
+    if handle::same(read, write) {
+        return record_alone(cluster, TWINS);
+    }
+    let first = handle::primary_bytes(current as u16, local as u8, read);
+    let second = handle::primary_bytes(current as u16, local as u8, write);
+    RecordLeft {
+        cluster: store::started(read, write),
+        answer: two_handles(first, second),
+    }
+}
+
+// Call 7: the handle weakened by a mask, and how many segments it references; the same on every store and memory.
+pub fn weaken(bytes: HandleBytes, mask: u8) -> Answer
+    ensures { λ r. ⌜ ((s : declared.Store) (m : List ℕ)
+        → ended s m r [] ≡ aesStep (calls.weakeningBy mask bytes) (copyOf s m)) ⌝ }
+{
+    let reply = Handle::decode(bytes).weaken(mask);
+    let weaker = reply.handle;
+    Answer {
+        number: reply.number,
+        first: weaker.encode(),
+        second: [0; HANDLE_BYTES],
+        count: reply.count,
+        length: 0,
+    }
+}

@@ -1,0 +1,40 @@
+-- Document 01, "Numbers a call may be turned down with": the numbers that definitions below or above the table of the
+-- calls name by their words. The table itself is in `calls/specs/Numbers`, with the numbers written out.
+--     unsoundNumber    unsound
+--     placeNumber      no such place
+--     fieldNumber      field
+--     gappedNumber     gapped
+--     noRoomNumber     no room
+--     spentNumber      spent
+--     lengthNumber     list length
+--     linkNumber       link
+--     loopNumber       loop
+-- Assumes nothing.
+use Prim.Native.Nat.{ℕ}
+
+abbrev pub unsoundNumber : ℕ
+unsoundNumber = 1
+
+abbrev pub placeNumber : ℕ
+placeNumber = 2
+
+abbrev pub fieldNumber : ℕ
+fieldNumber = 3
+
+abbrev pub gappedNumber : ℕ
+gappedNumber = 4
+
+abbrev pub noRoomNumber : ℕ
+noRoomNumber = 16
+
+abbrev pub spentNumber : ℕ
+spentNumber = 17
+
+abbrev pub lengthNumber : ℕ
+lengthNumber = 18
+
+abbrev pub linkNumber : ℕ
+linkNumber = 19
+
+abbrev pub loopNumber : ℕ
+loopNumber = 20

@@ -1,0 +1,4 @@
+pub mod AfterLaws
+pub mod RowLaws
+pub mod OwnerLaws
+pub mod GivenLaws

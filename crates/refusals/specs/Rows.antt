@@ -1,0 +1,50 @@
+-- The rows of the table that the calls which open a cluster share, from what their tests look at. Inner contracts cite
+-- these; that they are the rows of the table, at each call, is proved.
+--     badModes mode          the mode is neither of the two
+--     row n t                the row with the number n, whose test gave t
+--     openRows ..            rows 3, 4, 5, 8 and 9, from their tests: the handle; the record of its cluster; whether some
+--                            field, the current node is bad; the mode needed
+--     sharedRows ..          rows 1 and 2 before them: the store is sound; whether some other place is bad
+--     ownerRows ..           rows 1 to 5, 8, 9 and 10 of calls 2, 3 and 4, which name a current node and need the write
+--                            primary handle; whether some field is bad
+--     after n m              n, or m where n is 0
+-- Assumes nothing.
+use Prim.Native.Nat.{ℕ, zero, suc}
+use mathlib.Core.Bool.{Bool, not, _||_}
+use mathlib.Core.List.{List, [], _∷_, _++_}
+use lib.Dec.{leb, eqb}
+use Rattle.sizes.specs.Sizes.{nodes}
+use Rattle.handle.specs.declared.Handle.{Handle}
+use Rattle.handle.specs.Selectors.{allFlat, gapped}
+use Rattle.handle.specs.Handles.{nodeOf, nameOf, widthOf, noSuchPlace, Row, validates}
+use Rattle.handle.specs.Conversion.{product}
+use Rattle.store.specs.declared.Cluster.{Cluster}
+use Rattle.store.specs.Records.{readMode, writeMode, primaryOf}
+
+abbrev pub badModes : ℕ → Bool
+badModes mode = not (eqb mode readMode || eqb mode writeMode)
+
+abbrev pub row : ℕ → Bool → Row
+row n t = record { number = n; applies = t }
+
+abbrev pub openRows : Handle → Cluster → Bool → Bool → ℕ → List Row
+openRows h c field away mode =
+    row 3 field
+    ∷ row 4 (gapped (widthOf h) (h .selector))
+    ∷ row 5 away
+    ∷ row 8 (not (c .active))
+    ∷ row 9 (not (validates (widthOf h) (product (nameOf h)) (primaryOf c mode) h))
+    ∷ []
+
+abbrev pub sharedRows : Bool → Handle → Cluster → Bool → Bool → Bool → ℕ → List Row
+sharedRows sound h c far field away mode =
+    row 1 (not sound) ∷ row 2 (noSuchPlace h || far) ∷ openRows h c field away mode
+
+unfoldable pub ownerRows : Bool → Handle → Cluster → ℕ → Bool → List Row
+ownerRows sound h c current field =
+    sharedRows sound h c (leb nodes current) field (not (eqb current (nodeOf h))) writeMode
+    ++ (row 10 (not (allFlat (widthOf h) (h .selector))) ∷ [])
+
+abbrev pub after : ℕ → ℕ → ℕ
+after zero m = m
+after (suc n) m = suc n
