@@ -12,6 +12,7 @@
 //! - [`list`]: records of 64 bytes, the chain, and the text that a list comes out as.
 //! - [`vectors`]: the published handles.
 //! - [`random`], [`generate`]: lists made by chance from a seed.
+//! - [`program`], [`streams`]: a program run, with its input and output in every way that they can come.
 
 pub mod aes;
 pub mod call;
@@ -20,8 +21,10 @@ pub mod handle;
 pub mod hexadecimal;
 pub mod list;
 pub mod model;
+pub mod program;
 pub mod random;
 pub mod sizes;
 pub mod store;
+pub mod streams;
 pub mod table;
 pub mod vectors;

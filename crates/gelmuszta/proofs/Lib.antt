@@ -1,4 +1,5 @@
 pub mod ReplyLaws
 pub mod ExportLaws
 pub mod ValidationLaws
+pub mod FitLaws
 pub mod RowLaws

@@ -14,11 +14,13 @@ use Rattle.isolation.proofs.TwoCopies.{two-copies}
 use Rattle.image.specs.Images.{good, storeIn, imageOf}
 use Rattle.image.specs.Ranges.{StoreFits}
 use Rattle.image.proofs.TripLaws.{good-image, store-image, image-store}
-use Rattle.image.proofs.RangeLaws.{store-held, step-fits}
+use Rattle.image.proofs.RangeLaws.{store-held}
 use Rattle.gelmuszta.specs.Exported.{Performed, damaged, imaged, performed}
-use Rattle.gelmuszta.specs.Rows.{AllFit, Rowed, row, followedBy, imagedRun, RowsAreRuns, f, held, TwoImages, refusedWith}
+use Rattle.gelmuszta.specs.Fits.{AllFit}
+use Rattle.gelmuszta.specs.Rows.{Rowed, row, followedBy, imagedRun, RowsAreRuns, f, held, TwoImages, refusedWith}
 use Rattle.gelmuszta.specs.Rows.{RefusalLeaves}
 use Rattle.gelmuszta.proofs.ExportLaws.{damagedBy, picked, step-leaves}
+use Rattle.gelmuszta.proofs.FitLaws.{step-fits}
 
 performed-good : (x : Call) (b m : List ℕ) → good b ≡ true → performed x b m ≡ imaged (aesStep x (copyOf (storeIn b) m))
 unfolding performed

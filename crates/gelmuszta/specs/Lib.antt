@@ -1,3 +1,4 @@
 pub mod Exported
 pub mod Validation
+pub mod Fits
 pub mod Rows

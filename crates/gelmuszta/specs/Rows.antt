@@ -1,5 +1,4 @@
 -- Rows of calls on an image, each on the image and the memory that the one before it left.
---     AllFit xs          each password that a call of the list takes in has sixteen bytes, as an exported function's has
 --     Rowed              the replies of a row, and the image and the memory at its end
 --     followedBy r n     the reply r, and then the row's
 --     row xs b m         the row of the calls xs from the image b and the memory m on
@@ -28,12 +27,8 @@ use Rattle.front.specs.Entries.{copyOf}
 use Rattle.isolation.specs.Copies.{SoundCopy, setApart, Alike, AllShut}
 use Rattle.isolation.specs.Statements.{Agreed}
 use Rattle.image.specs.Images.{imageBytes, good, storeIn, imageOf}
-use Rattle.image.specs.Ranges.{PasswordsFit}
 use Rattle.gelmuszta.specs.Exported.{Performed, performed}
-
-abbrev pub AllFit : List Call → Type 0
-AllFit [] = Unit {0}
-AllFit (x ∷ xs) = PasswordsFit x × AllFit xs
+use Rattle.gelmuszta.specs.Fits.{AllFit}
 
 pub record Rowed : Type 0 where
   pub replies : List Reply

@@ -5,3 +5,8 @@ pub mod RecordLaws
 pub mod TripLaws
 pub mod RangeLaws
 pub mod LiteralLaws
+pub mod ClaimLaws
+pub mod IdleLaws
+pub mod ReadLaws
+pub mod JudgeLaws
+pub mod PutLaws

@@ -201,7 +201,7 @@ module _ (c : Cluster) (fit : ClusterFits c) where
       low true = refl
       low false = refl
 
-record-back : (q : List ℕ) → Bytes recordBytes q → goodRecord q ≡ true → recordOut (clusterIn q) ≡ q
+pub record-back : (q : List ℕ) → Bytes recordBytes q → goodRecord q ≡ true → recordOut (clusterIn q) ≡ q
 unfolding recordOut clusterIn goodRecord
 record-back [] h g = let e = h .long in absurd (omega arith)
 record-back (x ∷ q) h g =

@@ -13,6 +13,7 @@
 --     placeOut, segmentOut, placesOut              of a place, of the place of segment i, of eight
 --     activeOut, recordOut                         the active byte, and a record
 --     imageOf                                      the image of a store
+--     withRecord b n c                             the bytes b with record n replaced by that of the cluster c
 -- Assumes nothing.
 use Prim.Native.Nat.{ℕ, _+_, _*_}
 use mathlib.Core.Bool.{Bool, true, false, not, _&&_, _||_}
@@ -119,3 +120,6 @@ recordOut c = activeOut (c .active) ∷ (c .read ++ (c .write ++ placesOut (c .s
 
 unfoldable pub imageOf : Store → List ℕ
 imageOf s = joined records (λ n. recordOut (clusterAt s n))
+
+unfoldable pub withRecord : List ℕ → ℕ → Cluster → List ℕ
+withRecord b n c = joined records (λ k. elim (eqb k n) [ true ↦ recordOut c | false ↦ slot recordBytes b k ])

@@ -4,11 +4,9 @@
 --     WordsFit               a base and a length fit, and the length is not zero
 --     PlaceFits              an absent place, or one whose base and length fit
 --     ClusterFits, StoreFits    of a record, of a store
---     PasswordsFit x         the passwords that a call takes in have sixteen bytes
 -- Assumes nothing.
 use mathlib.Core.Path.{_≡_}
 use Prim.Native.Nat.{ℕ, _^_, _≤_, _<_}
-use mathlib.Core.Bool.{true}
 use lib.ListN.{length}
 use Rattle.sizes.specs.Sizes.{records, segments, passwordBytes}
 use Rattle.store.specs.declared.Place.{Place}
@@ -16,7 +14,6 @@ use Rattle.store.specs.declared.Place.the-variants.{Absent, Present}
 use Rattle.store.specs.declared.Cluster.{Cluster}
 use Rattle.store.specs.declared.Store.{Store}
 use Rattle.store.specs.Records.{clusterAt, tableOf, placeOf}
-use Rattle.calls.specs.Calls.{Call, uses}
 use Rattle.image.specs.Images.{wordBytes}
 
 abbrev pub words : ℕ
@@ -40,7 +37,3 @@ pub record ClusterFits (c : Cluster) : Type 0 where
 pub record StoreFits (s : Store) : Type 0 where
   pub whole : length (s .clusters) ≡ records
   pub each : (n : ℕ) → n < records → ClusterFits (clusterAt s n)
-
-pub record PasswordsFit (x : Call) : Type 0 where
-  pub first : uses (x .kind) .first ≡ true → length (x .args .first) ≡ passwordBytes
-  pub second : uses (x .kind) .second ≡ true → length (x .args .second) ≡ passwordBytes

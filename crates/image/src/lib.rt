@@ -1,11 +1,19 @@
 // The image of a store: its records as 2,080 bytes, for callers who keep the store themselves.
+use store::Cluster;
 use store::Store;
 ghost use mathlib.Core.Path.{_≡_};
 ghost use mathlib.Core.Bool.{true};
+ghost use Rattle.store.specs.Records.{putRecord};
 ghost use Rattle.image.specs.Images as images;
 
+mod placement; // placement.rt: the base of a new segment, on bytes
 mod reading; // reading.rt: from bytes
+mod soundness; // soundness.rt: the test of the store, on bytes
 mod writing; // writing.rt: to bytes
+
+pub use placement::new_base_in;
+pub use reading::record_in;
+pub use soundness::sound_in;
 
 // Bytes of the image, of a cluster's record, and of a segment's place, in that order.
 pub const IMAGE: usize = 2080;
@@ -45,4 +53,13 @@ pub fn encode(store: Store, image: &mut [u8; IMAGE])
     ensures { λ _. ⌜ now (image .exit) ≡ images.imageOf store ⌝ }
 {
     writing::put_store(store, image);
+}
+
+// Replaces one record; past the last there is none. The image of a store becomes that of the store with the record replaced.
+pub fn put_record_in(cluster: Cluster, at: usize, image: &mut [u8; IMAGE])
+    ensures bytes { λ _. ⌜ now (image .exit) ≡ images.withRecord (now (image .entry)) at cluster ⌝ }
+    ensures image { λ _. ⌜ (images.good (now (image .entry)) ≡ true
+        → now (image .exit) ≡ images.imageOf (putRecord (images.storeIn (now (image .entry))) at cluster)) ⌝ }
+{
+    writing::put_record_in(cluster, at, image);
 }

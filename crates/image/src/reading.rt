@@ -1,12 +1,12 @@
 // From bytes: whether they are those of places, records and a store, and which.
 use crate::BYTE;
 use crate::Decoded;
+use crate::IMAGE;
 use crate::PLACE;
 use crate::PLACES_AT;
 use crate::READ_AT;
 use crate::RECORD;
 use crate::WRITE_AT;
-use sizes::PASSWORD_BYTES;
 use sizes::RECORDS;
 use sizes::SEGMENTS;
 use store::Cluster;
@@ -19,11 +19,12 @@ ghost use mathlib.Core.List.{[], _∷_};
 ghost use Prim.Native.Nat.{_*_};
 ghost use lib.ListN.{length};
 ghost use Rattle.bits.specs.Bytes as words;
-ghost use Rattle.sizes.specs.Sizes.{segments, passwordBytes};
+ghost use Rattle.sizes.specs.Sizes.{segments};
+ghost use Rattle.store.specs.Records.{clusterAt, recordAt};
 ghost use Rattle.image.specs.Images as images;
 
 // The number that two bytes hold, high byte first.
-fn word(high: u8, low: u8) -> u16
+pub fn word(high: u8, low: u8) -> u16
     ensures { λ r. ⌜ r ≡ words.word (high ∷ low ∷ []) ⌝ }
 {
     high as u16 * BYTE + low as u16
@@ -40,7 +41,7 @@ fn good_place(b: &[u8]) -> bool
 }
 
 // The place that four bytes hold.
-fn place_in(b: &[u8]) -> Place
+pub fn place_in(b: &[u8]) -> Place
     requires { ⌜ length (now b) ≡ images.placeBytes ⌝ }
     ensures { λ r. ⌜ r ≡ images.placeIn (now (b .entry)) ⌝ }
 {
@@ -83,17 +84,6 @@ fn segments_in(b: &[u8]) -> [Segment; SEGMENTS]
     r
 }
 
-fn password_in(b: &[u8]) -> [u8; PASSWORD_BYTES]
-    requires { ⌜ length (now b) ≡ passwordBytes ⌝ }
-    ensures { λ r. ⌜ r ≡ now (b .entry) ⌝ }
-{
-    let mut r = [0u8; PASSWORD_BYTES];
-    for i in 0..PASSWORD_BYTES {
-        r[i] = b[i];
-    }
-    r
-}
-
 fn good_record(b: &[u8]) -> bool
     requires { ⌜ length (now b) ≡ images.recordBytes ⌝ }
     ensures { λ r. ⌜ r ≡ images.goodRecord (now (b .entry)) ⌝ }
@@ -105,8 +95,8 @@ fn cluster_in(b: &[u8]) -> Cluster
     requires { ⌜ length (now b) ≡ images.recordBytes ⌝ }
     ensures { λ r. ⌜ r ≡ images.clusterIn (now (b .entry)) ⌝ }
 {
-    let read = password_in(&b[READ_AT..WRITE_AT]);
-    let write = password_in(&b[WRITE_AT..PLACES_AT]);
+    let read = store::password_in(&b[READ_AT..WRITE_AT]);
+    let write = store::password_in(&b[WRITE_AT..PLACES_AT]);
     let segments = segments_in(&b[PLACES_AT..RECORD]);
     Cluster {
         active: b[0] == 1,
@@ -114,6 +104,30 @@ fn cluster_in(b: &[u8]) -> Cluster
         write,
         segments,
     }
+}
+
+// The record of a cluster of the store that the bytes hold; record 0 where there is no such place. If the bytes are those
+// of a store, they are its image.
+pub fn record_in(image: &[u8; IMAGE], node: usize, local: usize) -> Cluster
+    ensures cluster { λ r. ⌜ r ≡ clusterAt (images.storeIn (now (image .entry))) (recordAt node local) ⌝ }
+    ensures whole { λ _. ⌜ (images.good (now (image .entry)) ≡ true
+        → images.imageOf (images.storeIn (now (image .entry))) ≡ now (image .entry)) ⌝ }
+{
+    let all = &image[..];
+    record_of(all, node, local)
+}
+
+// The same over a slice, whose bytes are known to be below 256: so good bytes are an image.
+fn record_of(image: &[u8], node: usize, local: usize) -> Cluster
+    requires { ⌜ length (now image) ≡ images.imageBytes ⌝ }
+    ensures cluster { λ r. ⌜ r ≡ clusterAt (images.storeIn (now (image .entry))) (recordAt node local) ⌝ }
+    ensures whole { λ _. ⌜ (images.good (now (image .entry)) ≡ true
+        → images.imageOf (images.storeIn (now (image .entry))) ≡ now (image .entry)) ⌝ }
+{
+    let at = store::record_at(node, local);
+    let from = at * RECORD;
+    let to = from + RECORD;
+    cluster_in(&image[from..to])
 }
 
 // Whether the bytes are those of a store: each record is that of a cluster.

@@ -13,37 +13,20 @@ use store::Place;
 use store::Segment;
 use store::Store;
 ghost use mathlib.Core.Path.{_≡_};
+ghost use mathlib.Core.Bool.{true};
 ghost use Prim.Native.Nat.{_*_};
 ghost use lib.ListN.{length};
-ghost use Rattle.store.specs.Records.{baseOf, lengthOf};
 ghost use Rattle.sizes.specs.Sizes.{segments, passwordBytes};
+ghost use Rattle.store.specs.Records.{putRecord};
 ghost use Rattle.image.specs.Images as images;
-
-fn base_of(place: Place) -> u16
-    ensures { λ r. ⌜ r ≡ baseOf place ⌝ }
-{
-    match place {
-        Place::Absent => 0,
-        Place::Present { base, length: _ } => base,
-    }
-}
-
-fn length_of(place: Place) -> u16
-    ensures { λ r. ⌜ r ≡ lengthOf place ⌝ }
-{
-    match place {
-        Place::Absent => 0,
-        Place::Present { base: _, length } => length,
-    }
-}
 
 // Base and length, two bytes each, high byte first; zeros for an absent segment.
 fn put_place(place: Place, out: &mut [u8])
     requires { ⌜ length (now out) ≡ images.placeBytes ⌝ }
     ensures { λ _. ⌜ now (out .exit) ≡ images.placeOut place ⌝ }
 {
-    let base = base_of(place);
-    let length = length_of(place);
+    let base = store::base_of(place);
+    let length = store::length_of(place);
     out[0] = (base / BYTE) as u8;
     out[1] = (base % BYTE) as u8;
     out[2] = (length / BYTE) as u8;
@@ -83,6 +66,21 @@ fn put_record(cluster: Cluster, out: &mut [u8])
     put_password(write, &mut out[WRITE_AT..PLACES_AT]);
     put_places(segments, &mut out[PLACES_AT..RECORD]);
     out[0] = cluster.active as u8;
+}
+
+// One record of an image, over what stands there; past the last record nothing is written.
+pub fn put_record_in(cluster: Cluster, at: usize, out: &mut [u8])
+    requires { ⌜ length (now out) ≡ images.imageBytes ⌝ }
+    ensures bytes { λ _. ⌜ now (out .exit) ≡ images.withRecord (now (out .entry)) at cluster ⌝ }
+    ensures image { λ _. ⌜ (images.good (now (out .entry)) ≡ true
+        → now (out .exit) ≡ images.imageOf (putRecord (images.storeIn (now (out .entry))) at cluster)) ⌝ }
+{
+    if RECORDS <= at {
+        return;
+    }
+    let from = at * RECORD;
+    let to = from + RECORD;
+    put_record(cluster, &mut out[from..to]);
 }
 
 // The image of a store.

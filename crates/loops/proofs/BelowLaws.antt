@@ -61,6 +61,17 @@ every-same n p q h =
     (λ e. every-in n q (λ k b. sym (h k b) ∙ every-at n p e k b))
     (λ e. every-in n p (λ k b. h k b ∙ every-at n q e k b))
 
+-- two tests in one pass
+pub every-both : (n : ℕ) (p q : ℕ → Bool) → every n (λ k. p k && q k) ≡ every n p && every n q
+every-both n p q =
+    tests-equal (every n (λ k. p k && q k)) (every n p && every n q)
+    (λ e. and-both (every n p) (every n q)
+    (every-in n p (λ k h. and-left (p k) (q k) (every-at n (λ k. p k && q k) e k h)))
+    (every-in n q (λ k h. and-right (p k) (q k) (every-at n (λ k. p k && q k) e k h))))
+    (λ e. every-in n (λ k. p k && q k) (λ k h.
+    and-both (p k) (q k) (every-at n p (and-left (every n p) (every n q) e) k h)
+    (every-at n q (and-right (every n p) (every n q) e) k h)))
+
 -- a test over pairs of numbers
 module _ (n m : ℕ) (p : ℕ → ℕ → Bool) where
   pub every-pair-at : every n (λ i. every m (p i)) ≡ true → (i j : ℕ) → i < n → j < m → p i j ≡ true

@@ -2,7 +2,7 @@
 -- One turn applies f i; after n turns the value is `turns n f a`.
 -- Assumes nothing.
 use mathlib.Core.Path.{_≡_, refl, sym, ap, _∙_}
-use Prim.Native.Nat.{ℕ, _+_, _≤_, _<_}
+use Prim.Native.Nat.{ℕ, zero, suc, _+_, _≤_, _<_}
 use native.Mathlib.Numerals.{add-one}
 use native.Mathlib.Omega.{arith}
 use Rattle.loops.specs.Turns.{turns}
@@ -15,6 +15,13 @@ module _ {A : Type 0} where
   pub turns-more : (n : ℕ) (f : ℕ → A → A) (a : A) → turns (n + 1) f a ≡ f n (turns n f a)
   unfolding turns
   turns-more n f a = rw (add-one, turns)
+
+  -- rules whose first n turns are the same
+  pub turns-same : (n : ℕ) (f g : ℕ → A → A) (a : A) → ((i : ℕ) → i < n → f i ≡ g i) → turns n f a ≡ turns n g a
+  unfolding turns
+  turns-same zero f g a h = refl
+  turns-same (suc n) f g a h =
+      ap (λ (s : A → A). s (turns n f a)) (h n (omega arith)) ∙ ap (g n) (turns-same n f g a (λ i l. h i (omega arith)))
 
   -- x is what i turns, out of n, make of a
   pub record Turning (n : ℕ) (f : ℕ → A → A) (a : A) (i : ℕ) (x : A) : Type 0 where

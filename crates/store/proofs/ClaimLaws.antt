@@ -60,7 +60,7 @@ module _ (s : Store) (size : ℕ) where
     apart-before node l i m j hv hl hi hm hj b =
         free-apart (place node l i) (place node m j) (mapAt (tableAt s) node l i)
         (claimed-inside node l i hv hl hi) (claimed-inside node m j hv hm hj) (claimed-free node l i hv hl hi)
-        (λ x h u. unmarked-out (tableAt s) node l i m j x h u b)
+        (λ x u. unmarked-out (tableAt s) node l i m j x u b)
 
     ordered : (l i m j : ℕ) → i < segments → j < segments → (l ≢ m) ⊎ (i ≢ j) → Before l i m j ⊎ Before m j l i
     ordered l i m j hi hj d = go (ltb m l) refl (ltb l m) refl (ltb j i) refl
@@ -117,8 +117,8 @@ module _ (s : Store) (size : ℕ) where
     sound-free : (node l i : ℕ) → node < nodes → l < clusters → i < segments
         → free (place node l i) (mapAt (tableAt s) node l i) ≡ true
     sound-free node l i hv hl hi =
-        free-in (place node l i) (mapAt (tableAt s) node l i) (sound-inside node l i hv hl hi)
-        (λ x h o. unmarked-in (tableAt s) node l i x h
+        free-in (place node l i) (mapAt (tableAt s) node l i)
+        (λ x o. unmarked-in (tableAt s) node l i x
         (λ m j b. apart-leaves (place node l i) (place node m j) x (earlier m j b) o))
       where
         earlier : (m j : ℕ) → Before l i m j → apart (place node l i) (place node m j) ≡ true

@@ -12,6 +12,7 @@ use Rattle.store.specs.declared.Place.{Place}
 use Rattle.store.specs.declared.Place.the-variants.{Absent, Present}
 use Rattle.sizes.specs.Sizes.{nodeMemory}
 use Rattle.store.specs.Sound.{inRanges, endsInside, inside, apart}
+use Rattle.store.specs.Passes.{holds}
 
 -- a present place lies inside its node's memory
 pub record Inside (base length : ℕ) : Type 0 where
@@ -80,11 +81,6 @@ module _ (b l b′ l′ : ℕ) where
       go false p false q f = record { low = leb-false (b + l) b′ p; high = leb-false (b′ + l′) b q }
 
 -- ---- bytes
-
--- byte x is one of the place's
-abbrev pub holds : ℕ → Place → Bool
-holds x Absent = false
-holds x (Present base length) = leb base x && ltb x (base + length)
 
 pub holds-in : (x base length : ℕ) → base ≤ x → x < base + length → holds x (Present base length) ≡ true
 holds-in x base length a b =

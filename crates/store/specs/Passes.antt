@@ -1,9 +1,10 @@
 -- What the code's passes over a node's segments work out: a map of its bytes, and the next base to try.
---     zeros part                every byte of the part is zero
+--     Map                       which bytes of a node's memory are marked
+--     mapWords                  the words of a map in the code, a bit for each byte
+--     holds x p                 byte x is one of the place's
 --     free p map                no byte of the place is marked in the map
---     marked p map              the map with the place's bytes marked
 --     claimable p map           the place lies inside the node's memory and is free
---     stamped p map             the map after the place's turn: marked, if the place lies inside
+--     stamped p map             the map after the place's turn: its bytes are marked too, if the place lies inside
 --     stampedBy n ps map        the map after n places
 --     claims n ps map           each of n places was claimable when its turn came
 --     Claimed, ClaimedAll       what is told of a place, and of a cluster's segments, and how the map is left
@@ -16,58 +17,59 @@
 -- Assumes nothing.
 use mathlib.Core.Path.{_≡_}
 use Prim.Native.Nat.{ℕ, _+_}
-use mathlib.Core.Bool.{Bool, true, false, _&&_}
-use mathlib.Core.List.{List, _++_}
-use lib.Dec.{eqb}
-use lib.ListN.{length, getD, take, drop, replicate}
+use mathlib.Core.Bool.{Bool, true, false, not, _&&_, _||_}
+use lib.Dec.{leb, ltb}
 use Rattle.loops.specs.Below.{every}
 use Rattle.loops.specs.Turns.{turns}
 use Rattle.store.specs.declared.Place.{Place}
 use Rattle.store.specs.declared.Place.the-variants.{Absent, Present}
 use Rattle.store.specs.declared.Cluster.{Cluster}
 use Rattle.store.specs.declared.Store.{Store}
-use Rattle.sizes.specs.Sizes.{clusters, segments, nodeMemory}
+use Rattle.sizes.specs.Sizes.{clusters, segments}
 use Rattle.store.specs.Records.{Tables, tableOf, recordOf, clusterAt, tableAt}
 use Rattle.store.specs.Records.{placeOf, placeOn}
 use Rattle.store.specs.Sound.{inside, apart, settled}
 
 -- ---- marking bytes
 
-unfoldable pub zeros : List ℕ → Bool
-zeros part = every (length part) (λ i. eqb (getD part i 0) 0)
+abbrev pub Map : Type 0
+Map = ℕ → Bool
 
-unfoldable pub free : Place → List ℕ → Bool
+abbrev pub mapWords : ℕ
+mapWords = 64
+
+abbrev pub holds : ℕ → Place → Bool
+holds x Absent = false
+holds x (Present base length) = leb base x && ltb x (base + length)
+
+unfoldable pub free : Place → Map → Bool
 free Absent map = true
-free (Present base size) map = every size (λ i. eqb (getD map (base + i) 0) 0)
+free (Present base length) map = every length (λ i. not (map (base + i)))
 
-unfoldable pub marked : Place → List ℕ → List ℕ
-marked Absent map = map
-marked (Present base size) map = take base map ++ (replicate size 1 ++ drop (base + size) map)
-
-unfoldable pub stamped : Place → List ℕ → List ℕ
-stamped p map = elim (inside p) [ true ↦ marked p map | false ↦ map ]
-
-unfoldable pub claimable : Place → List ℕ → Bool
+unfoldable pub claimable : Place → Map → Bool
 claimable p map = inside p && free p map
 
-unfoldable pub stampedBy : ℕ → (ℕ → Place) → List ℕ → List ℕ
+unfoldable pub stamped : Place → Map → Map
+stamped p map x = inside p && holds x p || map x
+
+unfoldable pub stampedBy : ℕ → (ℕ → Place) → Map → Map
 stampedBy n ps map = turns n (λ i. stamped (ps i)) map
 
-unfoldable pub claims : ℕ → (ℕ → Place) → List ℕ → Bool
+unfoldable pub claims : ℕ → (ℕ → Place) → Map → Bool
 claims n ps map = every n (λ i. claimable (ps i) (stampedBy i ps map))
 
-pub record Claimed (p : Place) (before : List ℕ) (r : Bool) (after : List ℕ) : Type 0 where
+pub record Claimed (p : Place) (before : Map) (r : Bool) (after : Map) : Type 0 where
   pub told : r ≡ claimable p before
   pub left : after ≡ stamped p before
 
-pub record ClaimedAll (c : Cluster) (before : List ℕ) (r : Bool) (after : List ℕ) : Type 0 where
+pub record ClaimedAll (c : Cluster) (before : Map) (r : Bool) (after : Map) : Type 0 where
   pub told : r ≡ claims segments (placeOf (tableOf c)) before
   pub left : after ≡ stampedBy segments (placeOf (tableOf c)) before
 
-abbrev pub blank : List ℕ
-blank = replicate nodeMemory 0
+abbrev pub blank : Map
+blank x = false
 
-unfoldable pub nodeMap : Tables → ℕ → ℕ → List ℕ
+unfoldable pub nodeMap : Tables → ℕ → ℕ → Map
 nodeMap ts node l = turns l (λ m. stampedBy segments (placeOn ts node m)) blank
 
 unfoldable pub clusterSound : Store → ℕ → ℕ → Bool

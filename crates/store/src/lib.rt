@@ -4,6 +4,7 @@ mod records; // records.rt: the parts of a record, read and replaced
 mod soundness; // soundness.rt: the test of the records and of the slice's length
 
 pub use placement::new_base;
+pub use placement::past;
 pub use records::READ_MODE;
 pub use records::WRITE_MODE;
 pub use records::absent;
@@ -21,6 +22,7 @@ pub use records::with_place;
 use sizes::Password;
 use sizes::RECORDS;
 use sizes::SEGMENTS;
+pub use soundness::MAP_WORDS;
 pub use soundness::sound;
 
 // A segment is absent, or present with a base within its node's memory and a length.

@@ -15,7 +15,7 @@ use sizes::SEGMENTS;
 
 // The base to try after a place: the same if `size` bytes from it share none with the place, else the place's end.
 // No sum is formed with base or size, so none can wrap.
-fn past(place: Place, base: usize, size: usize) -> usize
+pub fn past(place: Place, base: usize, size: usize) -> usize
     ensures { λ r. ⌜ r ≡ passes.past size place base ⌝ }
 {
     match place {

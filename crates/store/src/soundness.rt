@@ -1,10 +1,10 @@
 // Soundness by a map of a node's bytes: each segment marks its own, and meets none that is marked. One pass over the
 // segments does what the definition's pairs would take some ten times as long for.
 ghost use mathlib.Core.Path.{_≡_};
-ghost use Prim.Native.Nat.{_<_};
-ghost use lib.ListN.{length, replicate};
+ghost use lib.ListN.{length};
 ghost use Rattle.loops.specs.Below.{every};
-ghost use Rattle.sizes.specs.Sizes.{clusters, segments, nodeMemory};
+ghost use Rattle.sizes.specs.Sizes.{segments};
+ghost use Rattle.spans.specs.Spans.{marks};
 ghost use Rattle.store.specs.Records.{tableOf, placeOf};
 ghost use Rattle.store.specs.Sound as sound-spec;
 ghost use Rattle.store.specs.Passes as passes;
@@ -14,54 +14,36 @@ use crate::Store;
 use crate::absent;
 use sizes::CLUSTERS;
 use sizes::MEMORY;
-use sizes::NODE_MEMORY;
 use sizes::NODES;
 use sizes::PASSWORD_BYTES;
 use sizes::Password;
 use sizes::SEGMENTS;
 
-// Marks every byte of the part and tells whether none was marked. No early exit: a loop without one is quicker here.
-fn mark(part: &mut [u8]) -> bool
-    ensures { λ r. ⌜ (r ≡ passes.zeros (now (part .entry)))
-        × (now (part .exit) ≡ replicate (length (now (part .entry))) 1) ⌝ }
-{
-    let mut fresh = true;
-    let mut i: usize = 0;
-    while i < part.len() {
-        fresh = (part[i] == 0) & fresh;
-        part[i] = 1;
-        i += 1;
-    }
-    fresh
-}
+// Words of the map of a node: a bit for each byte of its memory.
+pub const MAP_WORDS: usize = 64;
 
-// Marks the bytes of a place in its node's map: false if it is out of range or shares a byte with one marked before.
-// The end is worked out in usize, where the sum of two u16 does not wrap.
-fn claim(place: Place, map: &mut [u8]) -> bool
-    requires { ⌜ length (now map) ≡ nodeMemory ⌝ }
-    ensures { λ r. ⌜ passes.Claimed place (now (map .entry)) r (now (map .exit)) ⌝ }
+// Marks the bytes of a place in its node's map: false if it is out of range or shares a byte with one marked before. What
+// does not lie inside the map does not lie inside the node's memory. The end is worked out in usize, where the sum of two
+// u16 does not wrap.
+fn claim(place: Place, map: &mut [u64]) -> bool
+    requires { ⌜ length (now map) ≡ passes.mapWords ⌝ }
+    ensures { λ r. ⌜ passes.Claimed place (marks (now (map .entry))) r (marks (now (map .exit))) ⌝ }
 {
     match place {
         Place::Absent => true,
         Place::Present { base, length } => {
             let from = base as usize;
             let size = length as usize;
-            if size < 1 {
-                return false;
-            }
             let to = from + size;
-            if NODE_MEMORY < to {
-                return false;
-            }
-            mark(&mut map[from..to])
+            spans::mark(map, from, to)
         }
     }
 }
 
 // Claims each segment of a cluster in turn.
-fn claim_all(cluster: Cluster, map: &mut [u8]) -> bool
-    requires { ⌜ length (now map) ≡ nodeMemory ⌝ }
-    ensures { λ r. ⌜ passes.ClaimedAll cluster (now (map .entry)) r (now (map .exit)) ⌝ }
+fn claim_all(cluster: Cluster, map: &mut [u64]) -> bool
+    requires { ⌜ length (now map) ≡ passes.mapWords ⌝ }
+    ensures { λ r. ⌜ passes.ClaimedAll cluster (marks (now (map .entry))) r (marks (now (map .exit))) ⌝ }
 {
     let mut ok = true;
     let mut i: usize = 0;
@@ -117,7 +99,7 @@ pub fn sound(store: Store, size: usize) -> bool
     let mut ok = true;
     let mut node: usize = 0;
     while node < NODES {
-        let mut map = [0u8; NODE_MEMORY];
+        let mut map = [0u64; MAP_WORDS];
         let mut taken = true;
         let mut local: usize = 0;
         while local < CLUSTERS {

@@ -1,15 +1,17 @@
-//! Runs a program on lists made by chance and compares what it prints with what the model prints.
+//! Runs a program on lists made by chance and compares what it prints with what the model prints. A program that tells a
+//! fault, or ends by a signal or with another status than 0, differs too.
 
 use model::call::CALLS;
 use model::generate;
 use model::list::run;
+use model::program::{Outcome, Program};
 use model::random::Random;
 use model::table::{word, LIST_LENGTH, LOOP, SPENT};
 use std::collections::BTreeMap;
-use std::ffi::{OsStr, OsString};
-use std::io::{self, Write};
+use std::ffi::OsString;
+use std::io;
 use std::path::PathBuf;
-use std::process::{Command, ExitCode, Stdio};
+use std::process::ExitCode;
 
 const USAGE: &str = "usage: lists-against PROGRAM [SEED] [COUNT]";
 const BAD_USAGE: u8 = 2;
@@ -45,20 +47,6 @@ fn task() -> Option<Task> {
     })
 }
 
-/// What the program prints with the list on its standard input.
-fn answer(program: &OsStr, list: &[u8]) -> io::Result<Vec<u8>> {
-    let mut child = Command::new(program)
-        .stdin(Stdio::piped())
-        .stdout(Stdio::piped())
-        .spawn()?;
-    let input = child.stdin.take();
-    std::thread::scope(|scope| {
-        // A program may stop reading a list that is too long; its output tells whether it should.
-        scope.spawn(move || input.map(|mut input| input.write_all(list)));
-        Ok(child.wait_with_output()?.stdout)
-    })
-}
-
 fn expected(list: &[u8], tally: &mut Tally) -> Vec<u8> {
     let text = run(list, |code, reply| {
         tally.calls += 1;
@@ -78,7 +66,7 @@ fn expected(list: &[u8], tally: &mut Tally) -> Vec<u8> {
 }
 
 /// Keeps a list on which the two differ, and tells all about it.
-fn report(task: &Task, at: u64, list: &[u8], expected: &[u8], found: &[u8]) -> io::Result<()> {
+fn report(task: &Task, at: u64, list: &[u8], expected: &[u8], found: &Outcome) -> io::Result<()> {
     let name = format!("lists-against-{}-{at}.list", task.seed);
     let path: PathBuf = std::env::temp_dir().join(name);
     std::fs::write(&path, list)?;
@@ -89,18 +77,20 @@ fn report(task: &Task, at: u64, list: &[u8], expected: &[u8], found: &[u8]) -> i
         path.display()
     );
     println!("the model prints\n{}", lines(expected));
-    println!("the program prints\n{}", lines(found));
+    println!("the program prints\n{}", lines(&found.output));
+    println!("and ends with {found}");
     Ok(())
 }
 
-/// True if the program printed the same as the model every time.
+/// True if the program printed the same as the model, and ended as it should, every time.
 fn compare(task: &Task, tally: &mut Tally) -> io::Result<bool> {
+    let program = Program::named(&task.program);
     let mut seeds = Random::from_seed(task.seed);
     for at in 1..=task.count {
         let list = generate::list(&mut Random::from_seed(seeds.number()));
         let expected = expected(&list, tally);
-        let found = answer(&task.program, &list)?;
-        if found != expected {
+        let found = program.answer(&list)?;
+        if found != Outcome::ended(&expected, "") {
             report(task, at, &list, &expected, &found)?;
             return Ok(false);
         }

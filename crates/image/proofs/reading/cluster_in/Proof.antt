@@ -1,13 +1,12 @@
 -- The record is cut where its fields begin.
 -- Assumes nothing.
-use Rattle.image.specs.Images.{clusterIn}
+use Rattle.image.proofs.ReadLaws.{cluster-cut}
 use borrow.Author.Needs.{needs}
 use Rattle.image.proofs.reading.cluster_in.Statement.{statement}
 use Rattle.image.proofs.reading.cluster_in.Tie as tie
 
 returns : tie.Need-returns
-unfolding clusterIn
-returns c = cc
+returns c = search (needs, cluster-cut)
 
 pub cluster-in-spec : {M : Type 1} → statement M
 cluster-in-spec =

@@ -4,13 +4,15 @@ use borrow.Author.Needs.{needs}
 use Prim.Native.Nat.{_-_}
 use mathlib.Core.Path.{_≡_}
 use lib.ListN.{length}
-use Rattle.sizes.specs.Sizes.{segments, nodeMemory}
+use Rattle.sizes.specs.Sizes.{segments}
+use Rattle.spans.specs.Spans.{marks}
+use Rattle.store.specs.Passes.{mapWords}
 use Rattle.store.proofs.MarkLaws.{Claiming, claiming-none, claiming-more, claiming-all}
 use Rattle.store.proofs.soundness.claim_all.Statement.{statement}
 use Rattle.store.proofs.soundness.claim_all.Tie as tie
 
 abbrev Inv-loop : tie.InvT-loop
-Inv-loop map₀ cluster ok₀ i₀ map ok i = Claiming cluster map₀ i ok map × (length map ≡ nodeMemory)
+Inv-loop map₀ cluster ok₀ i₀ map ok i = Claiming cluster (marks map₀) i ok (marks map) × (length map ≡ mapWords)
 
 abbrev μ-loop : tie.MeasureT-loop
 μ-loop map₀ cluster ok₀ i₀ map ok i = segments - i

@@ -8,8 +8,9 @@ use mathlib.Core.Path.{_≡_}
 use lib.ListN.{length}
 use Rattle.loops.specs.Below.{every}
 use Rattle.loops.proofs.RunningLaws.{Running, running-none, running-more}
-use Rattle.sizes.specs.Sizes.{nodes, clusters, nodeMemory}
-use Rattle.store.specs.Passes.{clusterSound}
+use Rattle.sizes.specs.Sizes.{nodes, clusters}
+use Rattle.spans.specs.Spans.{marks}
+use Rattle.store.specs.Passes.{mapWords, clusterSound}
 use Rattle.store.proofs.MarkLaws.{Passing, passing-none, passing-more, passing-all}
 use Rattle.store.proofs.ClaimLaws.{tested-told}
 use Rattle.store.proofs.soundness.sound.Statement.{statement}
@@ -17,7 +18,7 @@ use Rattle.store.proofs.soundness.sound.Tie as tie
 
 abbrev Inv-loop2 : tie.InvT-loop2
 Inv-loop2 size store ok node map₀ taken₀ local₀ map taken local =
-    Passing store node local taken map × (length map ≡ nodeMemory)
+    Passing store node local taken (marks map) × (length map ≡ mapWords)
 
 abbrev μ-loop2 : tie.MeasureT-loop2
 μ-loop2 size store ok node map₀ taken₀ local₀ map taken local = clusters - local

@@ -1,0 +1,65 @@
+-- A call keeps a store in range: a new segment ends inside its node's memory, and passwords come in with sixteen bytes.
+-- Assumes nothing.
+use mathlib.Core.Path.{_≡_, refl}
+use mathlib.Core.List.{List}
+use Prim.Native.Nat.{ℕ, zero, suc}
+use native.Mathlib.Omega.{arith}
+use lib.ListN.{length}
+use Rattle.handle.specs.Handles.{Name}
+use Rattle.store.specs.declared.Place.the-variants.{Present}
+use Rattle.store.specs.Records.{tableAt}
+use Rattle.store.proofs.PlaceLaws.{inside-out}
+use Rattle.store.proofs.PlacementLaws.{newBase-fits}
+use Rattle.calls.specs.Calls.{Copy, Kind, Call, Arguments, call, newCluster, deleteCluster, newSegment, deleteSegment}
+use Rattle.calls.specs.Calls.{read, write, weaken, reduce, newPassword, validate, nodeFor, recordFor}
+use Rattle.calls.specs.Numbers.{number}
+use Rattle.calls.specs.Steps.{about, newBaseFor, outcome, step, left, effects}
+use Rattle.calls.proofs.DoneLaws.{done-range, new-base}
+use Rattle.image.specs.Ranges.{PlaceFits, ClusterFits, StoreFits}
+use Rattle.image.proofs.RangeLaws.{put-fits, place-fits, absent-fits, started-fits, inactive-fits, password-fits}
+use Rattle.gelmuszta.specs.Fits.{PasswordsFit}
+
+module _ (f : Name → List ℕ → ℕ → List ℕ) where
+  module _ (g : Arguments) (c : Copy) (k : StoreFits (c .store)) where
+    about-fits : (x : Call) → number f x (c .store) (length (c .memory)) ≡ 0 → ClusterFits (about x c)
+    about-fits x e =
+        let r = done-range f x (c .store) (length (c .memory)) e in
+        let n = r .node-low in
+        let l = r .local-low in
+        k .each (recordFor x) (omega arith)
+
+    new-fits : number f (call newSegment g) (c .store) (length (c .memory)) ≡ 0
+        → PlaceFits (Present (newBaseFor (call newSegment g) (tableAt (c .store))) (g .size))
+    unfolding PlaceFits
+    new-fits e =
+        let base = newBaseFor (call newSegment g) (tableAt (c .store)) in
+        let i = inside-out base (g .size) (newBase-fits (tableAt (c .store)) (nodeFor (call newSegment g)) (g .size) base
+        (new-base f g (c .store) (length (c .memory)) e) .within) in
+        let some = i .some in
+        let ends = i .ends in
+        record { starts = omega arith; some = some; ends = omega arith }
+
+    left-fits : (kind : Kind) → PasswordsFit (call kind g) → number f (call kind g) (c .store) (length (c .memory)) ≡ 0
+        → StoreFits (left kind (call kind g) c .store)
+    unfolding effects
+    left-fits newCluster p e = put-fits (c .store) _ _ k (started-fits (g .first) (g .second) (p .first refl) (p .second refl))
+    left-fits deleteCluster p e = put-fits (c .store) _ _ k inactive-fits
+    left-fits newSegment p e =
+        put-fits (c .store) _ _ k (place-fits _ (g .segment) _ (about-fits (call newSegment g) e) (new-fits e))
+    left-fits deleteSegment p e =
+        put-fits (c .store) _ _ k (place-fits _ (g .segment) _ (about-fits (call deleteSegment g) e) absent-fits)
+    left-fits read p e = k
+    left-fits write p e = k
+    left-fits weaken p e = k
+    left-fits reduce p e = k
+    left-fits newPassword p e =
+        put-fits (c .store) _ _ k (password-fits _ (g .mode) (g .first) (about-fits (call newPassword g) e) (p .first refl))
+    left-fits validate p e = k
+
+  pub step-fits : (x : Call) (c : Copy) → PasswordsFit x → StoreFits (c .store) → StoreFits (step f x c .copy .store)
+  unfolding step
+  step-fits x c p k = go (number f x (c .store) (length (c .memory))) refl
+    where
+      go : (n : ℕ) → number f x (c .store) (length (c .memory)) ≡ n → StoreFits (outcome f n x c .copy .store)
+      go zero e = left-fits (x .args) c k (x .kind) p e
+      go (suc n) e = k

@@ -1,0 +1,163 @@
+-- An inactive record of a sound store is all zeros. Zeros are the record of an inactive cluster; and the other way round,
+-- an idle cluster that is not active is the inactive one, whose record is zeros, and good bytes are their cluster's record.
+-- Assumes nothing.
+use mathlib.Core.Path.{_≡_, refl, sym, ap, _∙_, subst}
+use mathlib.Core.Bool.{Bool, true, false, _&&_, _||_, true≢false}
+use mathlib.Core.List.{List}
+use Prim.Native.Nat.{ℕ, zero, suc, _+_, _-_, _<_}
+use native.Mathlib.Omega.{arith}
+use mir.Syntax.{w8}
+use mir.Val.{Fits}
+use lib.Dec.{eqb}
+use lib.ListN.{length, getD, drop, replicate, length-replicate, getD-replicate}
+use lib.Seq.{ext-getD, getD-take, getD-drop}
+use borrow.Author.Tests.{eqb-true}
+use borrow.Rule.Slice.PartMut.{mid-len}
+use Rattle.bits.specs.Bytes.{bytes, word, wordFrom}
+use Rattle.handle.specs.Handles.{Bytes}
+use Rattle.loops.specs.Below.{every}
+use Rattle.loops.specs.Tabulate.{tabulate}
+use Rattle.loops.proofs.BelowLaws.{and-left, and-right, and-both, tests-equal, every-at}
+use Rattle.loops.specs.Turns.{turns}
+use Rattle.sizes.specs.Sizes.{segments, passwordBytes}
+use Rattle.store.specs.declared.Place.{Place}
+use Rattle.store.specs.declared.Place.the-variants.{Absent, Present}
+use Rattle.store.specs.declared.Cluster.{Cluster}
+use Rattle.store.specs.Records.{absentSegment, inactive, tableOf, placeOf}
+use Rattle.store.specs.Sound.{inRanges, endsInside, inside, settled, idle, zeroBytes, isAbsent}
+use Rattle.store.specs.Passes.{Map, free, claimable, stamped, stampedBy, claims}
+use Rattle.store.proofs.SoundLaws.{settled-inactive}
+use Rattle.image.specs.Parts.{part, joined}
+use Rattle.image.specs.Images.{recordBytes, readAt, placeIn, segmentsIn, clusterIn, goodPlace, goodPlaces, goodRecord}
+use Rattle.image.specs.Images.{placeOut, placesOut, recordOut}
+use Rattle.image.specs.Ranges.{ClusterFits}
+use Rattle.image.specs.Claims.{zeros, recordSound, RecordClaimed}
+use Rattle.image.proofs.TripLaws.{record-back}
+use Rattle.image.proofs.RangeLaws.{cluster-held}
+
+abbrev blank : List ℕ
+blank = replicate recordBytes 0
+
+-- ---- zeros are the record of an inactive cluster
+
+blank-out : recordOut inactive ≡ blank
+unfolding recordOut placesOut placeOut joined bytes
+blank-out = refl
+
+blank-in : clusterIn blank ≡ inactive
+unfolding clusterIn segmentsIn placeIn tabulate word wordFrom
+blank-in = refl
+
+blank-good : goodRecord blank ≡ true
+unfolding goodRecord goodPlaces goodPlace every word wordFrom
+blank-good = refl
+
+-- the segments of an inactive cluster are claimable in their turns, and leave the map as it was
+vacant-claims : (map : Map) → claims segments (placeOf (tableOf inactive)) map ≡ true
+unfolding claims every claimable free inside inRanges endsInside
+vacant-claims map = refl
+
+vacant-leaves : (map : Map) → map ≡ stampedBy segments (placeOf (tableOf inactive)) map
+unfolding stampedBy turns stamped inside inRanges endsInside
+vacant-leaves map = refl
+
+blank-sound : (map : Map) → recordSound blank map ≡ true
+blank-sound map =
+    and-both (goodRecord blank) _ blank-good
+    (and-both (settled (clusterIn blank)) _ (ap settled blank-in ∙ settled-inactive)
+    (ap (λ (c : Cluster). claims segments (placeOf (tableOf c)) map) blank-in ∙ vacant-claims map))
+
+blank-zeros : zeros (part blank readAt recordBytes) ≡ true
+unfolding zeros every
+blank-zeros = refl
+
+-- ---- the other way round
+
+zero-bytes : (n : ℕ) (l : List ℕ) → length l ≡ n → every n (λ i. eqb (getD l i 0) 0) ≡ true → l ≡ replicate n 0
+zero-bytes n l e z =
+    ext-getD 0 l (replicate n 0) (e ∙ sym (length-replicate n 0))
+    (λ i h. let k : i < n = subst (λ (m : ℕ). i < m) e h in
+    eqb-true (getD l i 0) 0 (every-at n (λ i. eqb (getD l i 0) 0) z i k) ∙ sym (getD-replicate n i 0 0 k))
+
+idle-inactive : (c : Cluster) → ClusterFits c → c .active ≡ false → idle c ≡ true → c ≡ inactive
+unfolding idle zeroBytes
+idle-inactive c fit e z =
+    λ j. record {
+      active = e j;
+      read = zero-bytes passwordBytes (c .read) (fit .read) (and-left (zeroBytes (c .read)) _ both) j;
+      write = zero-bytes passwordBytes (c .write) (fit .write) (and-right (zeroBytes (c .read)) _ both) j;
+      segments = none j;
+    }
+  where
+    both : (zeroBytes (c .read) && zeroBytes (c .write)) ≡ true
+    both = and-left (zeroBytes (c .read) && zeroBytes (c .write)) _ z
+
+    absent : (p : Place) → isAbsent p ≡ true → p ≡ Absent
+    absent Absent t = refl
+    absent (Present base length) t = absurd (true≢false (sym t))
+
+    none : c .segments ≡ replicate segments absentSegment
+    none =
+        ext-getD absentSegment (c .segments) (replicate segments absentSegment) (fit .eight)
+        (λ i h. let k : i < segments = subst (λ (m : ℕ). i < m) (fit .eight) h in
+        (λ j. record {
+          place =
+              absent (placeOf (tableOf c) i)
+              (every-at segments (λ i. isAbsent (placeOf (tableOf c) i))
+              (and-right (zeroBytes (c .read) && zeroBytes (c .write)) _ z) i k) j;
+        })
+        ∙ sym (getD-replicate segments i absentSegment absentSegment k))
+
+-- ---- a record whose active byte is 0
+
+module _ (b : List ℕ) (off : getD b 0 0 ≡ 0) where
+  zeros-blank : length b ≡ recordBytes → zeros (part b readAt recordBytes) ≡ true → b ≡ blank
+  unfolding zeros
+  zeros-blank long z =
+      ext-getD 0 b blank long
+      (λ i h. let k : i < recordBytes = subst (λ (m : ℕ). i < m) long h in
+      byte i k ∙ sym (getD-replicate recordBytes i 0 0 k))
+    where
+      rest : List ℕ
+      rest = part b readAt recordBytes
+
+      byte : (i : ℕ) → i < recordBytes → getD b i 0 ≡ 0
+      byte zero h = off
+      byte (suc i) h =
+          ap (λ (k : ℕ). getD b k 0) (next i)
+          ∙ sym (getD-take (recordBytes - readAt) (drop readAt b) i 0 (omega arith) ∙ getD-drop readAt b i 0)
+          ∙ eqb-true (getD rest i 0) 0 (every-at (length rest) (λ i. eqb (getD rest i 0) 0) z i
+          (subst (λ (m : ℕ). i < m) (sym (mid-len readAt recordBytes b (omega (arith, long)))) (omega arith)))
+        where
+          next : (i : ℕ) → suc i ≡ readAt + i
+          next i = omega arith
+
+  sound-blank : Bytes recordBytes b → (before : Map) → recordSound b before ≡ true → b ≡ blank
+  unfolding settled clusterIn
+  sound-blank h before t =
+      sym (record-back b h (and-left (goodRecord b) _ t))
+      ∙ ap recordOut (idle-inactive (clusterIn b) (cluster-held b h) still idles)
+      ∙ blank-out
+    where
+      still : eqb (getD b 0 0) 1 ≡ false
+      still = ap (λ (n : ℕ). eqb n 1) off
+
+      idles : idle (clusterIn b) ≡ true
+      idles =
+          sym (ap (λ (a : Bool). a || idle (clusterIn b)) still)
+          ∙ and-left (settled (clusterIn b)) _ (and-right (goodRecord b) _ t)
+
+  pub record-zero : length b ≡ recordBytes → ((i : ℕ) → Fits w8 (getD b i 0)) → (before : Map) (r : Bool)
+      → r ≡ zeros (part b readAt recordBytes) → RecordClaimed b before r before
+  record-zero long known before r e =
+      record {
+        told =
+            e ∙ tests-equal (zeros (part b readAt recordBytes)) (recordSound b before)
+            (λ t. ap (λ (l : List ℕ). recordSound l before) (zeros-blank long t) ∙ blank-sound before)
+            (λ t. ap (λ (l : List ℕ). zeros (part l readAt recordBytes))
+            (sound-blank (record { long = long; below = λ i. known i .fits }) before t) ∙ blank-zeros);
+        left = λ t.
+            vacant-leaves before
+            ∙ ap (λ (c : Cluster). stampedBy segments (placeOf (tableOf c)) before)
+            (sym (ap clusterIn (zeros-blank long (sym e ∙ t)) ∙ blank-in));
+      }

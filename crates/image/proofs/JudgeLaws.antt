@@ -1,0 +1,141 @@
+-- The code's passes over an image tell whether it is good and its store sound. Where the records of a node so far passed,
+-- the map is that of their segments (`Judged`); one that is refused leaves a map of which nothing is known, and the node is
+-- refused whatever follows. Record by record, passing is being good and being sound.
+-- Assumes nothing.
+use mathlib.Core.Path.{_≡_, refl, sym, ap, ap₂, _∙_, subst}
+use mathlib.Core.Bool.{Bool, true, false, _&&_}
+use mathlib.Core.List.{List}
+use Prim.Native.Nat.{ℕ, _+_, _/_, _%_, _≤_, _<_}
+use native.Mathlib.Omega.{arith}
+use lib.Dec.{eqb}
+use lib.ListN.{replicate}
+use Rattle.loops.specs.Below.{every}
+use Rattle.loops.proofs.BelowLaws.{and-left, and-right, and-off, tests-equal, every-at, every-in, every-same, every-both}
+use Rattle.loops.proofs.BelowLaws.{every-pair-at, every-pair-in}
+use Rattle.loops.proofs.RunningLaws.{Running, running-none, running-more, running-all, every-more}
+use Rattle.loops.proofs.TurnLaws.{turns-none, turns-more}
+use Rattle.sizes.specs.Sizes.{nodes, clusters, segments, records, memory}
+use Rattle.spans.specs.Spans.{marks}
+use Rattle.spans.proofs.SpanLaws.{marks-none}
+use Rattle.store.specs.declared.Cluster.{Cluster}
+use Rattle.store.specs.Records.{Tables, recordOf, tableOf, tableAt, placeOf, placeOn}
+use Rattle.store.specs.Sound.{settled, sound}
+use Rattle.store.specs.Passes.{Map, mapWords, stampedBy, claims, blank, nodeMap, clusterSound}
+use Rattle.store.proofs.ClaimLaws.{tested-told}
+use Rattle.image.specs.Parts.{slot}
+use Rattle.image.specs.Images.{recordBytes, clusterIn, goodRecord, storeIn, good}
+use Rattle.image.specs.Claims.{recordSound, RecordClaimed}
+use Rattle.image.proofs.ReadLaws.{cluster-at}
+
+module _ (b : List ℕ) where
+  abbrev tables : Tables
+  tables = tableAt (storeIn b)
+
+  abbrev bytesOf : ℕ → ℕ → List ℕ
+  bytesOf node l = slot recordBytes b (recordOf node l)
+
+  -- ---- the records of a node
+
+  -- record l of the node passes, after the segments of those before it
+  abbrev pub passes : ℕ → ℕ → Bool
+  passes node l = recordSound (slot recordBytes b (recordOf node l)) (nodeMap (tableAt (storeIn b)) node l)
+
+  -- l records of the node were judged
+  pub record Judged (node l : ℕ) (ok : Bool) (map : Map) : Type 0 where
+    pub told : Running clusters (passes node) l ok
+    pub left : ok ≡ true → map ≡ nodeMap tables node l
+
+  pub judged-none : (node : ℕ) → Judged node 0 true (marks (replicate mapWords 0))
+  unfolding nodeMap
+  judged-none node =
+      record {
+        told = running-none _ _;
+        left = λ t.
+            (λ j x. marks-none mapWords x j) ∙ sym (turns-none (λ m. stampedBy segments (placeOn tables node m)) blank);
+      }
+
+  module _ (node l : ℕ) (ok : Bool) (map : Map) (w : Judged node l ok map) where
+    pub judged-more : (r : Bool) (after : Map) → node < nodes → l < clusters
+        → RecordClaimed (slot recordBytes b (recordOf node l)) map r after → Judged node (l + 1) (r && ok) after
+    unfolding nodeMap
+    judged-more r after hv h e =
+        record {
+          told = telling ok (w .told) (w .left);
+          left = λ t.
+              e .left (and-left r ok t)
+              ∙ ap (stampedBy segments (placeOf (tableOf (clusterIn (bytesOf node l))))) (w .left (and-right r ok t))
+              ∙ ap (λ (c : Cluster). stampedBy segments (placeOf (tableOf c)) (nodeMap tables node l))
+              (sym (cluster-at b (recordOf node l) (omega arith)))
+              ∙ sym (turns-more l (λ m. stampedBy segments (placeOn tables node m)) blank);
+        }
+      where
+        telling : (t : Bool) → Running clusters (passes node) l t → (t ≡ true → map ≡ nodeMap tables node l)
+            → Running clusters (passes node) (l + 1) (r && t)
+        telling true q f =
+            running-more _ _ l true q r h (e .told ∙ ap (recordSound (bytesOf node l)) (f refl))
+        telling false q f =
+            let low = q .low in
+            record {
+              low = omega arith;
+              told =
+                  and-off r false refl
+                  ∙ sym (every-more l (passes node) ∙ and-off (passes node l) (every l (passes node)) (sym (q .told)));
+            }
+
+    pub judged-all : clusters ≤ l → ok ≡ every clusters (passes node)
+    judged-all h = running-all _ _ l ok (w .told) h
+
+  -- ---- the nodes
+
+  abbrev fine : ℕ → ℕ → Bool
+  fine node l = goodRecord (bytesOf node l)
+
+  abbrev sounds : ℕ → ℕ → Bool
+  sounds = clusterSound (storeIn b)
+
+  passes-is : (v m : ℕ) → v < nodes → m < clusters → passes v m ≡ fine v m && sounds v m
+  unfolding clusterSound
+  passes-is v m hv hm =
+      ap (λ (c : Cluster). fine v m && (settled c && claims segments (placeOf (tableOf c)) (nodeMap tables v m)))
+      (sym (cluster-at b (recordOf v m) (omega arith)))
+
+  abbrev allFine : Bool
+  allFine = every nodes (λ v. every clusters (fine v))
+
+  abbrev allSound : Bool
+  allSound = every nodes (λ v. every clusters (sounds v))
+
+  all-fine : allFine ≡ good b
+  unfolding good
+  all-fine =
+      tests-equal allFine (every records (λ n. goodRecord (slot recordBytes b n)))
+      (λ e. every-in records (λ n. goodRecord (slot recordBytes b n)) (λ n h.
+      subst (λ (k : ℕ). goodRecord (slot recordBytes b k) ≡ true) (split n)
+      (every-pair-at nodes clusters fine e (n / clusters) (n % clusters) (omega arith) (omega arith))))
+      (λ e. every-pair-in nodes clusters fine (λ v m hv hm.
+      every-at records (λ n. goodRecord (slot recordBytes b n)) e (recordOf v m) (omega arith)))
+    where
+      split : (n : ℕ) → recordOf (n / clusters) (n % clusters) ≡ n
+      split n = omega arith
+
+  both : every nodes (λ v. every clusters (passes v)) ≡ allFine && allSound
+  both =
+      every-same nodes (λ v. every clusters (passes v)) (λ v. every clusters (fine v) && every clusters (sounds v))
+      (λ v hv.
+      every-same clusters (passes v) (λ m. fine v m && sounds v m) (λ m hm. passes-is v m hv hm)
+      ∙ every-both clusters (fine v) (sounds v))
+      ∙ every-both nodes (λ v. every clusters (fine v)) (λ v. every clusters (sounds v))
+
+  swap : (x y z : Bool) → (x && (y && z)) ≡ y && (x && z)
+  swap true y z = refl
+  swap false true z = refl
+  swap false false z = refl
+
+  -- the loop over the nodes has come to its end
+  pub sound-told : (size node : ℕ) (ok : Bool) → Running nodes (λ v. every clusters (passes v)) node ok → nodes ≤ node
+      → (eqb size memory && ok) ≡ good b && sound (storeIn b) size
+  sound-told size node ok r h =
+      ap (λ (t : Bool). eqb size memory && t) (running-all _ _ node ok r h ∙ both)
+      ∙ swap (eqb size memory) allFine allSound
+      ∙ ap₂ (λ (x y : Bool). x && y) all-fine
+      (tested-told (storeIn b) size nodes allSound (record { low = omega arith; told = refl }) (omega arith))

@@ -1,0 +1,106 @@
+// Soundness straight on the bytes: no record is decoded. An inactive record is all zeros; the places of an active one are
+// marked in the map of its node.
+use crate::IMAGE;
+use crate::PLACE;
+use crate::PLACES_AT;
+use crate::READ_AT;
+use crate::RECORD;
+use crate::reading::word;
+use sizes::CLUSTERS;
+use sizes::MEMORY;
+use sizes::NODES;
+use sizes::SEGMENTS;
+use store::MAP_WORDS;
+ghost use mathlib.Core.Path.{_≡_};
+ghost use mathlib.Core.Bool.{_&&_};
+ghost use Prim.Native.Nat.{_*_};
+ghost use lib.ListN.{length};
+ghost use Rattle.sizes.specs.Sizes.{segments};
+ghost use Rattle.spans.specs.Spans.{marks};
+ghost use Rattle.store.specs.Sound as sound-spec;
+ghost use Rattle.store.specs.Passes.{mapWords};
+ghost use Rattle.image.specs.Images as images;
+ghost use Rattle.image.specs.Claims as claims;
+
+// Whether every byte is zero.
+fn zero(b: &[u8]) -> bool
+    ensures { λ r. ⌜ r ≡ claims.zeros (now (b .entry)) ⌝ }
+{
+    let mut ok = true;
+    let mut i: usize = 0;
+    while i < b.len() {
+        ok = (b[i] == 0) & ok;
+        i += 1;
+    }
+    ok
+}
+
+// Marks the place that four bytes hold: false if they hold none, or if it is out of range or meets one marked before.
+fn claim_place(b: &[u8], map: &mut [u64]) -> bool
+    requires { ⌜ (length (now b) ≡ images.placeBytes) × (length (now map) ≡ mapWords) ⌝ }
+    ensures { λ r. ⌜ claims.PlaceClaimed (now (b .entry)) (marks (now (map .entry))) r (marks (now (map .exit))) ⌝ }
+{
+    let start = word(b[0], b[1]);
+    let size = word(b[2], b[3]);
+    let base = start as usize;
+    let length = size as usize;
+    if length == 0 {
+        return base == 0;
+    }
+    let to = base + length;
+    spans::mark(map, base, to)
+}
+
+fn claim_places(b: &[u8], map: &mut [u64]) -> bool
+    requires { ⌜ (length (now b) ≡ segments * images.placeBytes) × (length (now map) ≡ mapWords) ⌝ }
+    ensures { λ r. ⌜ claims.PlacesClaimed (now (b .entry)) (marks (now (map .entry))) r (marks (now (map .exit))) ⌝ }
+{
+    let mut ok = true;
+    let mut i: usize = 0;
+    while i < SEGMENTS {
+        let from = i * PLACE;
+        let to = from + PLACE;
+        ok = claim_place(&b[from..to], map) & ok;
+        i += 1;
+    }
+    ok
+}
+
+// Whether the bytes are those of a sound store's record, as far as they and the map of the node tell.
+fn claim_record(b: &[u8], map: &mut [u64]) -> bool
+    requires { ⌜ (length (now b) ≡ images.recordBytes) × (length (now map) ≡ mapWords) ⌝ }
+    ensures { λ r. ⌜ claims.RecordClaimed (now (b .entry)) (marks (now (map .entry))) r (marks (now (map .exit))) ⌝ }
+{
+    let active = b[0];
+    if active == 0 {
+        return zero(&b[READ_AT..RECORD]);
+    }
+    if active != 1 {
+        return false;
+    }
+    claim_places(&b[PLACES_AT..RECORD], map)
+}
+
+// Whether the bytes hold a store, and one that is sound with a slice of `size` bytes.
+pub fn sound_in(image: &[u8; IMAGE], size: usize) -> bool
+    ensures { λ r. ⌜ r
+        ≡ (images.good (now (image .entry)) && sound-spec.sound (images.storeIn (now (image .entry))) size) ⌝ }
+{
+    let all = &image[..];
+    let mut ok = true;
+    let mut node: usize = 0;
+    while node < NODES {
+        let mut map = [0u64; MAP_WORDS];
+        let mut taken = true;
+        let mut local: usize = 0;
+        while local < CLUSTERS {
+            let from = (node * CLUSTERS + local) * RECORD;
+            let to = from + RECORD;
+            taken = claim_record(&all[from..to], &mut map) & taken;
+            local += 1;
+        }
+        ok = taken & ok;
+        node += 1;
+    }
+    (size == MEMORY) & ok
+}
