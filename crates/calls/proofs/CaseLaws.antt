@@ -18,7 +18,7 @@ use Rattle.calls.specs.Orders.{Order, orders, applies, OrdersGiven}
 use Rattle.calls.proofs.Computing.{computing, sounding}
 use Rattle.calls.proofs.StepLaws.{numberBelow, number-below}
 
-sample-sound : sound sample memory ≡ true
+pub sample-sound : sound sample memory ≡ true
 unfolding sounding
 sample-sound = refl
 

@@ -15,3 +15,4 @@ pub mod ValidWords
 pub mod TableLaws
 pub mod BoundLaws
 pub mod ReadWordLaws
+pub mod WrittenLaws

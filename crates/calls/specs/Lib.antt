@@ -8,4 +8,6 @@ pub mod Examples
 pub mod Cases
 pub mod Orders
 pub mod Bounds
+pub mod Literals
+pub mod Written
 pub mod Answers

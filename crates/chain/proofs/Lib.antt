@@ -3,3 +3,4 @@ pub mod PigeonholeLaws
 pub mod MeansLaws
 pub mod RecordLaws
 pub mod WalkLaws
+pub mod LiteralLaws

@@ -1,3 +1,4 @@
 pub mod Way
 pub mod Means
 pub mod Bytes
+pub mod Literals

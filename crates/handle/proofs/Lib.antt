@@ -6,3 +6,4 @@ pub mod CodecLaws
 pub mod CodeLaws
 pub mod WeakenLaws
 pub mod ExamplesHold
+pub mod LiteralLaws

@@ -1,5 +1,6 @@
 -- Document 01, "Conversion": the f of validation, weakening and reduction.
---     conversion p c    the AES-128 encryption, under the key p, of fifteen zero bytes and the byte c
+--     block c           fifteen zero bytes followed by the byte c
+--     conversion p c    the AES-128 encryption, under the key p, of that block
 --     product n p c     the product's conversion, at which contracts stand: of the cluster's name n, the password p and
 --                       the parameter c; it takes in no name
 -- Assumes nothing.
@@ -9,8 +10,11 @@ use lib.ListN.{replicate}
 use Rattle.aes.specs.Cipher.{cipher}
 use Rattle.handle.specs.Handles.{Name}
 
+abbrev pub block : ℕ → List ℕ
+block c = replicate 15 0 ++ (c ∷ [])
+
 unfoldable pub conversion : List ℕ → ℕ → List ℕ
-conversion p c = cipher p (replicate 15 0 ++ (c ∷ []))
+conversion p c = cipher p (block c)
 
 abbrev pub product : Name → List ℕ → ℕ → List ℕ
 product n p c = conversion p c

@@ -4,3 +4,4 @@ pub mod Handles
 pub mod Conversion
 pub mod Opens
 pub mod Examples
+pub mod Literals

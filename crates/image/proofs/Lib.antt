@@ -4,6 +4,7 @@ pub mod PlaceLaws
 pub mod RecordLaws
 pub mod TripLaws
 pub mod RangeLaws
+pub mod LiteralLaws
 pub mod ClaimLaws
 pub mod IdleLaws
 pub mod ReadLaws

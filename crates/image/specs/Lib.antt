@@ -2,3 +2,4 @@ pub mod Parts
 pub mod Images
 pub mod Claims
 pub mod Ranges
+pub mod Literals

@@ -5,13 +5,15 @@ use Rattle.handle.specs.Conversion.{product}
 use Rattle.handle.proofs.PasswordLaws.{length-conversion}
 use Rattle.isolation.specs.Copies.{SixteenBytes}
 use Rattle.isolation.specs.Statements.{SoundKept, TwoCopies, ReadersAlterNothing, Agreed}
-use Rattle.isolation.specs.Witness.{one, two, tries, Bites}
+use Rattle.isolation.specs.Witness.{one, two, tries, Concluded, Bites}
+use Rattle.isolation.specs.ReaderWitness.{Unharmed}
 use Rattle.isolation.specs.Checks.{ValidationJudges}
 use Rattle.isolation.proofs.KeptLaws.{sound-kept}
 use Rattle.isolation.proofs.TwoCopies.{two-copies}
 use Rattle.isolation.proofs.ReaderLaws.{readers-alter-nothing}
 use Rattle.isolation.proofs.CheckLaws.{validation-judges}
-use Rattle.isolation.proofs.WitnessLaws.{agreed, bites}
+use Rattle.isolation.proofs.WitnessLaws.{agreed, concluded, bites}
+use Rattle.isolation.proofs.ReaderWitnessLaws.{unharmed}
 
 pub aes-sixteen : SixteenBytes product
 aes-sixteen n = length-conversion
@@ -28,8 +30,14 @@ aes-readers-alter-nothing node local = readers-alter-nothing node local product
 pub aes-validation-judges : ValidationJudges product
 aes-validation-judges = validation-judges product aes-sixteen
 
-pub aes-agreed : Agreed 0 2 product tries one two
+pub aes-agreed : Agreed 0 2 product (tries product) one two
 aes-agreed = agreed product
+
+pub aes-concluded : Concluded product
+aes-concluded = concluded product
+
+pub aes-unharmed : Unharmed product
+aes-unharmed = unharmed product
 
 pub aes-bites : Bites product
 aes-bites = bites product

@@ -11,6 +11,8 @@ pub mod CheckLaws
 pub mod RunLaws
 pub mod ReplyLaws
 pub mod WitnessLaws
+pub mod ReaderWitnessLaws
 pub mod GivenLaws
 pub mod EffectLaws
+pub mod ReadLaws
 pub mod AesLaws

@@ -1,14 +1,18 @@
 -- A list run from a sound copy: soundness is kept, so at each call the first row does not apply and the number is that
--- of the rows below it.
+-- of the rows below it. So a test of each call on the copy that it gets is computed with these rows alone.
 -- Assumes nothing.
-use mathlib.Core.Path.{_≡_, refl, sym, ap, _∙_, subst}
+use mathlib.Core.Path.{_≡_, refl, ap, _∙_}
 use Prim.Native.Nat.{ℕ}
-use mathlib.Core.List.{List, [], _∷_}
+use mathlib.Core.Bool.{Bool, false, _||_}
+use mathlib.Core.List.{List, [], _∷_, _++_}
 use lib.ListN.{length}
 use Rattle.handle.specs.Handles.{Name}
+use Rattle.store.specs.declared.Store.{Store}
+use Rattle.store.specs.Records.{readMode, writeMode}
 use Rattle.calls.specs.Calls.{Copy, Call}
 use Rattle.calls.specs.Steps.{Outcome, Ran, followed, outcome, step, run}
-use Rattle.isolation.specs.Copies.{SoundCopy, Shut, AllShut}
+use Rattle.isolation.specs.Copies.{SoundCopy, keyed, AllShut, NoWriter}
+use Rattle.calls.proofs.CallLaws.{or-left, or-right}
 use Rattle.calls.proofs.StepLaws.{numberBelow, number-below}
 use Rattle.isolation.proofs.KeptLaws.{step-sound}
 
@@ -30,15 +34,47 @@ module _ (f : Name → List ℕ → ℕ → List ℕ) where
       ap (followed (step f x c .reply)) (run-below xs (step f x c .copy) (step-sound f x c k))
       ∙ ap (λ (o : Outcome). followed (o .reply) (runBelow xs (o .copy))) (step-below x c k)
 
-  module _ (node local : ℕ) where
-    abbrev pub ShutBelow : List Call → Copy → Type 0
-    ShutBelow [] c = Unit {0}
-    ShutBelow (x ∷ xs) c = Shut node local f x (c .store) × ShutBelow xs (stepBelow x c .copy)
+  -- a list and one call more
+  pub last-below : (xs : List Call) (x : Call) (c : Copy)
+      → runBelow (xs ++ (x ∷ [])) c
+      ≡ record {
+        replies = runBelow xs c .replies ++ (stepBelow x (runBelow xs c .copy) .reply ∷ []);
+        copy = stepBelow x (runBelow xs c .copy) .copy;
+      }
+  last-below [] x c = refl
+  last-below (y ∷ xs) x c = ap (followed (stepBelow y c .reply)) (last-below xs x (stepBelow y c .copy))
 
-    pub shut-below : (xs : List Call) (c : Copy) → SoundCopy c → ShutBelow xs c → AllShut node local f xs c
-    shut-below [] c k s = tt
-    shut-below (x ∷ xs) c k s = (
-      s .0,
-      shut-below xs (step f x c .copy) (step-sound f x c k)
-          (subst (λ (o : Outcome). ShutBelow xs (o .copy)) (sym (step-below x c k)) (s .1)),
-    )
+  -- some call of the list passes a test, on what the rows below the first make of a copy
+  abbrev pub someBelow : (Call → Store → Bool) → List Call → Copy → Bool
+  someBelow t [] c = false
+  someBelow t (x ∷ xs) c = t x (c .store) || someBelow t xs (stepBelow x c .copy)
+
+  some-rest : (t : Call → Store → Bool) (x : Call) (xs : List Call) (c : Copy) → SoundCopy c
+      → someBelow t (x ∷ xs) c ≡ false → someBelow t xs (step f x c .copy) ≡ false
+  some-rest t x xs c k e =
+      ap (λ (o : Outcome). someBelow t xs (o .copy)) (step-below x c k)
+      ∙ or-right (t x (c .store)) (someBelow t xs (stepBelow x c .copy)) e
+
+  module _ (node local : ℕ) where
+    abbrev pub isKeyed : Call → Store → Bool
+    isKeyed x s = keyed node local f readMode x s || keyed node local f writeMode x s
+
+    pub shut-below : (xs : List Call) (c : Copy) → SoundCopy c → someBelow isKeyed xs c ≡ false
+        → AllShut node local f xs c
+    shut-below [] c k e = tt
+    shut-below (x ∷ xs) c k e =
+        let q = or-left (isKeyed x (c .store)) (someBelow isKeyed xs (stepBelow x c .copy)) e in
+        let r = keyed node local f readMode x (c .store) in
+        let w = keyed node local f writeMode x (c .store) in (
+          (or-left r w q, or-right r w q),
+          shut-below xs (step f x c .copy) (step-sound f x c k) (some-rest isKeyed x xs c k e),
+        )
+
+    pub unwritten-below : (xs : List Call) (c : Copy) → SoundCopy c
+        → someBelow (keyed node local f writeMode) xs c ≡ false → NoWriter node local f xs c
+    unwritten-below [] c k e = tt
+    unwritten-below (x ∷ xs) c k e =
+        let t = keyed node local f writeMode in (
+          or-left (t x (c .store)) (someBelow t xs (stepBelow x c .copy)) e,
+          unwritten-below xs (step f x c .copy) (step-sound f x c k) (some-rest t x xs c k e),
+        )

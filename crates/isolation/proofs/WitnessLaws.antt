@@ -1,31 +1,45 @@
 -- The hypotheses of condition 3 are met by two differing copies, so the theorem applies to them. All is computed, but
 -- for the memory, whose bytes outside the segment are compared place by place.
 -- Assumes nothing.
-use mathlib.Core.List.{List}
-use mathlib.Core.Path.{_≡_, refl, sym, ap, _∙_}
-use Prim.Native.Nat.{ℕ, zero, suc}
+use mathlib.Core.Bool.{Bool, true, false, not, _||_, cond}
+use mathlib.Core.List.{List, [], _∷_, _++_}
+use mathlib.Core.Path.{_≡_, refl, sym, ap, _∙_, subst}
+use Prim.Native.Nat.{ℕ, zero, suc, _<_}
 use native.Mathlib.Omega.{arith}
-use lib.ListN.{getD}
+use lib.Dec.{eqb}
+use lib.ListN.{length, getD}
+use borrow.Author.Tests.{eq-eqb}
 use Rattle.bits.specs.Bytes.{bytes}
 use Rattle.loops.specs.Below.{every}
+use Rattle.loops.specs.Tabulate.{tabulate}
+use Rattle.loops.proofs.BelowLaws.{every-in}
+use Rattle.loops.proofs.TabulateLaws.{getD-tabulate}
 use Rattle.sizes.specs.Sizes.{memory}
 use Rattle.handle.specs.Handles.{Name}
-use Rattle.store.specs.Records.{startingStore, tableAt}
+use Rattle.handle.proofs.CodecLaws.{listed}
+use Rattle.store.specs.declared.Place.the-variants.{Present}
+use Rattle.store.specs.declared.Store.{Store}
+use Rattle.store.specs.declared.Cluster.{Cluster}
+use Rattle.store.specs.Records.{startingStore, started, tableAt, placeOn, putRecord, withPlace}
 use Rattle.store.specs.Sound.{inRanges, endsInside, inside, soundSegment, apart, nodeApart, zeroBytes, idle, settled}
 use Rattle.store.specs.Sound.{sound}
 use Rattle.store.proofs.ChangeLaws.{put-other}
-use Rattle.calls.specs.Steps.{Ran, effects}
-use Rattle.calls.specs.Steps.{run}
-use Rattle.isolation.specs.Copies.{SoundCopy, Outside, Alike, keyed}
+use Rattle.calls.specs.Calls.{Copy, handleOf}
+use Rattle.calls.specs.Steps.{Ran, effects, outcome, run}
+use Rattle.isolation.specs.Copies.{SixteenBytes, SoundCopy, InPlace, Outside, Alike, Held, keyed}
 use Rattle.isolation.specs.Statements.{Agreed}
-use Rattle.isolation.specs.Witness.{one, two, tries, answers, Witnessed, shown, Bites}
-use Rattle.calls.proofs.StepLaws.{number-below}
-use Rattle.isolation.proofs.RunLaws.{run-below, ShutBelow, shut-below}
-use Rattle.calls.specs.Numbers.{tests}
+use Rattle.calls.specs.Literals.{sixteen, none, told}
+use Rattle.isolation.specs.Witness.{one, two, weakGiven, weakShown, before, last, tries, answersBefore, answers}
+use Rattle.isolation.specs.Witness.{holding, Still, Witnessed, Concluded, shown, Bites}
+use Rattle.calls.proofs.StepLaws.{numberBelow, number-below}
+use Rattle.isolation.proofs.RunLaws.{stepBelow, runBelow, run-below, last-below, someBelow, isKeyed, shut-below}
+use Rattle.calls.specs.Numbers.{noPlace, badMode, badSegment, badSize, badField, gappedHandle, elsewhere, inUse, twins}
+use Rattle.calls.specs.Numbers.{inactiveCluster, valid, violated, notPrimary, notReferenced, oldPassword}
+use Rattle.calls.specs.Numbers.{segmentPresent, segmentAbsent, short, fullNode, spentHandle, tests}
 use Rattle.calls.proofs.Computing.{computing}
 use Rattle.isolation.proofs.TwoCopies.{two-copies}
 
-sound-one : SoundCopy one
+pub sound-one : SoundCopy one
 unfolding sound every soundSegment nodeApart settled idle zeroBytes apart inside inRanges endsInside
 sound-one = refl
 
@@ -50,61 +64,89 @@ alike =
     bytes-equal (suc (suc (suc zero))) out = absurd (out 5 (omega arith) (omega arith))
     bytes-equal (suc (suc (suc (suc p)))) out = refl
 
+pub four : (r w b p : ℕ) → p < 4 → getD (holding r w b .memory) p 0 ≡ b
+four r w b zero l = refl
+four r w b (suc zero) l = refl
+four r w b (suc (suc zero)) l = refl
+four r w b (suc (suc (suc zero))) l = refl
+four r w b (suc (suc (suc (suc p)))) l = absurd (omega arith)
+
+-- what is held has its passwords and bytes still
+still : (r w b : ℕ) (d : Copy) → Held 0 2 (holding r w b) d → Still d r w b
+still r w b d h =
+    record {
+      read = ap (λ (k : Cluster). k .read) (sym (h .cluster));
+      write = ap (λ (k : Cluster). k .write) (sym (h .cluster));
+      bytes = λ p l. sym (h .bytes p 5 (omega arith) (omega arith)) ∙ four r w b p l;
+    }
+
+-- the cluster of the other node
+abbrev other : Name
+other = record { node = 3; local = 2 }
+
 module _ (f : Name → List ℕ → ℕ → List ℕ) where
-  replies : run f tries one .replies ≡ answers
+  abbrev left : Copy
+  left = runBelow f (before f) one .copy
+
+  replies-before : runBelow f (before f) one .replies ≡ answersBefore f
   unfolding tests effects computing
-  replies = ap (λ (r : Ran). r .replies) (run-below f tries one sound-one) ∙ refl
+  replies-before = refl
+
+  -- the records before the last call: the other node's cluster has its segment
+  abbrev records : Store
+  records = putRecord (one .store) 26 (withPlace (started (sixteen 3) (sixteen 4)) 7 (Present 0 2))
+
+  records-before : left .store ≡ records
+  unfolding tests effects computing
+  records-before = refl
+
+  -- ---- the read with the weakened handle, whose password is what the chain gives, byte by byte
+
+  abbrev weakByte : ℕ → ℕ
+  weakByte k = getD (f other (sixteen 3) 128) k 0
+
+  valid-last : valid f 1 (handleOf (last f)) records ≡ true
+  unfolding valid computing tabulate
+  valid-last =
+      every-in 16 (λ k. eqb (weakByte k) (getD (tabulate 16 weakByte) k 0))
+      (λ k h.
+      eq-eqb (weakByte k) (getD (tabulate 16 weakByte) k 0) (sym (getD-tabulate 16 weakByte 0 k h)))
+
+  not-violated : violated f (last f) records ≡ false
+  unfolding violated
+  not-violated = ap (λ (b : Bool). not b || false) valid-last
+
+  number-last : (size : ℕ) → numberBelow f (last f) records size ≡ 0
+  unfolding noPlace badMode badSegment badSize badField gappedHandle elsewhere inUse twins inactiveCluster notPrimary
+      notReferenced oldPassword segmentPresent segmentAbsent short fullNode spentHandle computing tabulate
+  number-last size = ap (λ (b : Bool). cond {A = ℕ} b 9 0) not-violated
+
+  step-last : stepBelow f (last f) left ≡ record { copy = left; reply = told 0 none none 0 2 (8 ∷ 9 ∷ 3 ∷ []) }
+  unfolding tests effects computing tabulate
+  step-last =
+      ap (λ (s : Store). outcome f (numberBelow f (last f) s (length (left .memory))) (last f) left) records-before
+      ∙ ap (λ (n : ℕ). outcome f n (last f) left) (number-last (length (left .memory)))
+      ∙ refl
+
+  ended : run f (tries f) one ≡ record { replies = answers f; copy = left }
+  ended =
+      run-below f (tries f) one sound-one
+      ∙ last-below f (before f) (last f) one
+      ∙ (λ j. record { replies = replies-before j ++ (step-last j .reply ∷ []); copy = step-last j .copy })
 
   -- no call is keyed, on what the rows below the first make of a copy
-  below-one : ShutBelow f 0 2 tries one
-  unfolding keyed tests effects computing
-  below-one = (
-    (refl, refl),
-    (
-      (refl, refl),
-      (
-        (refl, refl),
-        (
-          (refl, refl),
-          (
-            (refl, refl),
-            (
-              (refl, refl),
-              (
-                (refl, refl),
-                ((refl, refl), tt),
-              ),
-            ),
-          ),
-        ),
-      ),
-    ),
-  )
+  unkeyed-one : someBelow f (isKeyed f 0 2) (tries f) one ≡ false
+  unfolding keyed tests effects computing tabulate
+  unkeyed-one = refl
 
-  below-two : ShutBelow f 0 2 tries two
-  unfolding keyed tests effects computing
-  below-two = (
-    (refl, refl),
-    (
-      (refl, refl),
-      (
-        (refl, refl),
-        (
-          (refl, refl),
-          (
-            (refl, refl),
-            (
-              (refl, refl),
-              (
-                (refl, refl),
-                ((refl, refl), tt),
-              ),
-            ),
-          ),
-        ),
-      ),
-    ),
-  )
+  unkeyed-two : someBelow f (isKeyed f 0 2) (tries f) two ≡ false
+  unfolding keyed tests effects computing tabulate
+  unkeyed-two = refl
+
+  weak : SixteenBytes f → weakGiven f ≡ weakShown f
+  weak gives =
+      ap (λ (p : List ℕ). 0 ∷ 3 ∷ 2 ∷ (p ++ (128 ∷ 255 ∷ 255 ∷ 255 ∷ [])))
+      (listed 16 (f other (sixteen 3) 128) (gives other (sixteen 3) 128))
 
   pub witnessed : Witnessed f
   witnessed =
@@ -113,16 +155,33 @@ module _ (f : Name → List ℕ → ℕ → List ℕ) where
         sound-two = sound-two;
         active = refl;
         alike = alike;
-        shut-one = shut-below f 0 2 tries one sound-one below-one;
-        shut-two = shut-below f 0 2 tries two sound-two below-two;
-        replies = replies;
+        shut-one = shut-below f 0 2 (tries f) one sound-one unkeyed-one;
+        shut-two = shut-below f 0 2 (tries f) two sound-two unkeyed-two;
+        replies = ap (λ (r : Ran). r .replies) ended;
+        weak = weak;
       }
 
   -- condition 3 at the two copies
-  pub agreed : Agreed 0 2 f tries one two
+  pub agreed : Agreed 0 2 f (tries f) one two
   agreed =
-      two-copies 0 2 f (omega arith) (omega arith) tries one two sound-one sound-two refl alike
+      two-copies 0 2 f (omega arith) (omega arith) (tries f) one two sound-one sound-two refl alike
       (witnessed .shut-one) (witnessed .shut-two)
+
+  -- a byte of the other node's segment
+  in-other : InPlace 3 (placeOn (tableAt (run f (tries f) one .copy .store)) 3 2 7) 12289
+  in-other =
+      subst (λ (s : Store). InPlace 3 (placeOn (tableAt s) 3 2 7) 12289)
+      (sym (ap (λ (r : Ran). r .copy .store) ended ∙ records-before)) (omega arith)
+
+  pub concluded : Concluded f
+  concluded =
+      record {
+        replies = sym (agreed .replies) ∙ ap (λ (r : Ran). r .replies) ended;
+        other-record = agreed .alike .others 26 (λ e. omega arith);
+        other-byte = agreed .others 3 2 7 12289 (omega arith) (omega arith) (omega arith) (λ e. omega arith) in-other;
+        still-one = still 17 34 7 (run f (tries f) one .copy) (agreed .held-first);
+        still-two = still 1 2 9 (run f (tries f) two .copy) (agreed .held-second);
+      }
 
   pub bites : Bites f
   unfolding tests computing

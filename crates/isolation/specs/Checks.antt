@@ -40,7 +40,8 @@ use Rattle.calls.specs.Calls.{handleOf, buffer, recordNamed}
 use Rattle.calls.specs.Numbers.{valid, rows, number}
 use Rattle.calls.specs.Clear.{Clear}
 use Rattle.calls.specs.Numbers.{Line, at}
-use Rattle.calls.specs.Steps.{weakenReply, plain, step}
+use Rattle.calls.specs.Steps.{weakenReply, step}
+use Rattle.calls.specs.Literals.{none, told}
 
 -- ---- unused arguments
 
@@ -77,7 +78,7 @@ module _ (f : Name → List ℕ → ℕ → List ℕ) where
 
   pub record Refused (x : Call) (c : Copy) : Type 0 where
     pub copy : step f x c .copy ≡ c
-    pub reply : step f x c .reply ≡ plain (number f x (c .store) (length (c .memory))) (buffer x)
+    pub reply : step f x c .reply ≡ told (number f x (c .store) (length (c .memory))) none none 0 0 (buffer x)
 
   abbrev pub RefusalChangesNothing : Type 0
   RefusalChangesNothing = (x : Call) (c : Copy) → number f x (c .store) (length (c .memory)) ≢ 0 → Refused x c

@@ -1,34 +1,44 @@
--- Condition 3 is not empty, and it bites. The cluster set apart is local number 2 of node 0, with a segment of four bytes;
--- the shorthands for calls are those of the computed lists.
+-- Condition 3 is not empty, and it bites. The cluster set apart is local number 2 of node 0, with a segment of four bytes.
+-- Handles and answers are written out, and no call shown here is left out of condition 3's lists.
 --     holding r w b       a copy in which its passwords are sixteen r and sixteen w, and its four bytes b
 --     one, two            two such copies that differ in all of these
---     tries               calls that name the cluster with wrong handles, weaken its handle, or are about another one
---     answers             what both copies answer
 --     shown               a read with the read primary handle of the copy one
--- For every conversion f, since no handle shown here is converted:
+-- For every conversion f:
+--     weakPassword        what the parameter 128 turns the read password of local number 2 of node 3 into
+--     weakGiven           the bytes of the handle with that password, whose subselector 0 is 128
+--     weakShown           with the first sixteen bytes of that password; the same, where f gives sixteen bytes
+--     before              each of the nine calls and validation with a handle of the cluster that does not validate, all
+--                         refused, and a weakening of one that does; each of them done for a cluster of the same node;
+--                         and some for one with the same local number, whose read handle is weakened
+--     last                a read with the weakened handle
+--     tries, answers      all these calls, and what both copies answer
 --     Witnessed           the copies and the list meet each hypothesis of condition 3, and the answers are computed
---     Bites               that read is done on the copy one and refused with 9 on the other
+--     Concluded           what condition 3 says of them: the other copy gives these answers too; the record and a byte
+--                         of the last cluster, record 26, are equal in the end; and each copy has its passwords and
+--                         bytes still
+--     Bites               the read shown is done on the copy one and refused with 9 on the other
 -- Assumes nothing.
 use mathlib.Core.Path.{_≡_}
-use Prim.Native.Nat.{ℕ, _-_}
+use Prim.Native.Nat.{ℕ, _-_, _<_}
 use mathlib.Core.Bool.{true}
-use mathlib.Core.List.{List, [], _∷_}
-use lib.ListN.{replicate}
-use Rattle.sizes.specs.Sizes.{segments, memory}
-use Rattle.handle.specs.Selectors.{flats}
+use mathlib.Core.List.{List, [], _∷_, _++_}
+use lib.ListN.{getD, replicate}
+use Rattle.loops.specs.Tabulate.{tabulate}
+use Rattle.sizes.specs.Sizes.{memory}
 use Rattle.handle.specs.Handles.{Name}
 use Rattle.store.specs.declared.Place.the-variants.{Present}
-use Rattle.store.specs.Records.{startingStore, started, recordOf, tableAt, putRecord, withPlace}
-use Rattle.calls.specs.Calls.{Copy, Call, makingCluster, deletingCluster, makingSegment, reading, weakeningBy, validating}
+use Rattle.store.specs.Records.{startingStore, started, recordOf, clusterAt, tableAt, putRecord, withPlace}
+use Rattle.calls.specs.Calls.{Copy, Call, makingCluster, deletingCluster, makingSegment, deletingSegment, reading}
+use Rattle.calls.specs.Calls.{writing, weakeningBy, reducing, renewing, validating}
 use Rattle.calls.specs.Numbers.{number}
-use Rattle.calls.specs.Steps.{Reply, zeroHandle, plain, handles, readReply, run}
-use Rattle.isolation.specs.Copies.{SoundCopy, setApart, Alike, AllShut}
-use Rattle.calls.specs.Cases as C
+use Rattle.calls.specs.Steps.{Reply, run}
+use Rattle.calls.specs.Literals.{sixteen, handle, primary, none, told}
+use Rattle.isolation.specs.Copies.{SixteenBytes, SoundCopy, setApart, Alike, AllShut}
 
-abbrev holding : ℕ → ℕ → ℕ → Copy
+abbrev pub holding : ℕ → ℕ → ℕ → Copy
 holding r w b =
     record {
-      store = putRecord startingStore (recordOf 0 2) (withPlace (started (C.sixteen r) (C.sixteen w)) 5 (Present 0 4));
+      store = putRecord startingStore (recordOf 0 2) (withPlace (started (sixteen r) (sixteen w)) 5 (Present 0 4));
       memory = b ∷ b ∷ b ∷ b ∷ replicate (memory - 4) 0;
     }
 
@@ -38,37 +48,97 @@ one = holding 17 34 7
 abbrev pub two : Copy
 two = holding 1 2 9
 
-abbrev primary : ℕ → ℕ → List ℕ
-primary l b = C.shown 0 l b (flats segments)
-
-abbrev pub tries : List Call
-tries =
-    reading 5 (primary 2 5) (replicate 6 9)
-    ∷ deletingCluster 0 (primary 2 5)
-    ∷ makingCluster 0 2 (C.sixteen 3) (C.sixteen 4)
-    ∷ weakeningBy 255 (primary 2 17)
-    ∷ makingCluster 0 3 (C.sixteen 3) (C.sixteen 4)
-    ∷ makingSegment 0 0 2 (primary 3 4)
-    ∷ reading 0 (primary 3 3) (replicate 3 9)
-    ∷ validating 2 (primary 2 4)
-    ∷ []
-
-abbrev pub answers : List Reply
-answers =
-    plain 9 (replicate 6 9)
-    ∷ plain 9 []
-    ∷ plain 6 []
-    ∷ handles (primary 2 17) zeroHandle 8
-    ∷ handles (primary 3 3) (primary 3 4) 0
-    ∷ plain 0 []
-    ∷ readReply 2 (0 ∷ 0 ∷ 9 ∷ [])
-    ∷ plain 9 []
-    ∷ []
-
 abbrev pub shown : Call
-shown = reading 5 (primary 2 17) (replicate 6 9)
+shown = reading 5 (primary 0 2 17) (replicate 6 9)
+
+-- what a copy that was holding these passwords and bytes has still
+pub record Still (c : Copy) (r w b : ℕ) : Type 0 where
+  pub read : clusterAt (c .store) 2 .read ≡ sixteen r
+  pub write : clusterAt (c .store) 2 .write ≡ sixteen w
+  pub bytes : (p : ℕ) → p < 4 → getD (c .memory) p 0 ≡ b
 
 module _ (f : Name → List ℕ → ℕ → List ℕ) where
+  abbrev weakPassword : List ℕ
+  weakPassword = f (record { node = 3; local = 2 }) (sixteen 3) 128
+
+  abbrev pub weakGiven : List ℕ
+  weakGiven = 0 ∷ 3 ∷ 2 ∷ (weakPassword ++ (128 ∷ 255 ∷ 255 ∷ 255 ∷ []))
+
+  abbrev pub weakShown : List ℕ
+  weakShown = 0 ∷ 3 ∷ 2 ∷ (tabulate 16 (λ k. getD weakPassword k 0) ++ (128 ∷ 255 ∷ 255 ∷ 255 ∷ []))
+
+  abbrev pub before : List Call
+  before =
+      -- the cluster set apart
+      makingCluster 0 2 (sixteen 3) (sixteen 4)
+      ∷ deletingCluster 0 (primary 0 2 5)
+      ∷ makingSegment 0 1 4 (primary 0 2 5)
+      ∷ deletingSegment 0 5 (primary 0 2 5)
+      ∷ reading 5 (primary 0 2 5) (replicate 6 9)
+      ∷ writing 5 (primary 0 2 5) (replicate 5 8)
+      ∷ weakeningBy 0 (handle 0 2 17 (255 ∷ 254 ∷ 255 ∷ 255 ∷ []))
+      ∷ weakeningBy 255 (primary 0 2 17)
+      ∷ reducing 1 (primary 0 2 5)
+      ∷ renewing 1 (primary 0 2 5) (sixteen 6)
+      ∷ validating 2 (primary 0 2 5)
+      -- a cluster of the same node
+      ∷ makingCluster 0 3 (sixteen 3) (sixteen 4)
+      ∷ makingSegment 0 7 2 (primary 0 3 4)
+      ∷ writing 7 (primary 0 3 4) (5 ∷ 6 ∷ 7 ∷ [])
+      ∷ reading 7 (primary 0 3 3) (9 ∷ 9 ∷ 9 ∷ [])
+      ∷ weakeningBy 255 (primary 0 3 3)
+      ∷ reducing 2 (primary 0 3 4)
+      ∷ renewing 2 (primary 0 3 4) (sixteen 6)
+      ∷ validating 2 (primary 0 3 6)
+      ∷ deletingSegment 0 7 (primary 0 3 6)
+      ∷ deletingCluster 0 (primary 0 3 6)
+      -- a cluster with the same local number
+      ∷ makingCluster 3 2 (sixteen 3) (sixteen 4)
+      ∷ makingSegment 3 7 2 (primary 3 2 4)
+      ∷ writing 7 (primary 3 2 4) (8 ∷ 9 ∷ [])
+      ∷ weakeningBy 128 (primary 3 2 3)
+      ∷ []
+
+  abbrev pub last : Call
+  last = reading 7 weakShown (1 ∷ 2 ∷ 3 ∷ [])
+
+  abbrev pub tries : List Call
+  tries = before ++ (last ∷ [])
+
+  abbrev pub answersBefore : List Reply
+  answersBefore =
+      told 6 none none 0 0 []
+      ∷ told 9 none none 0 0 []
+      ∷ told 9 none none 0 0 []
+      ∷ told 9 none none 0 0 []
+      ∷ told 9 none none 0 0 (9 ∷ 9 ∷ 9 ∷ 9 ∷ 9 ∷ 9 ∷ [])
+      ∷ told 9 none none 0 0 (8 ∷ 8 ∷ 8 ∷ 8 ∷ 8 ∷ [])
+      ∷ told 4 none none 0 0 []
+      ∷ told 0 (primary 0 2 17) none 8 0 []
+      ∷ told 9 none none 0 0 []
+      ∷ told 9 none none 0 0 []
+      ∷ told 9 none none 0 0 []
+      -- a cluster of the same node
+      ∷ told 0 (primary 0 3 3) (primary 0 3 4) 0 0 []
+      ∷ told 0 none none 0 0 []
+      ∷ told 0 none none 0 0 (5 ∷ 6 ∷ 7 ∷ [])
+      ∷ told 0 none none 0 2 (5 ∷ 6 ∷ 9 ∷ [])
+      ∷ told 0 (primary 0 3 3) none 8 0 []
+      ∷ told 0 (primary 0 3 4) none 0 0 []
+      ∷ told 0 (primary 0 3 6) none 0 0 []
+      ∷ told 0 none none 0 0 []
+      ∷ told 0 none none 0 0 []
+      ∷ told 0 none none 0 0 []
+      -- a cluster with the same local number
+      ∷ told 0 (primary 3 2 3) (primary 3 2 4) 0 0 []
+      ∷ told 0 none none 0 0 []
+      ∷ told 0 none none 0 0 (8 ∷ 9 ∷ [])
+      ∷ told 0 weakGiven none 1 0 []
+      ∷ []
+
+  abbrev pub answers : List Reply
+  answers = answersBefore ++ (told 0 none none 0 2 (8 ∷ 9 ∷ 3 ∷ []) ∷ [])
+
   pub record Witnessed : Type 0 where
     pub sound-one : SoundCopy one
     pub sound-two : SoundCopy two
@@ -77,6 +147,14 @@ module _ (f : Name → List ℕ → ℕ → List ℕ) where
     pub shut-one : AllShut 0 2 f tries one
     pub shut-two : AllShut 0 2 f tries two
     pub replies : run f tries one .replies ≡ answers
+    pub weak : SixteenBytes f → weakGiven ≡ weakShown
+
+  pub record Concluded : Type 0 where
+    pub replies : run f tries two .replies ≡ answers
+    pub other-record : clusterAt (run f tries one .copy .store) 26 ≡ clusterAt (run f tries two .copy .store) 26
+    pub other-byte : getD (run f tries one .copy .memory) 12289 0 ≡ getD (run f tries two .copy .memory) 12289 0
+    pub still-one : Still (run f tries one .copy) 17 34 7
+    pub still-two : Still (run f tries two .copy) 1 2 9
 
   pub record Bites : Type 0 where
     pub done : number f shown (one .store) memory ≡ 0

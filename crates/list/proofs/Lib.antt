@@ -8,3 +8,4 @@ pub mod RoomLaws
 pub mod RunLaws
 pub mod OutputLaws
 pub mod MeaningLaws
+pub mod LiteralLaws

@@ -3,3 +3,4 @@ pub mod Runs
 pub mod Texts
 pub mod Meanings
 pub mod Loops
+pub mod Literals

@@ -6,10 +6,10 @@ use Rattle.vectors.proofs.main.Statement.{statement}
 use Rattle.vectors.proofs.main.Tie as tie
 
 abbrev Inv-loop : tie.InvT-loop
-Inv-loop key round₀ t7 t8 round = round ≤ 11
+Inv-loop key round₀ t7 t8 t9 round = round ≤ 11
 
 abbrev μ-loop : tie.MeasureT-loop
-μ-loop key round₀ t7 t8 round = 11 - round
+μ-loop key round₀ t7 t8 t9 round = 11 - round
 
 pub main-spec : {M : Type 1} → statement M
 main-spec =
@@ -31,6 +31,9 @@ main-spec =
     (λ c κs. search needs)
     (λ c. search needs)
     (λ c κs. search needs)
+    (λ c κs. search needs)
+    (λ c κs. search needs)
+    (λ c. search needs)
     (λ c κs. search needs)
     (λ c κs. search needs)
     (λ c. search needs))

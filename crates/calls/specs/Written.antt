@@ -1,0 +1,45 @@
+-- Document 01, "The calls", the column "Done, it gives and leaves": the whole reply of a call of every kind, done, and of
+-- one refused, written out. The conversion and the store are those of the numbers' lists.
+--     held               a copy of that store: its segment of three bytes, the first of node 1, has 7, 8, 9
+--     Answered, tells    a call and its whole reply
+--     answered           the calls and their replies
+--     EachAnswered       they get these replies, each on that copy
+-- Assumes nothing.
+use mathlib.Core.Path.{_≡_}
+use mathlib.Core.List.{List, [], _∷_, _++_, map}
+use lib.ListN.{replicate}
+use Rattle.calls.specs.Calls.{Copy, Call, makingCluster, deletingCluster, makingSegment, deletingSegment, reading}
+use Rattle.calls.specs.Calls.{writing, weakeningBy, reducing, renewing, validating}
+use Rattle.calls.specs.Steps.{Reply, step}
+use Rattle.calls.specs.Cases.{added, sample}
+use Rattle.calls.specs.Literals.{sixteen, handle, primary, none, told}
+
+abbrev pub held : Copy
+held = record { store = sample; memory = replicate 4096 0 ++ (7 ∷ 8 ∷ 9 ∷ replicate 12285 0) }
+
+pub record Answered : Type 0 where
+  pub call : Call
+  pub reply : Reply
+
+abbrev tells : Call → Reply → Answered
+tells x r = record { call = x; reply = r }
+
+abbrev pub answered : List Answered
+answered =
+    tells (makingCluster 1 3 (sixteen 5) (sixteen 6)) (told 0 (primary 1 3 5) (primary 1 3 6) 0 0 [])
+    ∷ tells (deletingCluster 1 (primary 1 2 4)) (told 0 none none 0 0 [])
+    ∷ tells (makingSegment 1 6 2 (primary 1 2 4)) (told 0 none none 0 0 [])
+    ∷ tells (deletingSegment 1 5 (primary 1 2 4)) (told 0 none none 0 0 [])
+    ∷ tells (reading 5 (primary 1 2 3) (1 ∷ 2 ∷ 3 ∷ 4 ∷ [])) (told 0 none none 0 3 (7 ∷ 8 ∷ 9 ∷ 4 ∷ []))
+    ∷ tells (writing 5 (primary 1 2 4) (1 ∷ 2 ∷ 3 ∷ 4 ∷ [])) (told 0 none none 0 0 (1 ∷ 2 ∷ 3 ∷ 4 ∷ []))
+    ∷ tells (weakeningBy 48 (primary 1 2 3)) (told 0 (handle 1 2 51 (48 ∷ 255 ∷ 255 ∷ 255 ∷ [])) none 2 0 [])
+    ∷ tells (reducing 1 (handle 1 2 67 (48 ∷ 16 ∷ 255 ∷ 255 ∷ [])))
+    (told 0 (handle 1 2 19 (16 ∷ 255 ∷ 255 ∷ 255 ∷ [])) none 0 0 [])
+    ∷ tells (renewing 2 (primary 1 2 4) (sixteen 5)) (told 0 (primary 1 2 5) none 0 0 [])
+    ∷ tells (validating 2 (primary 1 2 4)) (told 0 none none 0 0 [])
+    ∷ tells (reading 5 (primary 1 2 4) (1 ∷ 2 ∷ 3 ∷ 4 ∷ [])) (told 9 none none 0 0 (1 ∷ 2 ∷ 3 ∷ 4 ∷ []))
+    ∷ []
+
+abbrev pub EachAnswered : Type 0
+EachAnswered =
+    map (λ (a : Answered). step added (a .call) held .reply) answered ≡ map (λ (a : Answered). a .reply) answered

@@ -1,0 +1,15 @@
+-- The bytes written out are those of the definitions, which are computed.
+-- Assumes nothing.
+use mathlib.Core.Path.{refl}
+use Rattle.bits.specs.Bytes.{bytes, wordFrom, word}
+use Rattle.loops.specs.Below.{every}
+use Rattle.loops.specs.Tabulate.{tabulate}
+use Rattle.image.specs.Parts.{joined}
+use Rattle.image.specs.Images.{placeIn, goodPlace, segmentsIn, goodPlaces, clusterIn, goodRecord, storeIn, good}
+use Rattle.image.specs.Images.{placeOut, placesOut, recordOut, imageOf}
+use Rattle.image.specs.Literals.{ImageBytes}
+
+pub image-bytes : ImageBytes
+unfolding bytes wordFrom word every tabulate joined placeIn goodPlace segmentsIn goodPlaces clusterIn goodRecord storeIn
+    good placeOut placesOut recordOut imageOf
+image-bytes = record { image = refl; store = refl; good = refl }

@@ -1,0 +1,42 @@
+-- The list is computed, and that readers alter nothing is applied to it.
+-- Assumes nothing.
+use mathlib.Core.Path.{_≡_, refl, sym, ap, _∙_}
+use Prim.Native.Nat.{ℕ}
+use native.Mathlib.Omega.{arith}
+use mathlib.Core.Bool.{false}
+use mathlib.Core.List.{List}
+use Rattle.handle.specs.Handles.{Name}
+use Rattle.store.specs.Records.{Table, placeOf, writeMode}
+use Rattle.calls.specs.Numbers.{tests}
+use Rattle.calls.specs.Steps.{Ran, effects, run}
+use Rattle.calls.proofs.Computing.{computing}
+use Rattle.isolation.specs.Copies.{Unaltered, keyed}
+use Rattle.isolation.specs.Witness.{one}
+use Rattle.isolation.specs.ReaderWitness.{looks, seen, LooksAlone, Unharmed}
+use Rattle.isolation.proofs.RunLaws.{run-below, someBelow, unwritten-below}
+use Rattle.isolation.proofs.ReaderLaws.{readers-alter-nothing}
+use Rattle.isolation.proofs.WitnessLaws.{sound-one, four}
+
+module _ (f : Name → List ℕ → ℕ → List ℕ) where
+  unwritten : someBelow f (keyed 0 2 f writeMode) looks one ≡ false
+  unfolding keyed tests effects computing
+  unwritten = refl
+
+  replies : run f looks one .replies ≡ seen
+  unfolding tests effects computing
+  replies = ap (λ (r : Ran). r .replies) (run-below f looks one sound-one) ∙ refl
+
+  pub looks-alone : LooksAlone f
+  looks-alone = record { no-writer = unwritten-below f 0 2 looks one sound-one unwritten; replies = replies }
+
+  pub unaltered : Unaltered 0 2 one (run f looks one .copy)
+  unaltered =
+      readers-alter-nothing 0 2 f (omega arith) (omega arith) looks one sound-one refl (looks-alone .no-writer)
+
+  pub unharmed : Unharmed f
+  unharmed =
+      record {
+        place = ap (λ (t : Table). placeOf t 5) (sym (unaltered .table));
+        write = sym (unaltered .write);
+        bytes = λ p l. sym (unaltered .bytes p 5 (omega arith) (omega arith)) ∙ four 17 34 7 p l;
+      }

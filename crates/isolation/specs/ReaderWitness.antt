@@ -1,0 +1,83 @@
+-- That readers alter nothing is not empty: a list of calls by a holder of the read primary handle of the cluster set apart,
+-- on the copy `one` of the witness of condition 3. Handles and answers are written out.
+--     looks              calls 5, 7, 8, 9 and validation done with that handle, and a read with the handle that call 9
+--                        gave; each call that writes, and a new write password, tried with it and refused; and the same
+--                        calls done for another cluster with its write primary handle
+--     seen               what is answered
+-- For every conversion f:
+--     LooksAlone         no call shows a handle of the cluster that validates for writing, and the answers are computed
+--     Unharmed           what the theorem says of it: in the end the segment has its place and its bytes still, and the
+--                        write password is what it was
+-- Assumes nothing.
+use mathlib.Core.Path.{_≡_}
+use Prim.Native.Nat.{ℕ, _<_}
+use mathlib.Core.List.{List, [], _∷_}
+use lib.ListN.{getD}
+use Rattle.handle.specs.Handles.{Name}
+use Rattle.store.specs.declared.Place.the-variants.{Present}
+use Rattle.store.specs.Records.{clusterAt, tableAt, placeOn}
+use Rattle.calls.specs.Calls.{Call, makingCluster, deletingCluster, makingSegment, deletingSegment, reading}
+use Rattle.calls.specs.Calls.{writing, weakeningBy, reducing, renewing, validating}
+use Rattle.calls.specs.Steps.{Reply, run}
+use Rattle.calls.specs.Literals.{sixteen, primary, none, told}
+use Rattle.isolation.specs.Copies.{NoWriter}
+use Rattle.isolation.specs.Witness.{one}
+
+abbrev pub looks : List Call
+looks =
+    -- with the read handle of the cluster
+    reading 5 (primary 0 2 17) (1 ∷ 2 ∷ 3 ∷ 4 ∷ 5 ∷ [])
+    ∷ weakeningBy 255 (primary 0 2 17)
+    ∷ reducing 1 (primary 0 2 17)
+    ∷ validating 1 (primary 0 2 17)
+    ∷ validating 2 (primary 0 2 17)
+    ∷ makingCluster 0 2 (sixteen 3) (sixteen 4)
+    ∷ deletingCluster 0 (primary 0 2 17)
+    ∷ makingSegment 0 1 4 (primary 0 2 17)
+    ∷ deletingSegment 0 5 (primary 0 2 17)
+    ∷ writing 5 (primary 0 2 17) (6 ∷ 6 ∷ 6 ∷ 6 ∷ [])
+    ∷ renewing 2 (primary 0 2 17) (sixteen 6)
+    ∷ renewing 1 (primary 0 2 17) (sixteen 18)
+    ∷ reading 5 (primary 0 2 18) (1 ∷ 2 ∷ 3 ∷ 4 ∷ [])
+    -- with the write handle of another
+    ∷ makingCluster 0 3 (sixteen 3) (sixteen 4)
+    ∷ makingSegment 0 5 2 (primary 0 3 4)
+    ∷ writing 5 (primary 0 3 4) (6 ∷ 6 ∷ [])
+    ∷ renewing 2 (primary 0 3 4) (sixteen 6)
+    ∷ deletingSegment 0 5 (primary 0 3 6)
+    ∷ deletingCluster 0 (primary 0 3 6)
+    ∷ []
+
+abbrev pub seen : List Reply
+seen =
+    told 0 none none 0 4 (7 ∷ 7 ∷ 7 ∷ 7 ∷ 5 ∷ [])
+    ∷ told 0 (primary 0 2 17) none 8 0 []
+    ∷ told 0 (primary 0 2 17) none 0 0 []
+    ∷ told 0 none none 0 0 []
+    ∷ told 9 none none 0 0 []
+    ∷ told 6 none none 0 0 []
+    ∷ told 9 none none 0 0 []
+    ∷ told 9 none none 0 0 []
+    ∷ told 9 none none 0 0 []
+    ∷ told 9 none none 0 0 (6 ∷ 6 ∷ 6 ∷ 6 ∷ [])
+    ∷ told 9 none none 0 0 []
+    ∷ told 0 (primary 0 2 18) none 0 0 []
+    ∷ told 0 none none 0 4 (7 ∷ 7 ∷ 7 ∷ 7 ∷ [])
+    -- with the write handle of another
+    ∷ told 0 (primary 0 3 3) (primary 0 3 4) 0 0 []
+    ∷ told 0 none none 0 0 []
+    ∷ told 0 none none 0 0 (6 ∷ 6 ∷ [])
+    ∷ told 0 (primary 0 3 6) none 0 0 []
+    ∷ told 0 none none 0 0 []
+    ∷ told 0 none none 0 0 []
+    ∷ []
+
+module _ (f : Name → List ℕ → ℕ → List ℕ) where
+  pub record LooksAlone : Type 0 where
+    pub no-writer : NoWriter 0 2 f looks one
+    pub replies : run f looks one .replies ≡ seen
+
+  pub record Unharmed : Type 0 where
+    pub place : placeOn (tableAt (run f looks one .copy .store)) 0 2 5 ≡ Present 0 4
+    pub write : clusterAt (run f looks one .copy .store) 2 .write ≡ sixteen 34
+    pub bytes : (p : ℕ) → p < 4 → getD (run f looks one .copy .memory) p 0 ≡ 7

@@ -1,0 +1,219 @@
+-- Document 01, "The list of calls", written out: records by numbers and whole outputs by text, with no definition between.
+--     pattern                   a record of 64 bytes, of which no two are equal
+--     patternCall bs            the arguments that it encodes, with the bytes bs
+--     patternData               a write's data in it: twenty bytes
+--     FieldsAt                  they are its code and arguments, for a read and for a write; the call that each code names
+--     sampleList, sampleText    the sample of document 01, its three records and its whole output
+--     codesList, codesText      calls of all nine codes done, one refused, a bad code, a data length of 33
+--     fullList, fullText        a segment of the highest node, local number and number, as long as the node's memory, read
+--     handled                   a record with the fields in its first eight bytes, the primary handle of node 1 and local
+--                               number 4 with sixteen bytes b, and what stands where the passwords do
+--     Printed, prints           a list and its whole output
+--     printed                   an empty list; lists refused for their length, one of 256 records among them; with 19 and
+--                               with 20; a bad code; the last of 255 records
+--     OutputsPrinted            they are the outputs
+-- Assumes nothing.
+use Prim.Native.Nat.{ℕ}
+use Prim.Native.String.{String}
+use mathlib.Core.Path.{_≡_}
+use mathlib.Core.List.{List, [], _∷_, _++_, map}
+use mathlib.Core.Option.{Option, none, some}
+use lib.ListN.{replicate}
+use Rattle.calls.specs.Calls.{Arguments, Kind, newCluster, deleteCluster, newSegment, deleteSegment, read, write, weaken}
+use Rattle.calls.specs.Calls.{reduce, newPassword}
+use Rattle.lines.specs.Text.{ascii}
+use Rattle.list.specs.Records.{codeOf, kindOf, argumentsOf}
+use Rattle.list.specs.Texts.{output}
+
+-- ---- the fields of a record
+
+abbrev pub pattern : List ℕ
+pattern =
+    (64 ∷ 65 ∷ 66 ∷ 67 ∷ 68 ∷ 20 ∷ 70 ∷ 71 ∷ [])
+    ++ (72 ∷ 73 ∷ 74 ∷ 75 ∷ 76 ∷ 77 ∷ 78 ∷ 79 ∷ 80 ∷ 81 ∷ 82 ∷ 83 ∷ 84 ∷ 85 ∷ 86 ∷ 87 ∷ 88 ∷ 89 ∷ 90 ∷ 91 ∷ 92 ∷ [])
+    ++ (93 ∷ 94 ∷ 95 ∷ [])
+    ++ (96 ∷ 97 ∷ 98 ∷ 99 ∷ 100 ∷ 101 ∷ 102 ∷ 103 ∷ 104 ∷ 105 ∷ 106 ∷ 107 ∷ 108 ∷ 109 ∷ 110 ∷ 111 ∷ [])
+    ++ (112 ∷ 113 ∷ 114 ∷ 115 ∷ 116 ∷ 117 ∷ 118 ∷ 119 ∷ 120 ∷ 121 ∷ 122 ∷ 123 ∷ 124 ∷ 125 ∷ 126 ∷ 127 ∷ [])
+
+-- with the bytes of a buffer, or a write's data
+abbrev patternCall : List ℕ → Arguments
+patternCall bs =
+    record {
+      current = 66;
+      local = 68;
+      mode = 67;
+      segment = 68;
+      size = 17991;
+      mask = 68;
+      handle =
+          72
+          ∷ 73
+          ∷ 74
+          ∷ 75
+          ∷ 76
+          ∷ 77
+          ∷ 78
+          ∷ 79
+          ∷ 80
+          ∷ 81
+          ∷ 82
+          ∷ 83
+          ∷ 84
+          ∷ 85
+          ∷ 86
+          ∷ 87
+          ∷ 88
+          ∷ 89
+          ∷ 90
+          ∷ 91
+          ∷ 92
+          ∷ 93
+          ∷ 94
+          ∷ [];
+      first = 96 ∷ 97 ∷ 98 ∷ 99 ∷ 100 ∷ 101 ∷ 102 ∷ 103 ∷ 104 ∷ 105 ∷ 106 ∷ 107 ∷ 108 ∷ 109 ∷ 110 ∷ 111 ∷ [];
+      second = 112 ∷ 113 ∷ 114 ∷ 115 ∷ 116 ∷ 117 ∷ 118 ∷ 119 ∷ 120 ∷ 121 ∷ 122 ∷ 123 ∷ 124 ∷ 125 ∷ 126 ∷ 127 ∷ [];
+      bytes = bs;
+    }
+
+abbrev patternData : List ℕ
+patternData =
+    (96 ∷ 97 ∷ 98 ∷ 99 ∷ 100 ∷ 101 ∷ 102 ∷ 103 ∷ 104 ∷ 105 ∷ 106 ∷ 107 ∷ 108 ∷ 109 ∷ 110 ∷ 111 ∷ [])
+    ++ (112 ∷ 113 ∷ 114 ∷ 115 ∷ [])
+
+pub record FieldsAt : Type 0 where
+  pub code : codeOf pattern ≡ 65
+  pub reading : (b : List ℕ) → argumentsOf read pattern b ≡ patternCall b
+  pub writing : (b : List ℕ) → argumentsOf write pattern b ≡ patternCall patternData
+  pub kinds : map kindOf (0 ∷ 1 ∷ 2 ∷ 3 ∷ 4 ∷ 5 ∷ 6 ∷ 7 ∷ 8 ∷ 9 ∷ 10 ∷ [])
+      ≡ none
+      ∷ some newCluster
+      ∷ some deleteCluster
+      ∷ some newSegment
+      ∷ some deleteSegment
+      ∷ some read
+      ∷ some write
+      ∷ some weaken
+      ∷ some reduce
+      ∷ some newPassword
+      ∷ none
+      ∷ []
+
+-- ---- whole outputs
+
+abbrev pub sampleList : List ℕ
+sampleList =
+    -- record 1
+    (3 ∷ 1 ∷ 0 ∷ 0 ∷ 2 ∷ 0 ∷ 0 ∷ 0 ∷ [])
+    ++ replicate 24 0
+    ++ replicate 16 0x11
+    ++ replicate 16 0x22
+    -- record 2
+    ++ (0 ∷ 5 ∷ 0 ∷ 0 ∷ 5 ∷ 0 ∷ 0 ∷ 0 ∷ [])
+    ++ (0 ∷ 0 ∷ 2 ∷ [])
+    ++ replicate 16 0x11
+    ++ replicate 4 0xff
+    ++ replicate 33 0
+    -- record 3
+    ++ (2 ∷ 3 ∷ 0 ∷ 0 ∷ 5 ∷ 0 ∷ 0 ∷ 4 ∷ [])
+    ++ (0 ∷ 0 ∷ 2 ∷ [])
+    ++ replicate 16 0x22
+    ++ replicate 4 0xff
+    ++ replicate 33 0
+
+abbrev sampleText : List ℕ
+sampleText =
+    ascii "1 1 0 00000211111111111111111111111111111111ffffffff 00000222222222222222222222222222222222ffffffff\n"
+    ++ ascii "3 3 0\n"
+    ++ ascii "2 5 0 00000000\n"
+    ++ ascii "end 3\n"
+
+abbrev handled : List ℕ → ℕ → List ℕ → List ℕ
+handled fields b rest = fields ++ (0 ∷ 1 ∷ 4 ∷ []) ++ replicate 16 b ++ replicate 4 0xff ++ (0 ∷ []) ++ rest
+
+abbrev codesList : List ℕ
+codesList =
+    (2 ∷ 1 ∷ 1 ∷ 0 ∷ 4 ∷ 0 ∷ 0 ∷ 0 ∷ [])
+    ++ replicate 24 0
+    ++ replicate 16 0x11
+    ++ replicate 16 0x22
+    ++ handled (3 ∷ 3 ∷ 1 ∷ 0 ∷ 6 ∷ 0 ∷ 0 ∷ 3 ∷ []) 0x22 (replicate 32 0)
+    ++ handled (4 ∷ 6 ∷ 0 ∷ 0 ∷ 6 ∷ 4 ∷ 0 ∷ 0 ∷ []) 0x22 (0xde ∷ 0xad ∷ 0xbe ∷ 0xef ∷ replicate 28 0)
+    ++ handled (5 ∷ 5 ∷ 0 ∷ 0 ∷ 6 ∷ 0 ∷ 0 ∷ 0 ∷ []) 0x11 (replicate 32 0)
+    ++ handled (6 ∷ 7 ∷ 0 ∷ 0 ∷ 255 ∷ 0 ∷ 0 ∷ 0 ∷ []) 0x11 (replicate 32 0)
+    ++ handled (7 ∷ 8 ∷ 0 ∷ 2 ∷ 0 ∷ 0 ∷ 0 ∷ 0 ∷ []) 0x22 (replicate 32 0)
+    ++ handled (8 ∷ 9 ∷ 0 ∷ 1 ∷ 0 ∷ 0 ∷ 0 ∷ 0 ∷ []) 0x11 (replicate 16 0x33 ++ replicate 16 0)
+    ++ handled (9 ∷ 5 ∷ 0 ∷ 0 ∷ 6 ∷ 0 ∷ 0 ∷ 0 ∷ []) 0x11 (replicate 32 0)
+    ++ handled (10 ∷ 4 ∷ 1 ∷ 0 ∷ 6 ∷ 0 ∷ 0 ∷ 0 ∷ []) 0x22 (replicate 32 0)
+    ++ handled (11 ∷ 2 ∷ 1 ∷ 0 ∷ 0 ∷ 0 ∷ 0 ∷ 0 ∷ []) 0x22 (replicate 32 0)
+    ++ handled (12 ∷ 10 ∷ 0 ∷ 0 ∷ 0 ∷ 0 ∷ 0 ∷ 0 ∷ []) 0x22 (replicate 32 0)
+    ++ handled (0 ∷ 6 ∷ 0 ∷ 0 ∷ 6 ∷ 33 ∷ 0 ∷ 0 ∷ []) 0x22 (replicate 32 0)
+
+abbrev codesText : List ℕ
+codesText =
+    ascii "1 1 0 00010411111111111111111111111111111111ffffffff 00010422222222222222222222222222222222ffffffff\n"
+    ++ ascii "2 3 0\n"
+    ++ ascii "3 6 0\n"
+    ++ ascii "4 5 0 deadbe\n"
+    ++ ascii "5 7 0 00010411111111111111111111111111111111ffffffff 8\n"
+    ++ ascii "6 8 0 00010422222222222222222222222222222222ffffffff\n"
+    ++ ascii "7 9 0 00010433333333333333333333333333333333ffffffff\n"
+    ++ ascii "8 5 9\n"
+    ++ ascii "9 4 0\n"
+    ++ ascii "10 2 0\n"
+    ++ ascii "11 10 3\n"
+    ++ ascii "12 6 3\n"
+    ++ ascii "end 12\n"
+
+abbrev fullList : List ℕ
+fullList =
+    -- record 1
+    (2 ∷ 1 ∷ 3 ∷ 0 ∷ 7 ∷ 0 ∷ 0 ∷ 0 ∷ [])
+    ++ replicate 24 0
+    ++ replicate 16 0x11
+    ++ replicate 16 0x22
+    -- record 2
+    ++ (3 ∷ 3 ∷ 3 ∷ 0 ∷ 7 ∷ 0 ∷ 16 ∷ 0 ∷ [])
+    ++ (0 ∷ 3 ∷ 7 ∷ [])
+    ++ replicate 16 0x22
+    ++ replicate 4 0xff
+    ++ replicate 33 0
+    -- record 3
+    ++ (0 ∷ 5 ∷ 0 ∷ 0 ∷ 7 ∷ 0 ∷ 0 ∷ 0 ∷ [])
+    ++ (0 ∷ 3 ∷ 7 ∷ [])
+    ++ replicate 16 0x11
+    ++ replicate 4 0xff
+    ++ replicate 33 0
+
+-- 48 is the digit 0
+abbrev fullText : List ℕ
+fullText =
+    ascii "1 1 0 00030711111111111111111111111111111111ffffffff 00030722222222222222222222222222222222ffffffff\n"
+    ++ ascii "2 3 0\n"
+    ++ ascii "3 5 0 "
+    ++ replicate 8192 48
+    ++ ascii "\nend 3\n"
+
+pub record Printed : Type 0 where
+  pub list : List ℕ
+  pub text : String
+
+abbrev prints : List ℕ → String → Printed
+prints l s = record { list = l; text = s }
+
+abbrev pub printed : List Printed
+printed =
+    prints [] "end 0\n"
+    ∷ prints (0 ∷ []) "list 18\n"
+    ∷ prints (replicate 63 0) "list 18\n"
+    ∷ prints (replicate 16384 0) "list 18\n"
+    ∷ prints (2 ∷ replicate 63 0) "list 19\n"
+    ∷ prints (1 ∷ replicate 63 0) "list 20\n"
+    ∷ prints (replicate 64 0) "1 0 3\nend 1\n"
+    ∷ prints (255 ∷ replicate 16319 0) "1 0 3\n255 0 3\nend 2\n"
+    ∷ []
+
+pub record OutputsPrinted : Type 0 where
+  pub sample : output sampleList ≡ sampleText
+  pub codes : output codesList ≡ codesText
+  pub full : output fullList ≡ fullText
+  pub others : map (λ (p : Printed). output (p .list)) printed ≡ map (λ (p : Printed). ascii (p .text)) printed
