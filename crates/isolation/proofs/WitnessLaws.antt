@@ -1,5 +1,6 @@
--- The hypotheses of condition 3 are met by two differing copies, so the theorem applies to them. All is computed, but
--- for the memory, whose bytes outside the segment are compared place by place.
+-- The hypotheses of condition 3 are met by two differing copies, so the theorem applies to them. All is computed, but for
+-- the memory, whose bytes outside the segment are compared place by place, and for the last call: its handle's password is
+-- an open conversion's, and equals what the chain gives byte by byte.
 -- Assumes nothing.
 use mathlib.Core.Bool.{Bool, true, false, not, _||_, cond}
 use mathlib.Core.List.{List, [], _∷_, _++_}
@@ -9,7 +10,6 @@ use native.Mathlib.Omega.{arith}
 use lib.Dec.{eqb}
 use lib.ListN.{length, getD}
 use borrow.Author.Tests.{eq-eqb}
-use Rattle.bits.specs.Bytes.{bytes}
 use Rattle.loops.specs.Below.{every}
 use Rattle.loops.specs.Tabulate.{tabulate}
 use Rattle.loops.proofs.BelowLaws.{every-in}
