@@ -26,7 +26,7 @@ use Rattle.refusals.specs.Rows.{sharedRows}
 use Rattle.refusals.specs.Given.{Given}
 use Rattle.refusals.proofs.AfterLaws.{first-append}
 use Rattle.refusals.proofs.GivenLaws.{judged, shown, found, by-given, shared-numbered}
-use Rattle.cluster.specs.Access.{accessRows, accessed}
+use Rattle.cluster.specs.inner.Access.{accessRows, accessed}
 use Rattle.cluster.proofs.NumberLaws.{number-read, number-write}
 use Rattle.cluster.proofs.CoreLaws.{refused-alone}
 use Rattle.cluster.proofs.AccessLaws.{access-there, access-inside}
