@@ -53,3 +53,7 @@ bytes-wordFrom (b ∷ bs) h k high =
 pub bytes-word : (bs : List ℕ) → ((i : ℕ) → getD bs i 0 < 256) → bytes (length bs) (word bs) ≡ bs
 unfolding bytes word
 bytes-word bs h = ap (λ (n : ℕ). bytes n (word bs)) (sym (add-zero (length bs))) ∙ bytes-wordFrom bs h 0 0
+
+pub word-two : (high low : ℕ) → high * 256 + low ≡ word (high ∷ low ∷ [])
+unfolding word wordFrom
+word-two high low = omega arith

@@ -16,7 +16,7 @@ use Rattle.handle.specs.Handles.{Name, widthOf}
 use Rattle.store.specs.declared.Store.{Store}
 use Rattle.store.specs.Records.{tableAt, readMode, writeMode, lengthOf}
 use Rattle.numbers.specs.Numbers.{noRoomNumber}
-use Rattle.store.specs.Placement.{answered, newBase, placement}
+use Rattle.store.specs.Placement.{placedAt, newBase, placement}
 use Rattle.calls.specs.Calls.{Call, call, Arguments, newCluster, newSegment, write, opens}
 use Rattle.calls.specs.Calls.{needed, handleOf, nodeFor, localFor, recordFor, recordNamed, placeFor}
 use Rattle.calls.specs.Numbers.{unsound, noPlace, badMode, badSegment, badSize, badField, gappedHandle, elsewhere}
@@ -30,7 +30,7 @@ use Rattle.calls.proofs.CallLaws.{or-left, or-right, InRange, in-range,
 use Rattle.calls.proofs.CallLaws.{record-is, ungapped-is, inactive-is, violated-is}
 
 -- what placement tells, where it does not tell that there is no room
-placed : (o : Option ℕ) → eqb (answered o .number) noRoomNumber ≡ false → o ≡ some (answered o .base)
+placed : (o : Option ℕ) → eqb (placedAt o .number) noRoomNumber ≡ false → o ≡ some (placedAt o .base)
 placed none e = absurd (true≢false e)
 placed (some b) e = refl
 

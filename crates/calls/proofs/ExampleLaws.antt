@@ -14,11 +14,11 @@ use Rattle.store.specs.Examples as P
 use Rattle.store.specs.Examples.{twoSegments}
 use Rattle.calls.specs.Numbers.{number, tests}
 use Rattle.calls.proofs.Computing.{computing}
-use Rattle.calls.specs.Examples.{Example, examples, answer}
+use Rattle.calls.specs.Examples.{Example, examples, tells}
 
 pub examples-hold : (f : Name → List ℕ → ℕ → List ℕ) (password first : List ℕ) (mask : ℕ) (s : Store) (size : ℕ)
-    → map (λ (e : Example). answer f password first mask s size (e .asked)) (examples f password first mask s size)
+    → map (λ (e : Example). tells f password first mask s size (e .asked)) (examples f password first mask s size)
     ≡ map (λ (e : Example). e .told) (examples f password first mask s size)
-unfolding examples answer S.examples S.answer P.examples twoSegments weakenNumber reduced weakening sound soundSegment
+unfolding examples tells S.examples S.tells P.examples twoSegments weakenNumber reduced weakening sound soundSegment
     nodeApart settled idle zeroBytes number tests computing
 examples-hold f password first mask s size = refl

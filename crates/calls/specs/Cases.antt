@@ -35,19 +35,19 @@ added n p c = replicate passwordBytes (getD p 0 0 + c)
 
 -- ---- the calls
 
-abbrev sixteen : ℕ → List ℕ
+abbrev pub sixteen : ℕ → List ℕ
 sixteen b = replicate passwordBytes b
 
-abbrev shown : ℕ → ℕ → ℕ → List ℕ → List ℕ
+abbrev pub shown : ℕ → ℕ → ℕ → List ℕ → List ℕ
 shown v l b ss = encoded (record { node = v; local = l; password = sixteen b; selector = ss })
 
 -- ---- the numbers
 
-abbrev primary : ℕ → List ℕ
+abbrev pub primary : ℕ → List ℕ
 primary b = shown 1 2 b (flats segments)
 
 -- its password is that of the primary handle and 32, the parameter that keeps segment 5
-abbrev weak : ℕ → List ℕ
+abbrev pub weak : ℕ → List ℕ
 weak b = shown 1 2 (b + 32) (inFirst segments 32)
 
 -- a handle that references segment 6 alone

@@ -2,8 +2,8 @@
 -- mask where document 01 names none. The rows on selectors and on placement are those of the handle and the store
 -- crate; P6, P8 and P13 stand there as answers, and here once more as the numbers that whole calls get.
 --     Question            what is asked of a selector, of placement, or the number of a call on a store
---     Answer              what is told
---     Example, answer     a question and what is told; what the definitions answer
+--     Told                what is told
+--     Example, tells      a question and what is told; what the definitions tell
 --     shown ss            the bytes of the handle of node 0 and local number 2 with the selector ss, its password zero
 --     weakening m ss      call 7 with the mask m and a handle with the selector ss
 --     making n            call 3 for n bytes on node 0, with the write primary handle of local number 2
@@ -18,7 +18,7 @@ use Rattle.handle.specs.Handles.{Name, encoded}
 use Rattle.handle.specs.Examples as S
 use Rattle.store.specs.declared.Store.{Store}
 use Rattle.numbers.specs.Numbers.{noRoomNumber, gappedNumber, spentNumber}
-use Rattle.store.specs.Placement.{Answer as Placed}
+use Rattle.store.specs.Placement.{Placed}
 use Rattle.store.specs.Examples as P
 use Rattle.calls.specs.Calls.{Call, makingSegment, weakeningBy}
 use Rattle.calls.specs.Numbers.{number}
@@ -28,17 +28,17 @@ pub data Question : Type 0 where
   placing : P.Example → Question
   numbering : Call → Store → ℕ → Question
 
-pub data Answer : Type 0 where
-  selected : S.Answer → Answer
-  placed : Placed → Answer
-  refused : ℕ → Answer
+pub data Told : Type 0 where
+  selected : S.Told → Told
+  placed : Placed → Told
+  refused : ℕ → Told
 
 pub record Example : Type 0 where
   pub asked : Question
-  pub told : Answer
+  pub told : Told
 
-abbrev row : Question → Answer → Example
-row q a = record { asked = q; told = a }
+abbrev asks : Question → Told → Example
+asks q a = record { asked = q; told = a }
 
 abbrev shown : List ℕ → List ℕ
 shown ss = encoded (record { node = 0; local = 2; password = replicate passwordBytes 0; selector = ss })
@@ -53,25 +53,25 @@ module _ (f : Name → List ℕ → ℕ → List ℕ) (password first : List ℕ
   -- P1 to P9
   abbrev selectors : List Example
   selectors =
-      map (λ (e : S.Example). row (selecting (e .asked)) (selected (e .told)))
+      map (λ (e : S.Example). asks (selecting (e .asked)) (selected (e .told)))
       (S.examples (f (record { node = 0; local = 2 })) password first mask)
 
   -- P10 to P14
   abbrev places : List Example
-  places = map (λ (e : P.Example). row (placing e) (placed (e .answer))) P.examples
+  places = map (λ (e : P.Example). asks (placing e) (placed (e .told))) P.examples
 
   -- P6 and P8, whatever the store; P13
   abbrev pub refusals : List Example
   refusals =
-      row (numbering (weakening mask (0xff ∷ 0xfe ∷ 0xff ∷ 0xff ∷ [])) s size) (refused gappedNumber)
-      ∷ row (numbering (weakening 239 (0xfe ∷ 0xfd ∷ 0xfb ∷ 0xf7 ∷ [])) s size) (refused spentNumber)
-      ∷ row (numbering (making 3937) P.twoSegments memory) (refused noRoomNumber)
+      asks (numbering (weakening mask (0xff ∷ 0xfe ∷ 0xff ∷ 0xff ∷ [])) s size) (refused gappedNumber)
+      ∷ asks (numbering (weakening 239 (0xfe ∷ 0xfd ∷ 0xfb ∷ 0xf7 ∷ [])) s size) (refused spentNumber)
+      ∷ asks (numbering (making 3937) P.twoSegments memory) (refused noRoomNumber)
       ∷ []
 
   unfoldable pub examples : List Example
   examples = selectors ++ places ++ refusals
 
-  unfoldable pub answer : Question → Answer
-  answer (selecting q) = selected (S.answer (f (record { node = 0; local = 2 })) password first mask q)
-  answer (placing e) = placed (P.told e)
-  answer (numbering x s size) = refused (number f x s size)
+  unfoldable pub tells : Question → Told
+  tells (selecting q) = selected (S.tells (f (record { node = 0; local = 2 })) password first mask q)
+  tells (placing e) = placed (P.tells e)
+  tells (numbering x s size) = refused (number f x s size)

@@ -27,7 +27,7 @@ use Rattle.refusals.specs.Rows.{sharedRows, after}
 use Rattle.refusals.specs.Given.{recordFound}
 use Rattle.refusals.proofs.AfterLaws.{after-told, after-zero}
 use Rattle.refusals.proofs.GivenLaws.{judged, shown, found, Passed, found-is, shared-passed, shared-field}
-use Rattle.cluster.specs.Access.{accessRows, accessed, Reaches}
+use Rattle.cluster.specs.inner.Access.{accessRows, accessed, Reaches}
 
 -- ---- the rows of the code, return by return
 

@@ -13,7 +13,7 @@ use Rattle.store.specs.declared.Place.the-variants.{Present}
 use Rattle.store.specs.declared.Cluster.{Cluster}
 use Rattle.store.specs.Records.{withPlace}
 use Rattle.calls.specs.Steps.{overwritten}
-use Rattle.cluster.specs.Makes.{CanMake, Made}
+use Rattle.cluster.specs.inner.Makes.{CanMake, Made}
 use Rattle.cluster.proofs.CopyLaws.{put-is}
 
 -- ---- the loop over the part

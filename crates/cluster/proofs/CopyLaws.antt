@@ -10,7 +10,7 @@ use lib.Seq.{getD-set-same, getD-set-other, ext-getD, length-take-le}
 use borrow.Author.Count.{below-none, below-more}
 use borrow.Rule.Slice.PartMut.{putMid, post-is}
 use Rattle.calls.specs.Steps.{overwritten}
-use Rattle.cluster.specs.Access.{Reaches}
+use Rattle.cluster.specs.inner.Access.{Reaches}
 
 -- ---- the loop
 

@@ -24,7 +24,7 @@ use Rattle.store.specs.declared.Found.{Found}
 use Rattle.store.specs.declared.Found.the-variants.{At, Nowhere}
 use Rattle.store.specs.Records.{Tables, tableOf, clusterAt, tableAt, placeOf, putRecord, withPlace, address}
 use Rattle.store.specs.Sound.{isAbsent}
-use Rattle.store.specs.Placement.{Answer, roomAt, answered, newBase, placement, answer}
+use Rattle.store.specs.Placement.{Placed, roomAt, placedAt, newBase, placement, placedBy}
 use Rattle.store.proofs.PlaceLaws.{Inside, inside-out}
 use Rattle.store.proofs.PlacementLaws.{Fits, newBase-fits}
 use Rattle.store.proofs.SoundLaws.{sound-out}
@@ -39,7 +39,7 @@ use Rattle.refusals.specs.Rows.{row, ownerRows, after}
 use Rattle.refusals.specs.Given.{Given, recordFound, put}
 use Rattle.refusals.proofs.AfterLaws.{after-told, after-zero, first-append}
 use Rattle.refusals.proofs.GivenLaws.{judged, shown, found, by-given, Passed, owner-numbered, owner-passed}
-use Rattle.cluster.specs.Makes.{badFields, makeRows, canMake, CanMake, Made}
+use Rattle.cluster.specs.inner.Makes.{badFields, makeRows, canMake, CanMake, Made}
 use Rattle.cluster.proofs.NumberLaws.{number-new-segment}
 use Rattle.cluster.proofs.CoreLaws.{above, refused-alone, refused-record}
 use Rattle.cluster.proofs.ChangeLaws.{owner-there}
@@ -124,9 +124,9 @@ placement-inside : (ts : Tables) (node size base : ℕ) → roomAt base ≡ plac
 unfolding placement
 placement-inside ts node size base e = inside-out base size (go (newBase ts node size) refl e .within)
   where
-    go : (o : Option ℕ) → newBase ts node size ≡ o → roomAt base ≡ answered o → Fits ts node size base
-    go none q e = absurd (above 15 (sym (ap (λ (a : Answer). a .number) e)))
-    go (some k) q e = newBase-fits ts node size base (q ∙ ap some (sym (ap (λ (a : Answer). a .base) e)))
+    go : (o : Option ℕ) → newBase ts node size ≡ o → roomAt base ≡ placedAt o → Fits ts node size base
+    go none q e = absurd (above 15 (sym (ap (λ (a : Placed). a .number) e)))
+    go (some k) q e = newBase-fits ts node size base (q ∙ ap some (sym (ap (λ (a : Placed). a .base) e)))
 
 -- ---- the call
 
@@ -141,7 +141,7 @@ module _ (s : Store) (m b : List ℕ) (current segment size : ℕ) where
   Rows sd h c = firstOf (makeRows sd h c current segment size)
 
   -- what is left is the number of placement
-  abbrev room : Answer → ℕ
+  abbrev room : Placed → ℕ
   room a = cond (eqb (a .number) noRoomNumber) 16 0
 
   told : number product x s (length m)
@@ -171,38 +171,38 @@ module _ (s : Store) (m b : List ℕ) (current segment size : ℕ) where
     passed : Passed (judged s m b) k
     passed = owner-passed (judged s m b) k (found s m b) current (badFields segment size) owner
 
-    only : (f : Found) → answer f ≡ placement (tableAt s) (nodeOf k) size → (g : Found) → f ≡ g
-        → number product x s (length m) ≡ room (answer g)
+    only : (f : Found) → placedBy f ≡ placement (tableAt s) (nodeOf k) size → (g : Found) → f ≡ g
+        → number product x s (length m) ≡ room (placedBy g)
     only f ef g e =
-        told ∙ ap₂ (λ (i : ℕ) (a : Answer). after i (room a)) z (sym ef ∙ ap answer e)
+        told ∙ ap₂ (λ (i : ℕ) (a : Placed). after i (room a)) z (sym ef ∙ ap placedBy e)
 
-    can : (f : Found) → answer f ≡ placement (tableAt s) (nodeOf k) size → (base : ℕ) → f ≡ At base
+    can : (f : Found) → placedBy f ≡ placement (tableAt s) (nodeOf k) size → (base : ℕ) → f ≡ At base
         → CanMake (length m) (nodeOf k) base size
     can f ef base eb =
         record {
           whole = sound-out s (length m) (not-false (judged s m b) (passed .sound)) .whole;
           known = leb-false nodes (nodeOf k) (or-left (leb nodes (nodeOf k)) (leb clusters (k .local)) (passed .place));
-          ends = placement-inside (tableAt s) (nodeOf k) size base (sym (ap answer eb) ∙ ef) .ends;
+          ends = placement-inside (tableAt s) (nodeOf k) size base (sym (ap placedBy eb) ∙ ef) .ends;
         }
 
-  abbrev Placed : Handle → Found → Type 0
-  Placed h f = answer f ≡ placement (tableAt s) (nodeOf h) size
+  abbrev Finds : Handle → Found → Type 0
+  Finds h f = placedBy f ≡ placement (tableAt s) (nodeOf h) size
 
   abbrev Ends : Handle → RecordLeft → List ℕ → Type 0
   Ends h r after = ended (put h (r .cluster) s) after (r .answer) [] ≡ aesStep x (copyOf s m)
 
   abbrev Full : Bool → Handle → Cluster → Type 0
   Full sd h c =
-      Rows sd h c ≡ 0 → (f : Found) → Placed h f → f ≡ Nowhere → (r : RecordLeft) → r ≡ recordAlone c 16 → Ends h r m
+      Rows sd h c ≡ 0 → (f : Found) → Finds h f → f ≡ Nowhere → (r : RecordLeft) → r ≡ recordAlone c 16 → Ends h r m
 
   abbrev Beyond : Bool → Handle → Cluster → Type 0
   Beyond sd h c =
-      Rows sd h c ≡ 0 → (f : Found) → Placed h f → (base : ℕ) → f ≡ At base → (v : ℕ) → v ≡ nodeOf h
+      Rows sd h c ≡ 0 → (f : Found) → Finds h f → (base : ℕ) → f ≡ At base → (v : ℕ) → v ≡ nodeOf h
       → (t : Bool) → t ≡ canMake (length m) v base size → not t ≡ true → (r : RecordLeft) → r ≡ recordAlone c 1 → Ends h r m
 
   abbrev Makes : Bool → Handle → Cluster → Type 0
   Makes sd h c =
-      Rows sd h c ≡ 0 → (f : Found) → Placed h f → (base : ℕ) → f ≡ At base → (v : ℕ) → v ≡ nodeOf h
+      Rows sd h c ≡ 0 → (f : Found) → Finds h f → (base : ℕ) → f ≡ At base → (v : ℕ) → v ≡ nodeOf h
       → (d : Cluster) (after : List ℕ) → Made v segment base size c d m after → (r : RecordLeft) → r ≡ recordAlone d 0
       → Ends h r after
 
@@ -238,5 +238,5 @@ module _ (s : Store) (m b : List ℕ) (current segment size : ℕ) where
         ∙ ap₂ (λ (e : Cluster) (l : List ℕ). record { copy = copyOf (putRecord s (recordFound k) e) l; reply = plain 0 [] })
         (w .placed) (w .cleared)
         ∙ (λ j. made (ev j) (owner-there s m b current (badFields segment size) (owner z) j)
-        (ap (λ (a : Answer). a .base) (sym (ap answer eb) ∙ ef) j))
+        (ap (λ (a : Placed). a .base) (sym (ap placedBy eb) ∙ ef) j))
         ∙ sym (step-done product x (copyOf s m) (only z f ef (At base) eb)))

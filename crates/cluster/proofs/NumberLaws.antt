@@ -22,8 +22,8 @@ use Rattle.calls.specs.Calls.{deletingCluster, makingSegment, deletingSegment, 
 use Rattle.calls.specs.Numbers.{isOld, number, tests}
 use Rattle.refusals.specs.Rows.{badModes, row, openRows, sharedRows, ownerRows}
 use Rattle.refusals.proofs.GivenLaws.{judged, shown, found, named, either-record}
-use Rattle.cluster.specs.Access.{accessRows}
-use Rattle.cluster.specs.Makes.{badFields, makeRows}
+use Rattle.cluster.specs.inner.Access.{accessRows}
+use Rattle.cluster.specs.inner.Makes.{badFields, makeRows}
 
 module _ (s : Store) (m b : List ℕ) where
   abbrev sd : Bool

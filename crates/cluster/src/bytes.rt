@@ -26,7 +26,7 @@ ghost use Rattle.calls.specs.Calls as calls;
 ghost use Rattle.calls.specs.Steps.{aesStep, overwritten};
 ghost use Rattle.calls.specs.Answers.{copyOf, ended};
 ghost use Rattle.refusals.specs.Given.{Given};
-ghost use Rattle.cluster.specs.Access.{accessed, Reaches};
+ghost use Rattle.cluster.specs.inner.Access.{accessed, Reaches};
 
 // Where a place of the memory of a handle's node begins in the slice.
 fn start_of(handle: Handle, place: Place) -> usize

@@ -22,12 +22,12 @@ ghost use lib.ListN.{length, replicate};
 ghost use Rattle.handle.specs.Handles.{nodeOf, firstOf};
 ghost use Rattle.store.specs.declared.Store as declared;
 ghost use Rattle.store.specs.Records.{tableAt};
-ghost use Rattle.store.specs.Placement.{answer, placement};
+ghost use Rattle.store.specs.Placement.{placedBy, placement};
 ghost use Rattle.calls.specs.Calls as calls;
 ghost use Rattle.calls.specs.Steps.{aesStep};
 ghost use Rattle.calls.specs.Answers.{copyOf, ended};
 ghost use Rattle.refusals.specs.Given.{Given, put};
-ghost use Rattle.cluster.specs.Makes.{makeRows, canMake, CanMake, Made};
+ghost use Rattle.cluster.specs.inner.Makes.{makeRows, canMake, CanMake, Made};
 
 // The first refusal but 16 that applies, or 0.
 pub fn segment_refusal(
@@ -114,7 +114,7 @@ pub fn new_segment(
     ensures { λ r. ⌜ ((sd : Bool) (s : declared.Store) (b : List ℕ) (current : ℕ)
         → Given sd handle cluster s (now (memory .entry)) b
         → firstOf (makeRows sd handle cluster current segment size) ≡ 0
-        → answer found ≡ placement (tableAt s) (nodeOf handle) size
+        → placedBy found ≡ placement (tableAt s) (nodeOf handle) size
         → ended (put handle (r .cluster) s) (now (memory .exit)) (r .answer) []
         ≡ aesStep (calls.makingSegment current segment size b) (copyOf s (now (memory .entry)))) ⌝ }
 {

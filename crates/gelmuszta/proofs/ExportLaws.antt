@@ -28,14 +28,14 @@ use Rattle.refusals.specs.Given.{Given, GivenPlace}
 use Rattle.image.specs.Images.{good, storeIn, imageOf}
 use Rattle.gelmuszta.specs.declared.Located.{Located}
 use Rattle.gelmuszta.specs.declared.Opened.{Opened}
-use Rattle.gelmuszta.specs.Opened.{Locates, Opens, Kept}
-use Rattle.gelmuszta.specs.Exported.{replyOf, Performed, answered, damaged, imaged, performed, Always}
+use Rattle.gelmuszta.specs.inner.Opened.{Locates, Opens, Kept}
+use Rattle.gelmuszta.specs.Exported.{replyOf, Exported, returned, damaged, imaged, exported, Always}
 use Rattle.gelmuszta.proofs.ReplyLaws.{Silent, OneHandle, TwoHandles, Length, done-number}
 use Rattle.gelmuszta.proofs.ReplyLaws.{silent-reply, handle-reply, handles-reply, length-reply, count-reply}
 use Rattle.gelmuszta.proofs.ReplyLaws.{weaken-counts}
 
 -- a damaged image, where it is known whether the call is a weakening
-abbrev pub damagedBy : Bool → Call → List ℕ → List ℕ → Performed
+abbrev pub damagedBy : Bool → Call → List ℕ → List ℕ → Exported
 damagedBy u x b m =
     record {
       reply = elim u [ true ↦ aesStep x (copyOf (storeIn b) m) .reply | false ↦ plain unsoundNumber (buffer x) ];
@@ -43,7 +43,7 @@ damagedBy u x b m =
       memory = m;
     }
 
-abbrev pub picked : Call → List ℕ → List ℕ → Bool → Performed
+abbrev pub picked : Call → List ℕ → List ℕ → Bool → Exported
 picked x b m g = elim g [ true ↦ imaged (aesStep x (copyOf (storeIn b) m)) | false ↦ damaged x b m ]
 
 -- a step whose number is not 0 leaves the copy as it was
@@ -91,16 +91,16 @@ module _ (b m : List ℕ) (sd : Bool) (es : sd ≡ (good b && sound (storeIn b) 
     (whole : good b ≡ true → imageOf (storeIn b) ≡ b) where
   -- a call that looks at the store gets 1
   pub refused-unsound : (x : Call) → among (7 ∷ []) (x .kind) ≡ false → (buf : List ℕ) → buf ≡ buffer x → not sd ≡ true
-      → answered unsoundNumber zeroHandle zeroHandle 0 0 buf b m ≡ performed x b m
-  unfolding performed
+      → returned unsoundNumber zeroHandle zeroHandle 0 0 buf b m ≡ exported x b m
+  unfolding exported
   refused-unsound x looks buf e t =
-      ap (λ (l : List ℕ). answered unsoundNumber zeroHandle zeroHandle 0 0 l b m) e ∙ go (good b) refl (sym es ∙ not-true sd t)
+      ap (λ (l : List ℕ). returned unsoundNumber zeroHandle zeroHandle 0 0 l b m) e ∙ go (good b) refl (sym es ∙ not-true sd t)
     where
       go : (g : Bool) → good b ≡ g → (good b && sound (storeIn b) (length m)) ≡ false
-          → answered unsoundNumber zeroHandle zeroHandle 0 0 (buffer x) b m ≡ picked x b m (good b)
+          → returned unsoundNumber zeroHandle zeroHandle 0 0 (buffer x) b m ≡ picked x b m (good b)
       go false eg f = sym (ap (λ (u : Bool). damagedBy u x b m) looks) ∙ sym (ap (picked x b m) eg)
       go true eg f =
-          ap (λ (i : List ℕ). answered unsoundNumber zeroHandle zeroHandle 0 0 (buffer x) i m) (sym (whole eg))
+          ap (λ (i : List ℕ). returned unsoundNumber zeroHandle zeroHandle 0 0 (buffer x) i m) (sym (whole eg))
           ∙ sym (ap imaged (step-refused product x (copyOf (storeIn b) m) 1
           (number-unsound x (storeIn b) (length m) looks (ap (λ (u : Bool). u && sound (storeIn b) (length m)) (sym eg) ∙ f)) (λ z. omega (arith, z))))
           ∙ sym (ap (picked x b m) eg)
@@ -116,13 +116,13 @@ module _ (b m : List ℕ) (sd : Bool) (es : sd ≡ (good b && sound (storeIn b) 
       abbrev left : Outcome
       left = aesStep x (copyOf (storeIn b) m)
 
-      through : imaged left ≡ performed x b m
-      unfolding performed
+      through : imaged left ≡ exported x b m
+      unfolding exported
       through = sym (ap (picked x b m) held-good)
 
       finished : (r : Reply) (after n : List ℕ) → r ≡ left .reply → after ≡ imageOf (left .copy .store)
           → n ≡ left .copy .memory
-          → _≡_ {A = Performed} (record { reply = r; image = after; memory = n }) (performed x b m)
+          → _≡_ {A = Exported} (record { reply = r; image = after; memory = n }) (exported x b m)
       finished r after n er ei en = (λ j. record { reply = er j; image = ei j; memory = en j }) ∙ through
 
       module _ (k : Store) (n : List ℕ) (a : Answer) (buf : List ℕ) (e : ended k n a buf ≡ left) where
@@ -162,15 +162,15 @@ module _ (b m : List ℕ) (sd : Bool) (es : sd ≡ (good b && sound (storeIn b) 
         same : n ≡ left .copy .memory
         same = bytes (putRecord (storeIn b) i (l .cluster)) n (l .answer) [] e
 
-        pub kept-silent : Silent x → answered (l .answer .number) zeroHandle zeroHandle 0 0 [] after n ≡ performed x b m
+        pub kept-silent : Silent x → returned (l .answer .number) zeroHandle zeroHandle 0 0 [] after n ≡ exported x b m
         kept-silent r = finished _ after n (silent-reply x (copyOf (storeIn b) m) (l .answer) [] silent r) image-left same
 
         pub kept-handle : OneHandle x
-            → answered (l .answer .number) (l .answer .first) zeroHandle 0 0 [] after n ≡ performed x b m
+            → returned (l .answer .number) (l .answer .first) zeroHandle 0 0 [] after n ≡ exported x b m
         kept-handle r = finished _ after n (handle-reply x (copyOf (storeIn b) m) (l .answer) [] silent r) image-left same
 
         pub kept-handles : TwoHandles x
-            → answered (l .answer .number) (l .answer .first) (l .answer .second) 0 0 [] after n ≡ performed x b m
+            → returned (l .answer .number) (l .answer .first) (l .answer .second) 0 0 [] after n ≡ exported x b m
         kept-handles r = finished _ after n (handles-reply x (copyOf (storeIn b) m) (l .answer) [] silent r) image-left same
 
       -- the records stay, and so does the image
@@ -178,17 +178,17 @@ module _ (b m : List ℕ) (sd : Bool) (es : sd ≡ (good b && sound (storeIn b) 
         image-same : b ≡ imageOf (left .copy .store)
         image-same = sym (whole held-good) ∙ ap (λ (o : Outcome). imageOf (o .copy .store)) e
 
-        pub same-silent : Silent x → answered (a .number) zeroHandle zeroHandle 0 0 buf b n ≡ performed x b m
+        pub same-silent : Silent x → returned (a .number) zeroHandle zeroHandle 0 0 buf b n ≡ exported x b m
         same-silent r =
             finished _ b n (silent-reply x (copyOf (storeIn b) m) a buf (replies (storeIn b) n a buf e) r) image-same
             (bytes (storeIn b) n a buf e)
 
-        pub same-handle : OneHandle x → answered (a .number) (a .first) zeroHandle 0 0 buf b n ≡ performed x b m
+        pub same-handle : OneHandle x → returned (a .number) (a .first) zeroHandle 0 0 buf b n ≡ exported x b m
         same-handle r =
             finished _ b n (handle-reply x (copyOf (storeIn b) m) a buf (replies (storeIn b) n a buf e) r) image-same
             (bytes (storeIn b) n a buf e)
 
-        pub same-told : Length x → answered (a .number) zeroHandle zeroHandle 0 (a .length) buf b n ≡ performed x b m
+        pub same-told : Length x → returned (a .number) zeroHandle zeroHandle 0 (a .length) buf b n ≡ exported x b m
         same-told r =
             finished _ b n (length-reply x (copyOf (storeIn b) m) a buf (replies (storeIn b) n a buf e) r) image-same
             (bytes (storeIn b) n a buf e)

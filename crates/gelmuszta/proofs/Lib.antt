@@ -3,4 +3,4 @@ pub mod ExportLaws
 pub mod MakeLaws
 pub mod ValidationLaws
 pub mod FitLaws
-pub mod RowLaws
+pub mod RunLaws

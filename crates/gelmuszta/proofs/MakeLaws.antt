@@ -1,6 +1,6 @@
 -- Call 3 on an image: its core comes in two, and between them the base is found on the image's bytes.
 -- Assumes nothing.
-use mathlib.Core.Path.{_≡_, refl, sym, ap, _∙_}
+use mathlib.Core.Path.{_≡_, sym, ap, _∙_}
 use mathlib.Core.Bool.{Bool, true, false, not}
 use mathlib.Core.List.{List, []}
 use Prim.Native.Nat.{ℕ}
@@ -9,18 +9,18 @@ use Rattle.handle.specs.Handles.{nodeOf, firstOf}
 use Rattle.store.specs.declared.Store.{Store}
 use Rattle.store.specs.declared.Found.{Found}
 use Rattle.store.specs.Records.{tableAt}
-use Rattle.store.specs.Placement.{placement, answer}
+use Rattle.store.specs.Placement.{placement, placedBy}
 use Rattle.calls.specs.declared.RecordLeft.{RecordLeft}
 use Rattle.calls.specs.Calls.{Call, makingSegment}
 use Rattle.calls.specs.Steps.{zeroHandle, aesStep}
 use Rattle.calls.specs.Answers.{copyOf, ended, numberAlone}
 use Rattle.refusals.specs.Given.{Given, recordFound, put}
-use Rattle.cluster.specs.Makes.{makeRows}
+use Rattle.cluster.specs.inner.Makes.{makeRows}
 use Rattle.cluster.proofs.MakeLaws.{segment-refused}
 use Rattle.image.specs.Images.{storeIn}
 use Rattle.gelmuszta.specs.declared.Opened.{Opened}
-use Rattle.gelmuszta.specs.Opened.{Opens, Kept}
-use Rattle.gelmuszta.specs.Exported.{answered, performed}
+use Rattle.gelmuszta.specs.inner.Opened.{Opens, Kept}
+use Rattle.gelmuszta.specs.Exported.{returned, exported}
 use Rattle.gelmuszta.proofs.ReplyLaws.{new-segment-silent}
 use Rattle.gelmuszta.proofs.ExportLaws.{given-of, same-silent, kept-silent}
 
@@ -30,20 +30,20 @@ module _ (b m hb : List ℕ) (current segment size : ℕ) (o : Opened) (w : Open
   abbrev x : Call
   x = makingSegment current segment size hb
 
-  pub new-segment-refused : (n ≡ 0 → ⊥) → answered n zeroHandle zeroHandle 0 0 [] b m ≡ performed x b m
+  pub new-segment-refused : (n ≡ 0 → ⊥) → returned n zeroHandle zeroHandle 0 0 [] b m ≡ exported x b m
   new-segment-refused t =
       same-silent b m (o .sound) (w .sound) (w .whole) held x m (numberAlone n) []
       (segment-refused (storeIn b) m hb current segment size true (o .handle) (o .cluster) (given-of b m hb o w held) n en t)
       (new-segment-silent (x .args))
 
   pub new-segment-kept : n ≡ 0 → (v : ℕ) → v ≡ nodeOf (o .handle) → (f : Found)
-      → answer f ≡ placement (tableAt (storeIn b)) v size → (after : List ℕ) (l : RecordLeft)
+      → placedBy f ≡ placement (tableAt (storeIn b)) v size → (after : List ℕ) (l : RecordLeft)
       → ((sd : Bool) (s : Store) (d : List ℕ) (i : ℕ) → Given sd (o .handle) (o .cluster) s m d
       → firstOf (makeRows sd (o .handle) (o .cluster) i segment size) ≡ 0
-      → answer f ≡ placement (tableAt s) (nodeOf (o .handle)) size
+      → placedBy f ≡ placement (tableAt s) (nodeOf (o .handle)) size
       → ended (put (o .handle) (l .cluster) s) after (l .answer) [] ≡ aesStep (makingSegment i segment size d) (copyOf s m))
       → (image : List ℕ) → Kept l (o .at) b image
-      → answered (l .answer .number) zeroHandle zeroHandle 0 0 [] image after ≡ performed x b m
+      → returned (l .answer .number) zeroHandle zeroHandle 0 0 [] image after ≡ exported x b m
   new-segment-kept z v ev f ef after l core image k =
       kept-silent b m (o .sound) (w .sound) (w .whole) held x (o .at) (recordFound (o .handle)) (w .at) l after
       (core true (storeIn b) hb current (given-of b m hb o w held) (sym en ∙ z)

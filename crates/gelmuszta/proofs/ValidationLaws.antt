@@ -31,8 +31,8 @@ use Rattle.refusals.specs.Given.{Given, recordFound}
 use Rattle.image.specs.Parts.{slot}
 use Rattle.image.specs.Images.{good, storeIn, imageOf}
 use Rattle.gelmuszta.specs.declared.Opened.{Opened}
-use Rattle.gelmuszta.specs.Opened.{Opens}
-use Rattle.gelmuszta.specs.Exported.{answered, performed}
+use Rattle.gelmuszta.specs.inner.Opened.{Opens}
+use Rattle.gelmuszta.specs.Exported.{returned, exported}
 use Rattle.gelmuszta.specs.Validation.{numberOf, fewer, asMany, numbersOf, Judged}
 use Rattle.gelmuszta.proofs.ReplyLaws.{validate-silent, silent-known}
 use Rattle.gelmuszta.proofs.ExportLaws.{picked}
@@ -77,7 +77,7 @@ pub number-told : (sd : Bool) (b : List ℕ) (mode : ℕ) (m : List ℕ) → sd 
     (h : Handle) → h ≡ decoded hb → (c : Cluster) → c ≡ clusterAt (storeIn b) (recordFound h) → (n : ℕ)
     → ((s : Store) (k d : List ℕ) → Given sd h c s k d → n ≡ aesStep (validating mode d) (copyOf s k) .reply .number)
     → n ≡ numberOf b m mode hb
-unfolding performed step number unsound sound
+unfolding exported step number unsound sound
 number-told sd b mode m es hb h eh c ec n core = go (good b) refl
   where
     go : (g : Bool) → good b ≡ g → n ≡ picked (validating mode hb) b m (good b) .reply .number
@@ -102,10 +102,10 @@ validate-leaves g c = go (number product (call validate g) (c .store) (length (c
 pub validate-told : (b m : List ℕ) (mode : ℕ) (hb : List ℕ) (o : Opened) → Opens o b (length m) hb → (n : ℕ)
     → ((s : Store) (k d : List ℕ) → Given (o .sound) (o .handle) (o .cluster) s k d
     → n ≡ aesStep (validating mode d) (copyOf s k) .reply .number)
-    → answered n zeroHandle zeroHandle 0 0 [] b m ≡ performed (validating mode hb) b m
-unfolding performed
+    → returned n zeroHandle zeroHandle 0 0 [] b m ≡ exported (validating mode hb) b m
+unfolding exported
 validate-told b m mode hb o w n core =
-    ap (λ (k : ℕ). answered k zeroHandle zeroHandle 0 0 [] b m)
+    ap (λ (k : ℕ). returned k zeroHandle zeroHandle 0 0 [] b m)
     (number-told (o .sound) b mode m (w .sound) hb (o .handle) (w .handle) (o .cluster) (w .cluster) n core)
     ∙ go (good b) refl
   where
@@ -116,9 +116,9 @@ validate-told b m mode hb o w n core =
     left = aesStep x (copyOf (storeIn b) m)
 
     go : (g : Bool) → good b ≡ g
-        → answered (picked x b m (good b) .reply .number) zeroHandle zeroHandle 0 0 [] b m ≡ picked x b m (good b)
+        → returned (picked x b m (good b) .reply .number) zeroHandle zeroHandle 0 0 [] b m ≡ picked x b m (good b)
     go true eg =
-        ap (λ (u : Bool). answered (picked x b m u .reply .number) zeroHandle zeroHandle 0 0 [] b m) eg
+        ap (λ (u : Bool). returned (picked x b m u .reply .number) zeroHandle zeroHandle 0 0 [] b m) eg
         ∙ (λ j.
         record {
           reply = silent-known x (copyOf (storeIn b) m) (validate-silent (x .args)) j;
@@ -127,7 +127,7 @@ validate-told b m mode hb o w n core =
         })
         ∙ sym (ap (picked x b m) eg)
     go false eg =
-        ap (λ (u : Bool). answered (picked x b m u .reply .number) zeroHandle zeroHandle 0 0 [] b m) eg
+        ap (λ (u : Bool). returned (picked x b m u .reply .number) zeroHandle zeroHandle 0 0 [] b m) eg
         ∙ sym (ap (picked x b m) eg)
 
 -- ---- the loop

@@ -1,17 +1,16 @@
 -- What an exported call gives and leaves: the store comes and goes as its image, the rest as document 01 has it.
 --     replyOf ..            the reply of these values, in the order of the record's fields
---     Performed             the reply, and the image and the memory that are left
---     answered ..           what an exported function gave and left: its number, two handles, count, length, buffer, image
+--     Exported              the reply, and the image and the memory that are left
+--     returned ..           what an exported function gave and left: its number, two handles, count, length, buffer, image
 --                           and memory; where it gives no such value, zeros stand for it, as in every reply
 --     damaged x b m         an image that holds no store is refused as an unsound one is, with 1, and all stays as it was;
 --                           weakening alone, which looks at no store, is answered as ever
 --     imaged o              what a step gave and left, the store as its image
---     performed x b m       the call x on the image b and the memory m: the step on the store that b holds
---     kept n s b            the image to leave where the number is n and s is the store: as it was after a refusal
+--     exported x b m        the call x on the image b and the memory m: the step on the store that b holds
 --     Always x r            on every store and memory the call x gives the reply r, and leaves both as they were
 -- Assumes nothing.
 use mathlib.Core.Path.{_≡_}
-use Prim.Native.Nat.{ℕ, zero, suc}
+use Prim.Native.Nat.{ℕ}
 use mathlib.Core.Bool.{true, false}
 use mathlib.Core.List.{List, [], _∷_}
 use Rattle.store.specs.declared.Store.{Store}
@@ -25,16 +24,16 @@ abbrev pub replyOf : ℕ → List ℕ → List ℕ → ℕ → ℕ → List ℕ 
 replyOf number first second count length buffer =
     record { number = number; first = first; second = second; count = count; length = length; buffer = buffer }
 
-pub record Performed : Type 0 where
+pub record Exported : Type 0 where
   pub reply : Reply
   pub image : List ℕ
   pub memory : List ℕ
 
-abbrev pub answered : ℕ → List ℕ → List ℕ → ℕ → ℕ → List ℕ → List ℕ → List ℕ → Performed
-answered number first second count length buffer image memory =
+abbrev pub returned : ℕ → List ℕ → List ℕ → ℕ → ℕ → List ℕ → List ℕ → List ℕ → Exported
+returned number first second count length buffer image memory =
     record { reply = replyOf number first second count length buffer; image = image; memory = memory }
 
-abbrev pub damaged : Call → List ℕ → List ℕ → Performed
+abbrev pub damaged : Call → List ℕ → List ℕ → Exported
 damaged x b m =
     record {
       reply =
@@ -46,15 +45,11 @@ damaged x b m =
       memory = m;
     }
 
-abbrev pub imaged : Outcome → Performed
+abbrev pub imaged : Outcome → Exported
 imaged o = record { reply = o .reply; image = imageOf (o .copy .store); memory = o .copy .memory }
 
-unfoldable pub performed : Call → List ℕ → List ℕ → Performed
-performed x b m = elim (good b) [ true ↦ imaged (aesStep x (copyOf (storeIn b) m)) | false ↦ damaged x b m ]
-
-unfoldable pub kept : ℕ → Store → List ℕ → List ℕ
-kept zero s b = imageOf s
-kept (suc n) s b = b
+unfoldable pub exported : Call → List ℕ → List ℕ → Exported
+exported x b m = elim (good b) [ true ↦ imaged (aesStep x (copyOf (storeIn b) m)) | false ↦ damaged x b m ]
 
 abbrev pub Always : Call → Reply → Type 0
 Always x r = (s : Store) (m : List ℕ) → record { copy = copyOf s m; reply = r } ≡ aesStep x (copyOf s m)

@@ -1,5 +1,5 @@
 pub mod Exported
 pub mod Validation
 pub mod Fits
-pub mod Rows
-pub mod Opened
+pub mod Runs
+pub mod inner

@@ -20,10 +20,10 @@ use Rattle.store.specs.Sound.{sound}
 use Rattle.calls.specs.Calls.{validating}
 use Rattle.image.specs.Parts.{slot}
 use Rattle.image.specs.Images.{good, storeIn}
-use Rattle.gelmuszta.specs.Exported.{performed}
+use Rattle.gelmuszta.specs.Exported.{exported}
 
 abbrev pub numberOf : List ℕ → List ℕ → ℕ → List ℕ → ℕ
-numberOf b m mode h = performed (validating mode h) b m .reply .number
+numberOf b m mode h = exported (validating mode h) b m .reply .number
 
 abbrev pub fewer : ℕ → ℕ → ℕ
 fewer a b = elim (ltb a b) [ true ↦ a | false ↦ b ]

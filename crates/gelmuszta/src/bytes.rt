@@ -8,7 +8,7 @@ ghost use mathlib.Core.Path.{_≡_};
 ghost use mathlib.Core.List.{[]};
 ghost use Rattle.calls.specs.Calls as calls;
 ghost use Rattle.calls.specs.Steps.{zeroHandle};
-ghost use Rattle.gelmuszta.specs.Exported.{answered, performed};
+ghost use Rattle.gelmuszta.specs.Exported.{returned, exported};
 
 // Call 3: the segment is present at the smallest base at which it fits, and its bytes are zero.
 #[no_mangle]
@@ -20,8 +20,8 @@ pub extern "C" fn gelmuszta_new_segment(
     size: usize,
     handle: &HandleBytes,
 ) -> u8
-    ensures { λ r. ⌜ answered r zeroHandle zeroHandle 0 0 [] (now (image .exit)) (now (memory .exit))
-        ≡ performed (calls.makingSegment current segment size (now (handle .entry))) (now (image .entry)) (now (memory .entry)) ⌝ }
+    ensures { λ r. ⌜ returned r zeroHandle zeroHandle 0 0 [] (now (image .exit)) (now (memory .exit))
+        ≡ exported (calls.makingSegment current segment size (now (handle .entry))) (now (image .entry)) (now (memory .entry)) ⌝ }
 {
     let h = *handle;
     let o = look_up(image, memory.len(), h);
@@ -51,8 +51,8 @@ pub extern "C" fn gelmuszta_read(
     buffer: &mut [u8],
     length: &mut usize,
 ) -> u8
-    ensures { λ r. ⌜ answered r zeroHandle zeroHandle 0 (now (length .exit)) (now (buffer .exit)) (now (image .entry)) (now (memory .entry))
-        ≡ performed (calls.reading segment (now (handle .entry)) (now (buffer .entry))) (now (image .entry)) (now (memory .entry)) ⌝ }
+    ensures { λ r. ⌜ returned r zeroHandle zeroHandle 0 (now (length .exit)) (now (buffer .exit)) (now (image .entry)) (now (memory .entry))
+        ≡ exported (calls.reading segment (now (handle .entry)) (now (buffer .entry))) (now (image .entry)) (now (memory .entry)) ⌝ }
 {
     let h = *handle;
     let o = look_up(image, memory.len(), h);
@@ -75,8 +75,8 @@ pub extern "C" fn gelmuszta_write(
     handle: &HandleBytes,
     written: &[u8],
 ) -> u8
-    ensures { λ r. ⌜ answered r zeroHandle zeroHandle 0 0 (now (written .entry)) (now (image .entry)) (now (memory .exit))
-        ≡ performed (calls.writing segment (now (handle .entry)) (now (written .entry))) (now (image .entry)) (now (memory .entry)) ⌝ }
+    ensures { λ r. ⌜ returned r zeroHandle zeroHandle 0 0 (now (written .entry)) (now (image .entry)) (now (memory .exit))
+        ≡ exported (calls.writing segment (now (handle .entry)) (now (written .entry))) (now (image .entry)) (now (memory .entry)) ⌝ }
 {
     let h = *handle;
     let o = look_up(image, memory.len(), h);

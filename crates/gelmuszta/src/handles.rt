@@ -10,7 +10,7 @@ ghost use mathlib.Core.List.{[]};
 ghost use Rattle.handle.specs.Conversion.{conversion};
 ghost use Rattle.calls.specs.Calls as calls;
 ghost use Rattle.calls.specs.Steps.{zeroHandle};
-ghost use Rattle.gelmuszta.specs.Exported.{replyOf, answered, performed, Always};
+ghost use Rattle.gelmuszta.specs.Exported.{replyOf, returned, exported, Always};
 
 // The password that a parameter turns a password into.
 #[no_mangle]
@@ -51,8 +51,8 @@ pub extern "C" fn gelmuszta_reduce(
     handle: &HandleBytes,
     given: &mut HandleBytes,
 ) -> u8
-    ensures { λ r. ⌜ answered r (now (given .exit)) zeroHandle 0 0 [] (now (image .entry)) (now (memory .entry))
-        ≡ performed (calls.reducing mode (now (handle .entry))) (now (image .entry)) (now (memory .entry)) ⌝ }
+    ensures { λ r. ⌜ returned r (now (given .exit)) zeroHandle 0 0 [] (now (image .entry)) (now (memory .entry))
+        ≡ exported (calls.reducing mode (now (handle .entry))) (now (image .entry)) (now (memory .entry)) ⌝ }
 {
     let h = *handle;
     let o = look_up(image, memory.len(), h);

@@ -7,7 +7,7 @@ use handle::Handle;
 use handle::HandleBytes;
 use image::IMAGE;
 use store::Cluster;
-ghost use Rattle.gelmuszta.specs.Opened as opened;
+ghost use Rattle.gelmuszta.specs.inner.Opened as opened;
 
 mod bytes; // bytes.rt: calls 3, 5 and 6, which use the memory's bytes
 mod handles; // handles.rt: conversion, calls 7 and 8

@@ -11,7 +11,7 @@ ghost use mathlib.Core.Path.{_≡_};
 ghost use mathlib.Core.List.{[]};
 ghost use Rattle.calls.specs.Calls as calls;
 ghost use Rattle.calls.specs.Steps.{zeroHandle};
-ghost use Rattle.gelmuszta.specs.Exported.{answered, performed};
+ghost use Rattle.gelmuszta.specs.Exported.{returned, exported};
 
 // Call 1: a cluster of the current node becomes active; its read and its write primary handle.
 #[no_mangle]
@@ -25,8 +25,8 @@ pub extern "C" fn gelmuszta_new_cluster(
     first: &mut HandleBytes,
     second: &mut HandleBytes,
 ) -> u8
-    ensures { λ r. ⌜ answered r (now (first .exit)) (now (second .exit)) 0 0 [] (now (image .exit)) (now (memory .entry))
-        ≡ performed (calls.makingCluster current local (now (read .entry)) (now (write .entry))) (now (image .entry)) (now (memory .entry)) ⌝ }
+    ensures { λ r. ⌜ returned r (now (first .exit)) (now (second .exit)) 0 0 [] (now (image .exit)) (now (memory .entry))
+        ≡ exported (calls.makingCluster current local (now (read .entry)) (now (write .entry))) (now (image .entry)) (now (memory .entry)) ⌝ }
 {
     let l = locate(image, memory.len(), current, local);
     let sound = l.sound;
@@ -55,8 +55,8 @@ pub extern "C" fn gelmuszta_delete_cluster(
     current: usize,
     handle: &HandleBytes,
 ) -> u8
-    ensures { λ r. ⌜ answered r zeroHandle zeroHandle 0 0 [] (now (image .exit)) (now (memory .entry))
-        ≡ performed (calls.deletingCluster current (now (handle .entry))) (now (image .entry)) (now (memory .entry)) ⌝ }
+    ensures { λ r. ⌜ returned r zeroHandle zeroHandle 0 0 [] (now (image .exit)) (now (memory .entry))
+        ≡ exported (calls.deletingCluster current (now (handle .entry))) (now (image .entry)) (now (memory .entry)) ⌝ }
 {
     let h = *handle;
     let o = look_up(image, memory.len(), h);
@@ -79,8 +79,8 @@ pub extern "C" fn gelmuszta_delete_segment(
     segment: usize,
     handle: &HandleBytes,
 ) -> u8
-    ensures { λ r. ⌜ answered r zeroHandle zeroHandle 0 0 [] (now (image .exit)) (now (memory .entry))
-        ≡ performed (calls.deletingSegment current segment (now (handle .entry))) (now (image .entry)) (now (memory .entry)) ⌝ }
+    ensures { λ r. ⌜ returned r zeroHandle zeroHandle 0 0 [] (now (image .exit)) (now (memory .entry))
+        ≡ exported (calls.deletingSegment current segment (now (handle .entry))) (now (image .entry)) (now (memory .entry)) ⌝ }
 {
     let h = *handle;
     let o = look_up(image, memory.len(), h);
@@ -104,8 +104,8 @@ pub extern "C" fn gelmuszta_new_password(
     password: &Password,
     given: &mut HandleBytes,
 ) -> u8
-    ensures { λ r. ⌜ answered r (now (given .exit)) zeroHandle 0 0 [] (now (image .exit)) (now (memory .entry))
-        ≡ performed (calls.renewing mode (now (handle .entry)) (now (password .entry))) (now (image .entry)) (now (memory .entry)) ⌝ }
+    ensures { λ r. ⌜ returned r (now (given .exit)) zeroHandle 0 0 [] (now (image .exit)) (now (memory .entry))
+        ≡ exported (calls.renewing mode (now (handle .entry)) (now (password .entry))) (now (image .entry)) (now (memory .entry)) ⌝ }
 {
     let h = *handle;
     let o = look_up(image, memory.len(), h);

@@ -6,13 +6,13 @@ ghost use Rattle.store.specs.Records.{startingStore};
 ghost use Rattle.store.specs.Sound as soundness;
 ghost use Rattle.image.specs.Images.{good, storeIn, imageOf};
 
-// Writes the image of the starting store, in which all clusters are inactive. The memory that goes with it is all zeros,
+// Writes the image of the starting store, in which all clusters are inactive: it is all zeros. The memory that goes with it is all zeros,
 // and is the caller's to clear.
 #[no_mangle]
 pub extern "C" fn gelmuszta_start(image: &mut [u8; IMAGE])
     ensures { λ _. ⌜ now (image .exit) ≡ imageOf startingStore ⌝ }
 {
-    image::encode(store::starting(), image);
+    *image = [0; IMAGE];
 }
 
 // Whether the image holds a store that is sound with a memory of `size` bytes.

@@ -12,7 +12,7 @@ use Rattle.store.specs.declared.Cluster.{Cluster}
 use Rattle.store.specs.declared.Store.{Store}
 use Rattle.store.specs.declared.Found.{Found}
 use Rattle.store.specs.Records.{clusterAt, tableAt, putRecord, recordAt}
-use Rattle.store.specs.Placement.{placement, answer}
+use Rattle.store.specs.Placement.{placement, placedBy}
 use Rattle.store.specs.Sound.{sound}
 use Rattle.calls.specs.declared.Left.{Left}
 use Rattle.calls.specs.declared.RecordLeft.{RecordLeft}
@@ -20,10 +20,10 @@ use Rattle.calls.specs.Calls.{Call, makingSegment}
 use Rattle.calls.specs.Steps.{aesStep}
 use Rattle.calls.specs.Answers.{copyOf, ended, leftAlone}
 use Rattle.refusals.specs.Given.{Given, GivenPlace, recordFound, put}
-use Rattle.cluster.specs.Makes.{makeRows}
+use Rattle.cluster.specs.inner.Makes.{makeRows}
 use Rattle.cluster.proofs.MakeLaws.{segment-refused}
 use Rattle.guard.specs.declared.Opened.{Opened}
-use Rattle.guard.specs.Opens.{Opens, putBack}
+use Rattle.guard.specs.inner.Opens.{Opens, putBack}
 
 pub opens-so : (s : Store) (size : ℕ) (b : List ℕ) (h : Handle) → h ≡ decoded b → (v : ℕ) → v ≡ nodeOf h → (at : ℕ)
     → at ≡ recordAt v (h .local) → at < records → (sd : Bool) → sd ≡ sound s size
@@ -64,11 +64,11 @@ module _ (s : Store) (m b : List ℕ) (current segment size : ℕ) (o : Opened) 
       ∙ segment-refused s m b current segment size (o .sound) (o .handle) (o .cluster) (w .given m refl) n en t
 
   -- what the core promises, asked of these records, and put back
-  pub new-segment-left : n ≡ 0 → (v : ℕ) → v ≡ nodeOf (o .handle) → (f : Found) → answer f ≡ placement (tableAt s) v size
+  pub new-segment-left : n ≡ 0 → (v : ℕ) → v ≡ nodeOf (o .handle) → (f : Found) → placedBy f ≡ placement (tableAt s) v size
       → (after : List ℕ) (l : RecordLeft)
       → ((sd : Bool) (t : Store) (d : List ℕ) (i : ℕ) → Given sd (o .handle) (o .cluster) t m d
       → firstOf (makeRows sd (o .handle) (o .cluster) i segment size) ≡ 0
-      → answer f ≡ placement (tableAt t) (nodeOf (o .handle)) size
+      → placedBy f ≡ placement (tableAt t) (nodeOf (o .handle)) size
       → ended (put (o .handle) (l .cluster) t) after (l .answer) [] ≡ aesStep (makingSegment i segment size d) (copyOf t m))
       → (r : Left) → r ≡ putBack s (o .at) l
       → ended (r .store) after (r .answer) [] ≡ aesStep (makingSegment current segment size b) (copyOf s m)

@@ -17,7 +17,7 @@ ghost use Rattle.sizes.specs.Sizes.{records};
 ghost use Rattle.calls.specs.Calls as calls;
 ghost use Rattle.calls.specs.Steps.{aesStep};
 ghost use Rattle.calls.specs.Answers.{copyOf, ended};
-ghost use Rattle.guard.specs.Opens.{Opens, putBack};
+ghost use Rattle.guard.specs.inner.Opens.{Opens, putBack};
 
 // Weakening looks at no store.
 pub use cluster::weaken;

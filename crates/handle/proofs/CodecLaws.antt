@@ -9,8 +9,8 @@ use mathlib.Core.List.{List, [], _∷_, _++_}
 use lib.ListN.{length, getD, take, drop, replicate, length-set}
 use mir.Val.{Fits}
 use mir.Syntax.{w8, w16}
-use Rattle.bits.specs.Bytes.{bytes, wordFrom, word}
-use Rattle.bits.proofs.ByteLaws.{word-bytes, bytes-word}
+use Rattle.bits.specs.Bytes.{bytes, Bytes}
+use Rattle.bits.proofs.ByteLaws.{word-bytes, bytes-word, word-two}
 use Rattle.loops.specs.Tabulate.{tabulate}
 use Rattle.loops.proofs.TabulateLaws.{tabulate-is}
 use Rattle.handle.specs.declared.Handle.{Handle}
@@ -18,7 +18,7 @@ use Rattle.sizes.specs.Sizes.{segments, passwordBytes}
 use Rattle.handle.specs.Sizes.{subselectors}
 use Rattle.handle.specs.Sizes.{nodeBytes, localAt, passwordAt, selectorAt, handleBytes}
 use Rattle.handle.specs.Selectors.{firstFlat, common, parameter}
-use Rattle.handle.specs.Handles.{encoded, decoded, noHandle, Holdable, Bytes, weakened, reduced}
+use Rattle.handle.specs.Handles.{encoded, decoded, noHandle, Holdable, weakened, reduced}
 use Rattle.handle.specs.Opens.{Whole}
 use Rattle.handle.proofs.HandleLaws.{weakened-cases, reduced-cases}
 
@@ -32,10 +32,6 @@ listed n l e = tabulate-is n (λ k. getD l k 0) 0 l e (λ k h. refl)
 -- a handle of these parts
 abbrev handleOf : ℕ → ℕ → List ℕ → List ℕ → Handle
 handleOf n l p s = record { node = n; local = l; password = p; selector = s }
-
-word-two : (a b : ℕ) → word (a ∷ b ∷ []) ≡ a * 256 + b
-unfolding word wordFrom
-word-two a b = omega arith
 
 -- ---- what the code reads and writes
 
@@ -55,7 +51,7 @@ withNode b n =
 pub decoded-is : (b : List ℕ) → length b ≡ handleBytes → withNode b (getD b 0 0 * 256 + getD b 1 0) ≡ decoded b
 unfolding decoded tabulate
 decoded-is b e =
-    ap (withNode b) (sym (word-two (getD b 0 0) (getD b 1 0))) ∙ ap decoded (sym (listed handleBytes b e))
+    ap (withNode b) (word-two (getD b 0 0) (getD b 1 0)) ∙ ap decoded (sym (listed handleBytes b e))
 
 module _ (h : Handle) (lp : length (h .password) ≡ passwordBytes) (ls : length (h .selector) ≡ subselectors) where
   abbrev body : List ℕ

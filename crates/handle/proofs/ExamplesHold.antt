@@ -5,10 +5,10 @@ use mathlib.Core.Path.{_≡_, refl}
 use mathlib.Core.List.{List, map}
 use Rattle.bits.specs.Sets.{has, setOf, count}
 use Rattle.handle.specs.Handles.{weakenNumber, weakened, reduced, weakening}
-use Rattle.handle.specs.Examples.{Example, examples, answer}
+use Rattle.handle.specs.Examples.{Example, examples, tells}
 
 pub examples-hold : (f : List ℕ → ℕ → List ℕ) (password first : List ℕ) (mask : ℕ)
-    → map (λ (e : Example). answer f password first mask (e .asked)) (examples f password first mask)
+    → map (λ (e : Example). tells f password first mask (e .asked)) (examples f password first mask)
     ≡ map (λ (e : Example). e .told) (examples f password first mask)
-unfolding has setOf count weakenNumber weakened reduced weakening examples answer
+unfolding has setOf count weakenNumber weakened reduced weakening examples tells
 examples-hold f password first mask = refl

@@ -20,7 +20,7 @@ use Rattle.handle.specs.declared.Handle.{Handle}
 use Rattle.sizes.specs.Sizes.{segments, passwordBytes}
 use Rattle.handle.specs.Selectors.{flat}
 use Rattle.handle.specs.Handles.{samePassword, converted, through, validates}
-use Rattle.handle.specs.Conversion.{conversion, product}
+use Rattle.handle.specs.Conversion.{conversion}
 
 -- ---- the loop
 

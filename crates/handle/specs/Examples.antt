@@ -2,12 +2,12 @@
 -- conversion f, any password of the handle and primary password, and any mask where document 01 names none.
 --     Question           what is asked of a selector: which segments it references and how many; what weakening by a
 --                        mask gives; what it is reduced to
---     Answer             a set of segments and a count; the whole reply of a weakening; a whole handle
+--     Told               a set of segments and a count; the whole reply of a weakening; a whole handle
 --     Example            a question and its answer
 --     presented ss p     the handle that is asked about, with the selector ss and the password p
 --     examples           the list; two rows more say that a primary handle is its own reduction and that a gap higher
 --                        up is one too
---     answer q           what the definitions answer
+--     tells q            what the definitions tell
 -- Assumes nothing.
 use Prim.Native.Nat.{ℕ}
 use mathlib.Core.List.{List, [], _∷_}
@@ -23,17 +23,17 @@ pub data Question : Type 0 where
   weakeningBy : ℕ → List ℕ → Question
   reducing : List ℕ → Question
 
-pub data Answer : Type 0 where
-  segmentSet : ℕ → ℕ → Answer
-  weaker : Weakened → Answer
-  handle : Handle → Answer
+pub data Told : Type 0 where
+  segmentSet : ℕ → ℕ → Told
+  weaker : Weakened → Told
+  handle : Handle → Told
 
 pub record Example : Type 0 where
   pub asked : Question
-  pub told : Answer
+  pub told : Told
 
-abbrev row : Question → Answer → Example
-row q a = record { asked = q; told = a }
+abbrev asks : Question → Told → Example
+asks q a = record { asked = q; told = a }
 
 abbrev primary : List ℕ
 primary = 0xff ∷ 0xff ∷ 0xff ∷ 0xff ∷ []
@@ -51,29 +51,29 @@ module _ (f : List ℕ → ℕ → List ℕ) (password first : List ℕ) (mask :
   unfoldable pub examples : List Example
   examples =
       -- P1
-      row (referencing primary) (segmentSet 255 8)
+      asks (referencing primary) (segmentSet 255 8)
       -- P2, P3: the parameter is 243 for either mask
-      ∷ row (referencing twoCut) (segmentSet 124 5)
-      ∷ row (weakeningBy 112 twoCut)
+      ∷ asks (referencing twoCut) (segmentSet 124 5)
+      ∷ asks (weakeningBy 112 twoCut)
       (weaker (reply 0 (presented (0xfe ∷ 0x7d ∷ 0xf3 ∷ 0xff ∷ []) (f password 243)) 3))
-      ∷ row (weakeningBy 243 twoCut)
+      ∷ asks (weakeningBy 243 twoCut)
       (weaker (reply 0 (presented (0xfe ∷ 0x7d ∷ 0xf3 ∷ 0xff ∷ []) (f password 243)) 3))
       -- P4, P5
-      ∷ row (weakeningBy 124 twoCut) (weaker (reply 0 (presented twoCut password) 5))
-      ∷ row (weakeningBy 0 twoCut)
+      ∷ asks (weakeningBy 124 twoCut) (weaker (reply 0 (presented twoCut password) 5))
+      ∷ asks (weakeningBy 0 twoCut)
       (weaker (reply 0 (presented (0xfe ∷ 0x7d ∷ 0x83 ∷ 0xff ∷ []) (f password 0x83)) 0))
       -- P6, and a gap higher up
-      ∷ row (weakeningBy mask (0xff ∷ 0xfe ∷ 0xff ∷ 0xff ∷ [])) (weaker (refusal gappedNumber))
-      ∷ row (weakeningBy mask (0xfe ∷ 0xff ∷ 0x7d ∷ 0xff ∷ [])) (weaker (refusal gappedNumber))
+      ∷ asks (weakeningBy mask (0xff ∷ 0xfe ∷ 0xff ∷ 0xff ∷ [])) (weaker (refusal gappedNumber))
+      ∷ asks (weakeningBy mask (0xfe ∷ 0xff ∷ 0x7d ∷ 0xff ∷ [])) (weaker (refusal gappedNumber))
       -- P7, P8, P9
-      ∷ row (weakeningBy 240 fourCut) (weaker (reply 0 (presented fourCut password) 4))
-      ∷ row (weakeningBy 239 fourCut) (weaker (refusal spentNumber))
-      ∷ row (reducing fourCut) (handle (presented (0xf0 ∷ 0xff ∷ 0xff ∷ 0xff ∷ []) (f first 0xf0)))
+      ∷ asks (weakeningBy 240 fourCut) (weaker (reply 0 (presented fourCut password) 4))
+      ∷ asks (weakeningBy 239 fourCut) (weaker (refusal spentNumber))
+      ∷ asks (reducing fourCut) (handle (presented (0xf0 ∷ 0xff ∷ 0xff ∷ 0xff ∷ []) (f first 0xf0)))
       -- a primary handle
-      ∷ row (reducing primary) (handle (presented primary password))
+      ∷ asks (reducing primary) (handle (presented primary password))
       ∷ []
 
-  unfoldable pub answer : Question → Answer
-  answer (referencing ss) = segmentSet (common segments ss) (referenced segments ss)
-  answer (weakeningBy m ss) = weaker (weakening segments f (presented ss password) m)
-  answer (reducing ss) = handle (reduced segments f (presented ss password) first)
+  unfoldable pub tells : Question → Told
+  tells (referencing ss) = segmentSet (common segments ss) (referenced segments ss)
+  tells (weakeningBy m ss) = weaker (weakening segments f (presented ss password) m)
+  tells (reducing ss) = handle (reduced segments f (presented ss password) first)

@@ -6,7 +6,6 @@
 --     decoded b          the handle that the 23 bytes b hold
 --     noHandle           the handle whose bytes are all zero
 --     Holdable h         node and local number fit in their bytes; password and selector have as many as theirs
---     Bytes n b          b has n elements, each below 256
 --     samePassword a b   the sixteen bytes of a are those of b
 --     renewed h p ss     the name of h, with the password p and the selector ss
 -- Weakening's numbers and replies:
@@ -76,10 +75,6 @@ pub record Holdable (h : Handle) : Type 0 where
   pub local : h .local < 256
   pub password : length (h .password) ≡ passwordBytes
   pub selector : length (h .selector) ≡ subselectors
-
-pub record Bytes (n : ℕ) (b : List ℕ) : Type 0 where
-  pub long : length b ≡ n
-  pub below : (i : ℕ) → getD b i 0 < 256
 
 unfoldable pub samePassword : List ℕ → List ℕ → Bool
 samePassword a b = every passwordBytes (λ k. eqb (getD a k 0) (getD b k 0))

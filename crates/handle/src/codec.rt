@@ -4,15 +4,13 @@ use crate::HANDLE_BYTES;
 use crate::Handle;
 use crate::HandleBytes;
 use crate::SUBSELECTORS;
+use bits::BYTE;
 use sizes::Password;
 ghost use mathlib.Core.Path.{_≡_};
 ghost use Rattle.loops.specs.First.{firstBytes};
 ghost use Rattle.handle.specs.Sizes.{handleBytes};
 ghost use Rattle.handle.specs.Handles as spec;
 ghost use Rattle.handle.specs.Opens.{primaryBytes};
-
-// How many values a byte has.
-const BYTE: u16 = 256;
 
 impl Handle {
     // The handle that 23 bytes hold.

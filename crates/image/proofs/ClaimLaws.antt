@@ -21,12 +21,12 @@ use Rattle.store.specs.declared.Place.{Place}
 use Rattle.store.specs.declared.Segment.{Segment}
 use Rattle.store.specs.Records.{absentSegment, tableOf, placeOf}
 use Rattle.store.specs.Sound.{settled, idle}
-use Rattle.store.specs.Passes.{Map, mapWords, claimable, stamped, stampedBy, claims}
+use Rattle.store.specs.inner.Passes.{Map, mapWords, claimable, stamped, stampedBy, claims}
 use Rattle.store.proofs.MarkLaws.{claim-absent, claim-mark}
 use Rattle.image.specs.Parts.{part, slot}
 use Rattle.image.specs.Images.{placeBytes, recordBytes, placesAt, placeIn, segmentIn, segmentsIn, clusterIn}
 use Rattle.image.specs.Images.{goodPlace, goodPlaces, goodRecord}
-use Rattle.image.specs.Claims.{placesIn, PlaceClaimed, PlacesClaimed, RecordClaimed}
+use Rattle.image.specs.inner.Claims.{placesIn, PlaceClaimed, PlacesClaimed, RecordClaimed}
 use Rattle.image.proofs.PlaceLaws.{place-good, place-absent, place-present}
 
 -- ---- four bytes

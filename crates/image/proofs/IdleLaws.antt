@@ -13,8 +13,7 @@ use lib.ListN.{length, getD, drop, replicate, length-replicate, getD-replicate}
 use lib.Seq.{ext-getD, getD-take, getD-drop}
 use borrow.Author.Tests.{eqb-true}
 use borrow.Rule.Slice.PartMut.{mid-len}
-use Rattle.bits.specs.Bytes.{bytes, word, wordFrom}
-use Rattle.handle.specs.Handles.{Bytes}
+use Rattle.bits.specs.Bytes.{bytes, word, wordFrom, Bytes}
 use Rattle.loops.specs.Below.{every}
 use Rattle.loops.specs.Tabulate.{tabulate}
 use Rattle.loops.proofs.BelowLaws.{and-left, and-right, and-both, tests-equal, every-at}
@@ -25,13 +24,13 @@ use Rattle.store.specs.declared.Place.the-variants.{Absent, Present}
 use Rattle.store.specs.declared.Cluster.{Cluster}
 use Rattle.store.specs.Records.{absentSegment, inactive, tableOf, placeOf}
 use Rattle.store.specs.Sound.{inRanges, endsInside, inside, settled, idle, zeroBytes, isAbsent}
-use Rattle.store.specs.Passes.{Map, free, claimable, stamped, stampedBy, claims}
+use Rattle.store.specs.inner.Passes.{Map, free, claimable, stamped, stampedBy, claims}
 use Rattle.store.proofs.SoundLaws.{settled-inactive}
 use Rattle.image.specs.Parts.{part, joined}
 use Rattle.image.specs.Images.{recordBytes, readAt, placeIn, segmentsIn, clusterIn, goodPlace, goodPlaces, goodRecord}
 use Rattle.image.specs.Images.{placeOut, placesOut, recordOut}
 use Rattle.image.specs.Ranges.{ClusterFits}
-use Rattle.image.specs.Claims.{zeros, recordSound, RecordClaimed}
+use Rattle.image.specs.inner.Claims.{zeros, recordSound, RecordClaimed}
 use Rattle.image.proofs.TripLaws.{record-back}
 use Rattle.image.proofs.RangeLaws.{cluster-held}
 

@@ -20,11 +20,11 @@ use Rattle.spans.proofs.SpanLaws.{marks-none}
 use Rattle.store.specs.declared.Cluster.{Cluster}
 use Rattle.store.specs.Records.{Tables, recordOf, tableOf, tableAt, placeOf, placeOn}
 use Rattle.store.specs.Sound.{settled, sound}
-use Rattle.store.specs.Passes.{Map, mapWords, stampedBy, claims, blank, nodeMap, clusterSound}
+use Rattle.store.specs.inner.Passes.{Map, mapWords, stampedBy, claims, blank, nodeMap, clusterSound}
 use Rattle.store.proofs.ClaimLaws.{tested-told}
 use Rattle.image.specs.Parts.{slot}
 use Rattle.image.specs.Images.{recordBytes, clusterIn, goodRecord, storeIn, good}
-use Rattle.image.specs.Claims.{recordSound, RecordClaimed}
+use Rattle.image.specs.inner.Claims.{recordSound, RecordClaimed}
 use Rattle.image.proofs.ReadLaws.{cluster-at}
 
 module _ (b : List ℕ) where

@@ -13,7 +13,7 @@ use borrow.Rule.Slice.PartMut.{mid-len}
 use lib.Dec.{ltb}
 use lib.ListN.{length, getD, take, drop, length-append, length-drop, length-take, List·getD-eq-default}
 use lib.Seq.{drop-at, take-all, take-add, take-append-le, drop-append-le, getD-take, getD-drop}
-use Rattle.handle.specs.Handles.{Bytes}
+use Rattle.bits.specs.Bytes.{Bytes}
 use Rattle.image.specs.Parts.{part, slot, joined}
 
 -- the width of a part

@@ -5,23 +5,19 @@ use mathlib.Core.Bool.{Bool, not, _||_}
 use mathlib.Core.List.{List, [], _∷_, _++_}
 use mir.Syntax.{w16}
 use mir.Val.{Fits}
-use Prim.Native.Nat.{ℕ, _+_, _*_, _/_, _%_, _<_}
+use Prim.Native.Nat.{ℕ, _+_, _/_, _%_, _<_}
 use native.Mathlib.Omega.{arith}
 use borrow.Author.Tests.{eq-eqb, ne-eqb}
 use lib.Dec.{eqb}
 use lib.ListN.{length, getD, set}
-use Rattle.bits.specs.Bytes.{bytes, wordFrom, word}
-use Rattle.handle.specs.Handles.{Bytes}
+use Rattle.bits.proofs.ByteLaws.{word-two}
+use Rattle.bits.specs.Bytes.{bytes, word, Bytes}
 use Rattle.store.specs.declared.Place.{Place}
 use Rattle.store.specs.declared.Place.the-variants.{Absent, Present}
 use Rattle.store.specs.declared.Segment.{Segment}
 use Rattle.store.specs.Records.{baseOf, lengthOf}
 use Rattle.image.specs.Images.{wordBytes, placeBytes, baseIn, lengthIn, placeWith, placeIn, goodPlace, placeOut}
 use Rattle.image.specs.Ranges.{words}
-
-pub word-two : (high low : ℕ) → high * 256 + low ≡ word (high ∷ low ∷ [])
-unfolding word wordFrom
-word-two high low = omega arith
 
 -- what four bytes are to the code
 data Four : List ℕ → Type 0 where

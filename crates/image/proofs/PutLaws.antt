@@ -14,7 +14,7 @@ use borrow.Rule.Slice.PartMut.{putMid, midOf, postOf, same-len-mid, mid-len, tak
 use lib.Dec.{eqb, ltb}
 use lib.ListN.{length, getD, take, drop}
 use lib.Seq.{ext-getD, getD-take, getD-drop, take-at, drop-at, length-take-le}
-use Rattle.handle.specs.Handles.{Bytes}
+use Rattle.bits.specs.Bytes.{Bytes}
 use Rattle.loops.proofs.BelowLaws.{every-at}
 use Rattle.loops.proofs.TabulateLaws.{length-tabulate}
 use Rattle.sizes.specs.Sizes.{records}

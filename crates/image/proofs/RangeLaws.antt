@@ -13,7 +13,7 @@ use lib.ListN.{length, length-set, getD-replicate}
 use lib.Seq.{getD-set-same, getD-set-other}
 use Rattle.loops.proofs.TabulateLaws.{length-tabulate, getD-tabulate}
 use Rattle.sizes.specs.Sizes.{records, segments, passwordBytes}
-use Rattle.handle.specs.Handles.{Bytes}
+use Rattle.bits.specs.Bytes.{Bytes}
 use Rattle.store.specs.declared.Place.{Place}
 use Rattle.store.specs.declared.Place.the-variants.{Absent}
 use Rattle.store.specs.declared.Segment.{Segment}

@@ -17,11 +17,11 @@ use Rattle.store.specs.declared.Place.{Place}
 use Rattle.store.specs.declared.Segment.{Segment}
 use Rattle.store.specs.declared.Cluster.{Cluster}
 use Rattle.store.specs.Records.{recordOf, noCluster, clusterAt, tableOf, tableAt, placeOf, placeOn}
-use Rattle.store.specs.Passes.{past, climb}
+use Rattle.store.specs.inner.Passes.{past, climb}
 use Rattle.image.specs.Parts.{part, slot}
 use Rattle.image.specs.Images.{placeBytes, recordBytes, readAt, writeAt, placesAt, placeIn, segmentsIn, clusterIn}
 use Rattle.image.specs.Images.{storeIn}
-use Rattle.image.specs.Claims.{placesIn}
+use Rattle.image.specs.inner.Claims.{placesIn}
 use Rattle.image.proofs.ClaimLaws.{placed-is}
 
 -- the code has cut a record where its fields begin

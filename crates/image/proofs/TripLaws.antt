@@ -12,12 +12,11 @@ use lib.ListN.{length, getD, take, drop, length-append, length-drop, take-append
 use lib.Seq.{take-at, drop-at, take-all, drop-drop}
 use mir.Val.{Fits}
 use mir.Syntax.{w8}
-use Rattle.bits.specs.Bytes.{bytes, word}
+use Rattle.bits.specs.Bytes.{bytes, word, Bytes}
 use Rattle.bits.proofs.ByteLaws.{length-bytes, word-bytes, bytes-word}
 use Rattle.loops.proofs.BelowLaws.{and-left, and-right, and-both, every-at, every-in}
 use Rattle.loops.proofs.TabulateLaws.{getD-tabulate, tabulate-is}
 use Rattle.sizes.specs.Sizes.{records, segments, passwordBytes}
-use Rattle.handle.specs.Handles.{Bytes}
 use Rattle.store.specs.declared.Place.{Place}
 use Rattle.store.specs.declared.Place.the-variants.{Absent, Present}
 use Rattle.store.specs.declared.Segment.{Segment}

@@ -1,5 +1,5 @@
 pub mod Parts
 pub mod Images
-pub mod Claims
+pub mod inner
 pub mod Ranges
 pub mod Literals

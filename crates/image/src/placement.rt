@@ -15,9 +15,9 @@ ghost use lib.ListN.{length};
 ghost use Rattle.sizes.specs.Sizes.{segments};
 ghost use Rattle.store.specs.Records.{tableOf, tableAt, placeOf};
 ghost use Rattle.store.specs.Placement as placing;
-ghost use Rattle.store.specs.Passes.{climb};
+ghost use Rattle.store.specs.inner.Passes.{climb};
 ghost use Rattle.image.specs.Images as images;
-ghost use Rattle.image.specs.Claims.{placesIn};
+ghost use Rattle.image.specs.inner.Claims.{placesIn};
 
 // The base to try after the eight places of a record.
 fn past_places(b: &[u8], base: usize, size: usize) -> usize
@@ -47,7 +47,7 @@ fn past_record(b: &[u8], base: usize, size: usize) -> usize
 // The smallest base at which `size` bytes fit on the node in the store that the bytes hold, found as store::new_base finds
 // it among the records.
 pub fn new_base_in(image: &[u8; IMAGE], node: usize, size: usize) -> Found
-    ensures { λ r. ⌜ placing.answer r ≡ placing.placement (tableAt (images.storeIn (now (image .entry)))) node size ⌝ }
+    ensures { λ r. ⌜ placing.placedBy r ≡ placing.placement (tableAt (images.storeIn (now (image .entry)))) node size ⌝ }
 {
     if NODES <= node {
         return Found::Nowhere;

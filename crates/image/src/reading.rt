@@ -1,44 +1,22 @@
-// From bytes: whether they are those of places, records and a store, and which.
-use crate::BYTE;
-use crate::Decoded;
+// From bytes: a place, the segments of a record, one record of an image.
 use crate::IMAGE;
 use crate::PLACE;
 use crate::PLACES_AT;
 use crate::READ_AT;
 use crate::RECORD;
 use crate::WRITE_AT;
-use sizes::RECORDS;
+use bits::word;
 use sizes::SEGMENTS;
 use store::Cluster;
 use store::Place;
 use store::Segment;
-use store::Store;
 ghost use mathlib.Core.Path.{_≡_};
 ghost use mathlib.Core.Bool.{true};
-ghost use mathlib.Core.List.{[], _∷_};
 ghost use Prim.Native.Nat.{_*_};
 ghost use lib.ListN.{length};
-ghost use Rattle.bits.specs.Bytes as words;
 ghost use Rattle.sizes.specs.Sizes.{segments};
 ghost use Rattle.store.specs.Records.{clusterAt, recordAt};
 ghost use Rattle.image.specs.Images as images;
-
-// The number that two bytes hold, high byte first.
-pub fn word(high: u8, low: u8) -> u16
-    ensures { λ r. ⌜ r ≡ words.word (high ∷ low ∷ []) ⌝ }
-{
-    high as u16 * BYTE + low as u16
-}
-
-// Whether four bytes are those of a place: a length of zero comes with a base of zero.
-fn good_place(b: &[u8]) -> bool
-    requires { ⌜ length (now b) ≡ images.placeBytes ⌝ }
-    ensures { λ r. ⌜ r ≡ images.goodPlace (now (b .entry)) ⌝ }
-{
-    let base = word(b[0], b[1]);
-    let length = word(b[2], b[3]);
-    !(length == 0) | (base == 0)
-}
 
 // The place that four bytes hold.
 pub fn place_in(b: &[u8]) -> Place
@@ -51,19 +29,6 @@ pub fn place_in(b: &[u8]) -> Place
         return Place::Absent;
     }
     Place::Present { base, length }
-}
-
-fn good_places(b: &[u8]) -> bool
-    requires { ⌜ length (now b) ≡ segments * images.placeBytes ⌝ }
-    ensures { λ r. ⌜ r ≡ images.goodPlaces (now (b .entry)) ⌝ }
-{
-    let mut good = true;
-    for i in 0..SEGMENTS {
-        let from = i * PLACE;
-        let to = from + PLACE;
-        good = good_place(&b[from..to]) & good;
-    }
-    good
 }
 
 fn segments_in(b: &[u8]) -> [Segment; SEGMENTS]
@@ -82,13 +47,6 @@ fn segments_in(b: &[u8]) -> [Segment; SEGMENTS]
         };
     }
     r
-}
-
-fn good_record(b: &[u8]) -> bool
-    requires { ⌜ length (now b) ≡ images.recordBytes ⌝ }
-    ensures { λ r. ⌜ r ≡ images.goodRecord (now (b .entry)) ⌝ }
-{
-    (b[0] <= 1) & good_places(&b[PLACES_AT..RECORD])
 }
 
 fn cluster_in(b: &[u8]) -> Cluster
@@ -128,44 +86,4 @@ fn record_of(image: &[u8], node: usize, local: usize) -> Cluster
     let from = at * RECORD;
     let to = from + RECORD;
     cluster_in(&image[from..to])
-}
-
-// Whether the bytes are those of a store: each record is that of a cluster.
-fn good(image: &[u8]) -> bool
-    requires { ⌜ length (now image) ≡ images.imageBytes ⌝ }
-    ensures { λ r. ⌜ r ≡ images.good (now (image .entry)) ⌝ }
-{
-    let mut good = true;
-    for n in 0..RECORDS {
-        let from = n * RECORD;
-        let to = from + RECORD;
-        good = good_record(&image[from..to]) & good;
-    }
-    good
-}
-
-// The store that the bytes hold.
-fn store_in(image: &[u8]) -> Store
-    requires { ⌜ length (now image) ≡ images.imageBytes ⌝ }
-    ensures { λ r. ⌜ r ≡ images.storeIn (now (image .entry)) ⌝ }
-{
-    let mut clusters = [store::inactive_cluster(); RECORDS];
-    for n in 0..RECORDS {
-        let from = n * RECORD;
-        let to = from + RECORD;
-        clusters[n] = cluster_in(&image[from..to]);
-    }
-    Store { clusters }
-}
-
-// Both.
-pub fn decoded(image: &[u8]) -> Decoded
-    requires { ⌜ length (now image) ≡ images.imageBytes ⌝ }
-    ensures good { λ r. ⌜ r .good ≡ images.good (now (image .entry)) ⌝ }
-    ensures store { λ r. ⌜ r .store ≡ images.storeIn (now (image .entry)) ⌝ }
-    ensures whole { λ r. ⌜ (r .good ≡ true → images.imageOf (r .store) ≡ now (image .entry)) ⌝ }
-{
-    let good = good(image);
-    let store = store_in(image);
-    Decoded { good, store }
 }

@@ -5,7 +5,7 @@ use crate::PLACE;
 use crate::PLACES_AT;
 use crate::READ_AT;
 use crate::RECORD;
-use crate::reading::word;
+use bits::word;
 use sizes::CLUSTERS;
 use sizes::MEMORY;
 use sizes::NODES;
@@ -18,9 +18,9 @@ ghost use lib.ListN.{length};
 ghost use Rattle.sizes.specs.Sizes.{segments};
 ghost use Rattle.spans.specs.Spans.{marks};
 ghost use Rattle.store.specs.Sound as sound-spec;
-ghost use Rattle.store.specs.Passes.{mapWords};
+ghost use Rattle.store.specs.inner.Passes.{mapWords};
 ghost use Rattle.image.specs.Images as images;
-ghost use Rattle.image.specs.Claims as claims;
+ghost use Rattle.image.specs.inner.Claims as claims;
 
 // Whether every byte is zero.
 fn zero(b: &[u8]) -> bool

@@ -1,17 +1,16 @@
-// To bytes: places, records and a store, each over a part of the image.
-use crate::BYTE;
+// To bytes: places and a record, each over a part of the image.
 use crate::PLACE;
 use crate::PLACES_AT;
 use crate::READ_AT;
 use crate::RECORD;
 use crate::WRITE_AT;
+use bits::BYTE;
 use sizes::PASSWORD_BYTES;
 use sizes::RECORDS;
 use sizes::SEGMENTS;
 use store::Cluster;
 use store::Place;
 use store::Segment;
-use store::Store;
 ghost use mathlib.Core.Path.{_≡_};
 ghost use mathlib.Core.Bool.{true};
 ghost use Prim.Native.Nat.{_*_};
@@ -81,17 +80,4 @@ pub fn put_record_in(cluster: Cluster, at: usize, out: &mut [u8])
     let from = at * RECORD;
     let to = from + RECORD;
     put_record(cluster, &mut out[from..to]);
-}
-
-// The image of a store.
-pub fn put_store(store: Store, out: &mut [u8])
-    requires { ⌜ length (now out) ≡ images.imageBytes ⌝ }
-    ensures { λ _. ⌜ now (out .exit) ≡ images.imageOf store ⌝ }
-{
-    for n in 0..RECORDS {
-        let cluster = store.clusters[n];
-        let from = n * RECORD;
-        let to = from + RECORD;
-        put_record(cluster, &mut out[from..to]);
-    }
 }

@@ -14,7 +14,8 @@ use Rattle.sizes.specs.Sizes.{nodes, clusters, segments, passwordBytes}
 use Rattle.handle.specs.declared.Handle.{Handle}
 use Rattle.handle.specs.Sizes.{handleBytes}
 use Rattle.handle.specs.Selectors.{gapped, flats}
-use Rattle.handle.specs.Handles.{Name, nameOf, encoded, decoded, Bytes, through, validates}
+use Rattle.bits.specs.Bytes.{Bytes}
+use Rattle.handle.specs.Handles.{Name, nameOf, encoded, decoded, through, validates}
 use Rattle.handle.specs.Handles.{weakened, reduced}
 use Rattle.handle.specs.Opens.{primaryHandle}
 use Rattle.handle.proofs.HandleLaws.{name-weakened, gapped-weakened, valid-weakened, references-weakened}

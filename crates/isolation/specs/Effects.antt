@@ -33,7 +33,8 @@ use Rattle.sizes.specs.Sizes as N
 use Rattle.handle.specs.declared.Handle.{Handle}
 use Rattle.handle.specs.Sizes.{handleBytes}
 use Rattle.handle.specs.Selectors.{references, gapped}
-use Rattle.handle.specs.Handles.{Name, nameOf, widthOf, decoded, Bytes}
+use Rattle.bits.specs.Bytes.{Bytes}
+use Rattle.handle.specs.Handles.{Name, nameOf, widthOf, decoded}
 use Rattle.store.specs.declared.Place.the-variants.{Absent}
 use Rattle.store.specs.declared.Cluster.{Cluster}
 use Rattle.store.specs.declared.Store.{Store}

@@ -18,8 +18,8 @@ pub record Example : Type 0 where
   pub given : List ℕ
   pub printed : String
 
-abbrev row : List ℕ → String → Example
-row l s = record { given = l; printed = s }
+abbrev prints : List ℕ → String → Example
+prints l s = record { given = l; printed = s }
 
 abbrev handle : ℕ → List ℕ → List ℕ
 handle b ss = (0 ∷ 0 ∷ 2 ∷ []) ++ replicate passwordBytes b ++ ss
@@ -36,20 +36,20 @@ answered n a b c = record { number = n; first = a; second = b; count = c; length
 unfoldable pub examples : List Example
 examples =
     -- the sample
-    row (callLine 1 1 (answered 0 (primary 0x11) (primary 0x22) 0) [])
+    prints (callLine 1 1 (answered 0 (primary 0x11) (primary 0x22) 0) [])
     "1 1 0 00000211111111111111111111111111111111ffffffff 00000222222222222222222222222222222222ffffffff\n"
-    ∷ row (callLine 3 3 (answered 0 noHandle noHandle 0) []) "3 3 0\n"
-    ∷ row (callLine 2 5 (answered 0 noHandle noHandle 0) (0 ∷ 0 ∷ 0 ∷ 0 ∷ [])) "2 5 0 00000000\n"
-    ∷ row (endLine 3) "end 3\n"
+    ∷ prints (callLine 3 3 (answered 0 noHandle noHandle 0) []) "3 3 0\n"
+    ∷ prints (callLine 2 5 (answered 0 noHandle noHandle 0) (0 ∷ 0 ∷ 0 ∷ 0 ∷ [])) "2 5 0 00000000\n"
+    ∷ prints (endLine 3) "end 3\n"
     -- one handle, and a handle with its count
-    ∷ row (callLine 10 9 (answered 0 (primary 0xab) noHandle 0) [])
+    ∷ prints (callLine 10 9 (answered 0 (primary 0xab) noHandle 0) [])
     "10 9 0 000002ababababababababababababababababffffffff\n"
-    ∷ row (callLine 255 7 (answered 0 (handle 0x11 (0xfe ∷ 0x7d ∷ 0xf3 ∷ 0xff ∷ [])) noHandle 3) [])
+    ∷ prints (callLine 255 7 (answered 0 (handle 0x11 (0xfe ∷ 0x7d ∷ 0xf3 ∷ 0xff ∷ [])) noHandle 3) [])
     "255 7 0 00000211111111111111111111111111111111fe7df3ff 3\n"
     -- refused calls, a bad code among them
-    ∷ row (callLine 100 1 (answered 7 noHandle noHandle 0) []) "100 1 7\n"
-    ∷ row (callLine 99 255 (answered 3 noHandle noHandle 0) []) "99 255 3\n"
+    ∷ prints (callLine 100 1 (answered 7 noHandle noHandle 0) []) "100 1 7\n"
+    ∷ prints (callLine 99 255 (answered 3 noHandle noHandle 0) []) "99 255 3\n"
     -- an empty list, and a refused one
-    ∷ row (endLine 0) "end 0\n"
-    ∷ row (refusedLine 18) "list 18\n"
+    ∷ prints (endLine 0) "end 0\n"
+    ∷ prints (refusedLine 18) "list 18\n"
     ∷ []

@@ -16,7 +16,7 @@ use Rattle.lines.proofs.LineLaws.{callLine-fits}
 use Rattle.list.specs.Records.{recordBytes, recordIn, codeOf}
 use Rattle.list.specs.Runs.{Bench, bench, ran, bufferBytes, Performed, performed}
 use Rattle.list.specs.Texts.{recordLine}
-use Rattle.list.specs.Loops.{Reach, Lined}
+use Rattle.list.specs.inner.Loops.{Reach, Lined}
 use Rattle.list.proofs.ReadLaws.{performed-told}
 
 -- ---- the bytes that a read tells

@@ -12,7 +12,7 @@ use borrow.Author.Tests.{lt-ltb, ne-eqb}
 use lib.Dec.{eqb}
 use lib.ListN.{length}
 use Rattle.handle.specs.Handles.{Row, firstOf}
-use Rattle.handle.specs.Conversion.{conversion, product}
+use Rattle.handle.specs.Conversion.{product}
 use Rattle.calls.specs.Calls.{Copy, Kind, newCluster, deleteCluster, newSegment, deleteSegment, read, write, weaken}
 use Rattle.calls.specs.Calls.{reduce, newPassword, validate, Arguments, call, uses}
 use Rattle.calls.specs.Numbers.{unsound, noPlace}

@@ -19,7 +19,7 @@ use Rattle.lines.specs.Buffers.{longestWith, wordLineWithin, Begins}
 use Rattle.lines.proofs.LineLaws.{wordLine-fits}
 use Rattle.list.specs.Runs.{bufferBytes, starting}
 use Rattle.list.specs.Texts.{checked, chain, recordLines, textOf, output, roomFor, outputWithin}
-use Rattle.list.specs.Loops.{Ends, Ready}
+use Rattle.list.specs.inner.Loops.{Ends, Ready}
 use Rattle.list.proofs.PartLaws.{part-start, part-rest}
 use Rattle.list.proofs.RoomLaws.{ends-none, room-line, room-last}
 use Rattle.list.proofs.RunLaws.{total-few}

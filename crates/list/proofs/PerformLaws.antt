@@ -14,7 +14,7 @@ use Rattle.sizes.specs.Sizes.{nodes, clusters, passwordBytes}
 use Rattle.handle.specs.Sizes.{handleBytes}
 use Rattle.handle.specs.declared.Handle.{Handle}
 use Rattle.handle.specs.Handles.{nodeOf, firstOf, noSuchPlace, decoded}
-use Rattle.handle.specs.Conversion.{conversion, product}
+use Rattle.handle.specs.Conversion.{product}
 use Rattle.store.specs.declared.Store.{Store}
 use Rattle.store.specs.Sound.{sound}
 use Rattle.calls.specs.Calls.{Kind, newCluster, deleteCluster, newSegment, deleteSegment, read, write, weaken, reduce}

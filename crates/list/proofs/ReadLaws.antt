@@ -10,7 +10,7 @@ use mathlib.Core.Option.{Option, none, some}
 use borrow.Author.Tests.{ltb-false}
 use lib.ListN.{length}
 use Rattle.handle.specs.Handles.{Name, firstOf}
-use Rattle.handle.specs.Conversion.{conversion, product}
+use Rattle.handle.specs.Conversion.{conversion}
 use Rattle.store.specs.Records.{tableAt, lengthOf}
 use Rattle.calls.specs.Calls.{Copy, Kind, newCluster, deleteCluster, newSegment, deleteSegment, read, write, weaken}
 use Rattle.calls.specs.Calls.{reduce, newPassword, validate, Call, call, placeFor}

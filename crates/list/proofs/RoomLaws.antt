@@ -16,7 +16,7 @@ use Rattle.lines.specs.Lines.{endWord}
 use Rattle.lines.specs.Buffers.{longest, brief, longestWith}
 use Rattle.list.specs.Records.{recordBytes, recordIn, codeOf}
 use Rattle.list.specs.Texts.{mostText, briefText, isRead, quiet, roomFor}
-use Rattle.list.specs.Loops.{Ends}
+use Rattle.list.specs.inner.Loops.{Ends}
 
 module _ (list : List ℕ) where
   -- ---- a quiet list

@@ -25,7 +25,7 @@ use Rattle.list.specs.Records.{recordBytes, mostBytes, recordIn, codeOf}
 use Rattle.list.specs.Runs.{Bench, bench, bufferBytes, starting, Performed, performed}
 use Rattle.numbers.specs.Numbers.{lengthNumber}
 use Rattle.list.specs.Texts.{badLength, checked, chain, recordLine, recordLines}
-use Rattle.list.specs.Loops.{Reach, Lined, Ends, Ready}
+use Rattle.list.specs.inner.Loops.{Reach, Lined, Ends, Ready}
 use Rattle.list.proofs.PartLaws.{part-start, part-rest}
 use Rattle.list.proofs.RoomLaws.{quiet-at, ends-none, ends-more, room-line, room-last}
 

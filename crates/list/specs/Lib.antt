@@ -2,5 +2,5 @@ pub mod Records
 pub mod Runs
 pub mod Texts
 pub mod Meanings
-pub mod Loops
+pub mod inner
 pub mod Literals

@@ -17,9 +17,9 @@ use Prim.Native.Nat.{ℕ}
 use Prim.Native.String.{String}
 use mathlib.Core.Path.{_≡_}
 use mathlib.Core.List.{List, [], _∷_, _++_, map}
-use mathlib.Core.Option.{Option, none, some}
+use mathlib.Core.Option.{none, some}
 use lib.ListN.{replicate}
-use Rattle.calls.specs.Calls.{Arguments, Kind, newCluster, deleteCluster, newSegment, deleteSegment, read, write, weaken}
+use Rattle.calls.specs.Calls.{Arguments, newCluster, deleteCluster, newSegment, deleteSegment, read, write, weaken}
 use Rattle.calls.specs.Calls.{reduce, newPassword}
 use Rattle.lines.specs.Text.{ascii}
 use Rattle.list.specs.Records.{codeOf, kindOf, argumentsOf}

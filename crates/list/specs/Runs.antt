@@ -16,12 +16,12 @@
 -- Assumes nothing.
 use Prim.Native.Nat.{ℕ}
 use mathlib.Core.Bool.{Bool, true, false, _&&_}
-use mathlib.Core.List.{List, [], _∷_, _++_, map}
+use mathlib.Core.List.{List, [], _∷_, _++_}
 use mathlib.Core.Option.{Option, none, some}
 use lib.Dec.{eqb, ltb}
 use lib.ListN.{length, replicate}
 use Rattle.handle.specs.Handles.{Row, firstOf}
-use Rattle.handle.specs.Conversion.{conversion, product}
+use Rattle.handle.specs.Conversion.{product}
 use Rattle.store.specs.declared.Store.{Store}
 use Rattle.calls.specs.Calls.{Copy, start, Kind, Call, call, among}
 use Rattle.calls.specs.Numbers.{at, rows}

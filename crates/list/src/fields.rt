@@ -37,9 +37,6 @@ const SECOND: usize = 48;
 // The most bytes of data that a record holds.
 pub const MOST_DATA: usize = 32;
 
-// How many values a byte has.
-const BYTE: usize = 256;
-
 // A byte as a number of any size.
 pub fn wide(byte: u8) -> usize
     ensures { λ r. ⌜ r ≡ byte ⌝ }
@@ -51,7 +48,7 @@ pub fn wide(byte: u8) -> usize
 pub fn pair(high: u8, low: u8) -> usize
     ensures { λ r. ⌜ r ≡ high * 256 + low ⌝ }
 {
-    high as usize * BYTE + low as usize
+    bits::word(high, low) as usize
 }
 
 // The handle of a record.

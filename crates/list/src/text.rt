@@ -18,7 +18,7 @@ ghost use Rattle.lines.specs.Buffers as buffers;
 ghost use Rattle.list.specs.Records as records;
 ghost use Rattle.list.specs.Runs as runs;
 ghost use Rattle.list.specs.Texts as texts;
-ghost use Rattle.list.specs.Loops as loops;
+ghost use Rattle.list.specs.inner.Loops as loops;
 
 // The most bytes that a list has.
 pub const MOST_BYTES: usize = 16320;

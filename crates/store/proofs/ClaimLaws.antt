@@ -18,7 +18,7 @@ use Rattle.store.specs.declared.Store.{Store}
 use Rattle.sizes.specs.Sizes.{nodes, clusters, segments, memory}
 use Rattle.store.specs.Records.{recordOf, clusterAt, tableAt, placeAt, placeOn}
 use Rattle.store.specs.Sound.{inside, soundSegment, apart, settled, sound}
-use Rattle.store.specs.Passes.{free, claimable, claims, nodeMap, clusterSound}
+use Rattle.store.specs.inner.Passes.{free, claimable, claims, nodeMap, clusterSound}
 use Rattle.store.proofs.PlaceLaws.{apart-sym}
 use Rattle.store.proofs.MapLaws.{mapAt, Before, beside, above, unmarked-out, unmarked-in}
 use Rattle.store.proofs.MapLaws.{free-apart, free-in, apart-leaves}

@@ -17,7 +17,7 @@ use Rattle.sizes.specs.Sizes.{clusters, segments}
 use Rattle.store.specs.Records.{Tables, placeOn}
 use Rattle.store.specs.Sound.{apart}
 use Rattle.store.specs.Placement.{clear}
-use Rattle.store.specs.Passes.{endOf, past, climb, nodeClimb}
+use Rattle.store.specs.inner.Passes.{endOf, past, climb, nodeClimb}
 use Rattle.store.proofs.PlaceLaws.{apart-low, apart-high, apart-off, apart-meet}
 
 -- ---- one place

@@ -16,7 +16,7 @@ use Rattle.store.specs.declared.Place.the-variants.{Absent, Present}
 use Rattle.sizes.specs.Sizes.{segments}
 use Rattle.store.specs.Records.{Tables, placeOn}
 use Rattle.store.specs.Sound.{inside, apart}
-use Rattle.store.specs.Passes.{Map, holds, free, stamped, stampedBy, blank, nodeMap}
+use Rattle.store.specs.inner.Passes.{Map, holds, free, stamped, stampedBy, blank, nodeMap}
 use Rattle.store.proofs.PlaceLaws.{holds-in, holds-out, Shared, apart-shares-none, not-apart-shares}
 
 -- byte x of the map is unmarked

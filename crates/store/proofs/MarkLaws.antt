@@ -24,8 +24,8 @@ use Rattle.store.specs.declared.Store.{Store}
 use Rattle.sizes.specs.Sizes.{clusters, segments}
 use Rattle.store.specs.Records.{tableOf, recordOf, clusterAt, tableAt, placeOf, placeOn}
 use Rattle.store.specs.Sound.{inside, inRanges, endsInside, settled}
-use Rattle.store.specs.Passes.{Map, mapWords, holds, free, stamped, claimable, stampedBy, claims}
-use Rattle.store.specs.Passes.{Claimed, ClaimedAll, blank, nodeMap, clusterSound}
+use Rattle.store.specs.inner.Passes.{Map, mapWords, holds, free, stamped, claimable, stampedBy, claims}
+use Rattle.store.specs.inner.Passes.{Claimed, ClaimedAll, blank, nodeMap, clusterSound}
 use Rattle.store.proofs.PlaceLaws.{inside-in, inside-out, holds-in, holds-out}
 use Rattle.store.proofs.MapLaws.{free-in, free-out}
 

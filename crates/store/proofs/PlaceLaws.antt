@@ -12,7 +12,7 @@ use Rattle.store.specs.declared.Place.{Place}
 use Rattle.store.specs.declared.Place.the-variants.{Absent, Present}
 use Rattle.sizes.specs.Sizes.{nodeMemory}
 use Rattle.store.specs.Sound.{inRanges, endsInside, inside, apart}
-use Rattle.store.specs.Passes.{holds}
+use Rattle.store.specs.inner.Passes.{holds}
 
 -- a present place lies inside its node's memory
 pub record Inside (base length : ℕ) : Type 0 where

@@ -15,8 +15,8 @@ use Rattle.store.specs.declared.Place.the-variants.{Present}
 use Rattle.sizes.specs.Sizes.{nodes, clusters, segments, nodeMemory}
 use Rattle.store.specs.Records.{Tables, placeOn}
 use Rattle.store.specs.Sound.{inside, apart}
-use Rattle.store.specs.Placement.{clear, fits, newBase, roomAt, noRoom, answered, placement}
-use Rattle.store.specs.Passes.{climb, nodeClimb}
+use Rattle.store.specs.Placement.{clear, fits, newBase, roomAt, noRoom, placedAt, placement}
+use Rattle.store.specs.inner.Passes.{climb, nodeClimb}
 use Rattle.store.proofs.PlaceLaws.{Inside, inside-out, inside-in}
 use Rattle.store.proofs.JumpLaws.{jumps-node}
 
@@ -67,7 +67,7 @@ module _ (ts : Tables) (node size : ℕ) where
 
   refused : ((k : ℕ) → k < nodeMemory → fits ts node size k ≡ false) → noRoom ≡ placement ts node size
   unfolding placement newBase
-  refused f = ap answered (sym (least-none (fits ts node size) nodeMemory f))
+  refused f = ap placedAt (sym (least-none (fits ts node size) nodeMemory f))
 
   nothing : ((k : ℕ) → k < nodeMemory → Fits k → ⊥) → noRoom ≡ placement ts node size
   nothing f = refused (λ k h. test-off (fits ts node size k) (λ e. f k h (fits-out k e)))
@@ -115,7 +115,7 @@ module _ (ts : Tables) (node size : ℕ) where
           → roomAt base ≡ placement ts node size
       unfolding placement newBase fits
       base-found a b c d q =
-          ap answered
+          ap placedAt
           (sym (least-is (fits ts node size) nodeMemory base (omega arith)
           (and-both (ltb node nodes && inside (Present base size)) (clear ts node (Present base size))
           (and-both (ltb node nodes) (inside (Present base size)) (lt-ltb node nodes a)

@@ -15,7 +15,7 @@ use Rattle.store.specs.declared.Store.{Store}
 use Rattle.sizes.specs.Sizes.{nodes, clusters, segments, nodeMemory}
 use Rattle.store.specs.Records.{tableAt, placeOn}
 use Rattle.store.specs.Sound.{inside, apart}
-use Rattle.store.specs.Placement.{Answer, clear, fits, newBase, answered, placement}
+use Rattle.store.specs.Placement.{Placed, clear, fits, newBase, placedAt, placement}
 use Rattle.store.specs.SoundWords.{SoundInWords}
 use Rattle.store.specs.PlacementWords.{Room, PlacementInWords}
 use Rattle.store.proofs.PlaceLaws.{inside-out, inside-in}
@@ -78,14 +78,14 @@ module _ (s : Store) (slice : ℕ) (w : SoundInWords s slice) (v size : ℕ) (hv
   unfolding placement
   placement-in-words =
       record {
-        at = λ base. (λ e. some-out base (given (newBase (tableAt s) v size) base e), λ r. ap answered (found base (r .0) (r .1)));
-        nowhere = (λ e. none-out (refused (newBase (tableAt s) v size) e), λ h. ap (λ (o : Option ℕ). answered o .number) (missing h));
+        at = λ base. (λ e. some-out base (given (newBase (tableAt s) v size) base e), λ r. ap placedAt (found base (r .0) (r .1)));
+        nowhere = (λ e. none-out (refused (newBase (tableAt s) v size) e), λ h. ap (λ (o : Option ℕ). placedAt o .number) (missing h));
       }
     where
-      given : (o : Option ℕ) (base : ℕ) → answered o ≡ record { number = 0; base = base } → o ≡ some base
-      given none base e = absurd (omega (arith, ap (λ (a : Answer). a .number) e))
-      given (some b) base e = ap (λ (a : Answer). some (a .base)) e
+      given : (o : Option ℕ) (base : ℕ) → placedAt o ≡ record { number = 0; base = base } → o ≡ some base
+      given none base e = absurd (omega (arith, ap (λ (a : Placed). a .number) e))
+      given (some b) base e = ap (λ (a : Placed). some (a .base)) e
 
-      refused : (o : Option ℕ) → answered o .number ≡ 16 → o ≡ none
+      refused : (o : Option ℕ) → placedAt o .number ≡ 16 → o ≡ none
       refused none e = refl
       refused (some b) e = absurd (omega arith)

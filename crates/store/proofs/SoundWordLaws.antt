@@ -23,7 +23,7 @@ use Rattle.store.specs.Sound.{inRanges, endsInside, inside, soundSegment
 use Rattle.store.specs.Sound.{sound}
 use Rattle.store.specs.SoundWords.{ByteOf, ZeroPassword, SoundInWords}
 use Rattle.store.proofs.PlaceLaws.{Inside, inside-out, inside-in, holds-in, holds-out, Shared}
-use Rattle.store.specs.Passes.{holds}
+use Rattle.store.specs.inner.Passes.{holds}
 use Rattle.store.proofs.PlaceLaws.{apart-shares-none, not-apart-shares}
 use Rattle.store.proofs.SoundLaws.{Sound, sound-out, sound-in}
 

@@ -1,7 +1,7 @@
 pub mod Records
 pub mod Sound
 pub mod Placement
-pub mod Passes
+pub mod inner
 pub mod Examples
 pub mod SoundWords
 pub mod SoundCases

@@ -3,10 +3,11 @@
 --     fits ts node size base    that many bytes from base on lie inside the node's memory, and are clear; a node
 --                               above 3 has no memory
 --     newBase ts node size      the smallest base at which that many bytes fit, or none
---     Answer                    a number of the table, 0 for done, and a base
+--     Placed                    a number of the table, 0 for done, and a base
 --     roomAt b, noRoom          done with the base b; 16, no room
---     placement ts node size    what a new segment of that size is answered, once its place and its size are good
---     answer                    what each case of the code's answer says
+--     placedAt o                that of the base found, or of none
+--     placement ts node size    what a new segment of that size is told, once its place and its size are good
+--     placedBy                  what each case of the code's answer says
 -- Assumes nothing.
 use Prim.Native.Nat.{ℕ}
 use mathlib.Core.Bool.{Bool, _&&_}
@@ -32,23 +33,23 @@ fits ts node size base = ltb node nodes && inside (Present base size) && clear t
 unfoldable pub newBase : Tables → ℕ → ℕ → Option ℕ
 newBase ts node size = least nodeMemory (fits ts node size)
 
-pub record Answer : Type 0 where
+pub record Placed : Type 0 where
   pub number : ℕ
   pub base : ℕ
 
-abbrev pub roomAt : ℕ → Answer
+abbrev pub roomAt : ℕ → Placed
 roomAt b = record { number = 0; base = b }
 
-abbrev pub noRoom : Answer
+abbrev pub noRoom : Placed
 noRoom = record { number = noRoomNumber; base = 0 }
 
-abbrev pub answered : Option ℕ → Answer
-answered (some base) = roomAt base
-answered none = noRoom
+abbrev pub placedAt : Option ℕ → Placed
+placedAt (some base) = roomAt base
+placedAt none = noRoom
 
-unfoldable pub placement : Tables → ℕ → ℕ → Answer
-placement ts node size = answered (newBase ts node size)
+unfoldable pub placement : Tables → ℕ → ℕ → Placed
+placement ts node size = placedAt (newBase ts node size)
 
-abbrev pub answer : Found → Answer
-answer (At base) = roomAt base
-answer Nowhere = noRoom
+abbrev pub placedBy : Found → Placed
+placedBy (At base) = roomAt base
+placedBy Nowhere = noRoom

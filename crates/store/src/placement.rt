@@ -2,8 +2,8 @@
 ghost use mathlib.Core.Path.{_≡_};
 ghost use Rattle.sizes.specs.Sizes.{segments};
 ghost use Rattle.store.specs.Records.{tableOf, tableAt, placeOf};
-ghost use Rattle.store.specs.Placement.{answer, placement};
-ghost use Rattle.store.specs.Passes as passes;
+ghost use Rattle.store.specs.Placement.{placedBy, placement};
+ghost use Rattle.store.specs.inner.Passes as passes;
 use crate::Cluster;
 use crate::Found;
 use crate::Place;
@@ -59,7 +59,7 @@ fn past_cluster(cluster: Cluster, base: usize, size: usize) -> usize
 // fits; any other pass ends at a segment's end, and nothing fits between. The loops are nested here, since a store that
 // is handed on is copied whole.
 pub fn new_base(store: Store, node: usize, size: usize) -> Found
-    ensures { λ r. ⌜ answer r ≡ placement (tableAt store) node size ⌝ }
+    ensures { λ r. ⌜ placedBy r ≡ placement (tableAt store) node size ⌝ }
 {
     if NODES <= node {
         return Found::Nowhere;

@@ -7,7 +7,7 @@ ghost use Rattle.sizes.specs.Sizes.{segments};
 ghost use Rattle.spans.specs.Spans.{marks};
 ghost use Rattle.store.specs.Records.{tableOf, placeOf};
 ghost use Rattle.store.specs.Sound as sound-spec;
-ghost use Rattle.store.specs.Passes as passes;
+ghost use Rattle.store.specs.inner.Passes as passes;
 use crate::Cluster;
 use crate::Place;
 use crate::Store;

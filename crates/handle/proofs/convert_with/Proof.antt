@@ -1,6 +1,6 @@
 -- The block is written out as fifteen zeros and the parameter, and `aes::encrypt_with` says the rest.
 -- Assumes nothing.
-use Rattle.handle.specs.Conversion.{conversion, product}
+use Rattle.handle.specs.Conversion.{conversion}
 use borrow.Author.Needs.{needs}
 use Rattle.handle.proofs.convert_with.Statement.{statement}
 use Rattle.handle.proofs.convert_with.Tie as tie

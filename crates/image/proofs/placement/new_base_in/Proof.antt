@@ -5,7 +5,7 @@ use Prim.Native.Nat.{_-_}
 use Rattle.loops.proofs.TurnLaws.{Turning, turning-none, turning-more}
 use Rattle.sizes.specs.Sizes.{clusters, segments, nodeMemory}
 use Rattle.store.specs.Records.{tableAt, placeOn}
-use Rattle.store.specs.Passes.{climb}
+use Rattle.store.specs.inner.Passes.{climb}
 use Rattle.store.proofs.PlacementLaws.{passed-all, Tried, tried-none, tried-more, tried-all}
 use Rattle.store.proofs.PlacementLaws.{base-no-node, base-no-size, base-too-long, base-found, base-rises}
 use Rattle.image.specs.Images.{storeIn}

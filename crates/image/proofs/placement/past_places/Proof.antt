@@ -3,8 +3,8 @@
 use Prim.Native.Nat.{_-_}
 use Rattle.loops.proofs.TurnLaws.{Turning, turning-none, turning-more, turning-all}
 use Rattle.sizes.specs.Sizes.{segments}
-use Rattle.store.specs.Passes.{past, climb}
-use Rattle.image.specs.Claims.{placesIn}
+use Rattle.store.specs.inner.Passes.{past, climb}
+use Rattle.image.specs.inner.Claims.{placesIn}
 use Rattle.image.proofs.ReadLaws.{past-place}
 use borrow.Author.Needs.{needs}
 use Rattle.image.proofs.placement.past_places.Statement.{statement}

@@ -5,7 +5,7 @@ use mathlib.Core.Path.{_≡_}
 use lib.ListN.{length}
 use Rattle.sizes.specs.Sizes.{segments}
 use Rattle.spans.specs.Spans.{marks}
-use Rattle.store.specs.Passes.{mapWords}
+use Rattle.store.specs.inner.Passes.{mapWords}
 use Rattle.image.proofs.ClaimLaws.{Places, places-none, places-more, places-all}
 use borrow.Author.Needs.{needs}
 use Rattle.image.proofs.soundness.claim_places.Statement.{statement}

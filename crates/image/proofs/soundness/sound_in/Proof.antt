@@ -8,7 +8,7 @@ use Rattle.loops.specs.Below.{every}
 use Rattle.loops.proofs.RunningLaws.{Running, running-none, running-more}
 use Rattle.sizes.specs.Sizes.{nodes, clusters}
 use Rattle.spans.specs.Spans.{marks}
-use Rattle.store.specs.Passes.{mapWords}
+use Rattle.store.specs.inner.Passes.{mapWords}
 use Rattle.image.proofs.JudgeLaws.{passes, Judged, judged-none, judged-more, judged-all, sound-told}
 use borrow.Author.Needs.{needs}
 use Rattle.image.proofs.soundness.sound_in.Statement.{statement}

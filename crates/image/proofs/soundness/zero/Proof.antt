@@ -4,7 +4,7 @@ use Prim.Native.Nat.{_-_}
 use lib.Dec.{eqb}
 use lib.ListN.{length, getD}
 use Rattle.loops.proofs.RunningLaws.{Running, running-none, running-more, running-all}
-use Rattle.image.specs.Claims.{zeros}
+use Rattle.image.specs.inner.Claims.{zeros}
 use borrow.Author.Needs.{needs}
 use Rattle.image.proofs.soundness.zero.Statement.{statement}
 use Rattle.image.proofs.soundness.zero.Tie as tie

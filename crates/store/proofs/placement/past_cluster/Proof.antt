@@ -5,7 +5,7 @@ use Prim.Native.Nat.{_-_}
 use Rattle.loops.proofs.TurnLaws.{Turning, turning-none, turning-more, turning-all}
 use Rattle.sizes.specs.Sizes.{segments}
 use Rattle.store.specs.Records.{tableOf, placeOf}
-use Rattle.store.specs.Passes.{past, climb}
+use Rattle.store.specs.inner.Passes.{past, climb}
 use Rattle.store.proofs.placement.past_cluster.Statement.{statement}
 use Rattle.store.proofs.placement.past_cluster.Tie as tie
 

@@ -6,7 +6,7 @@ use mathlib.Core.Path.{_≡_}
 use lib.ListN.{length}
 use Rattle.sizes.specs.Sizes.{segments}
 use Rattle.spans.specs.Spans.{marks}
-use Rattle.store.specs.Passes.{mapWords}
+use Rattle.store.specs.inner.Passes.{mapWords}
 use Rattle.store.proofs.MarkLaws.{Claiming, claiming-none, claiming-more, claiming-all}
 use Rattle.store.proofs.soundness.claim_all.Statement.{statement}
 use Rattle.store.proofs.soundness.claim_all.Tie as tie

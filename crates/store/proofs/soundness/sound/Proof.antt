@@ -10,7 +10,7 @@ use Rattle.loops.specs.Below.{every}
 use Rattle.loops.proofs.RunningLaws.{Running, running-none, running-more}
 use Rattle.sizes.specs.Sizes.{nodes, clusters}
 use Rattle.spans.specs.Spans.{marks}
-use Rattle.store.specs.Passes.{mapWords, clusterSound}
+use Rattle.store.specs.inner.Passes.{mapWords, clusterSound}
 use Rattle.store.proofs.MarkLaws.{Passing, passing-none, passing-more, passing-all}
 use Rattle.store.proofs.ClaimLaws.{tested-told}
 use Rattle.store.proofs.soundness.sound.Statement.{statement}

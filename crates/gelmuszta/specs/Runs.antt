@@ -1,14 +1,14 @@
--- Rows of calls on an image, each on the image and the memory that the one before it left.
---     Rowed              the replies of a row, and the image and the memory at its end
---     followedBy r n     the reply r, and then the row's
---     row xs b m         the row of the calls xs from the image b and the memory m on
+-- Lists of calls on an image, each on the image and the memory that the one before it left.
+--     RanOn              the replies of a list, and the image and the memory at its end
+--     followedBy r n     the reply r, and then the list's
+--     runOn xs b m       the list of the calls xs from the image b and the memory m on
 --     imagedRun n        a run of steps, the store at its end as its image
 --     refusedWith n      the reply of a refusal with n; image and memory are those given
 -- Statements:
---     RowsAreRuns        on an image that holds a store a row gives and leaves what the run of steps on that store does, so
---                        what is proved of runs, condition 3 with it, holds of rows
+--     ListsAreRuns       on an image that holds a store a list gives and leaves what the run of steps on that store does, so
+--                        what is proved of runs, condition 3 with it, holds on images
 --     TwoImages          condition 3 of images: where the stores that two images hold, with their memories, differ only in
---                        one cluster's secrets, and no call shows a handle that opens it, the replies of a row are equal,
+--                        one cluster's secrets, and no call shows a handle that opens it, the replies of a list are equal,
 --                        and the runs agree as the copies of the stores do
 --     RefusalLeaves      a call whose number is not 0 gives nothing else, and leaves image, memory and buffer as they were
 -- Assumes nothing.
@@ -19,7 +19,8 @@ use mathlib.Core.List.{List, [], _∷_}
 use Prim.Native.Nat.{ℕ, _<_}
 use Rattle.sizes.specs.Sizes.{nodes, clusters}
 use Rattle.handle.specs.Conversion.{conversion, product}
-use Rattle.handle.specs.Handles.{Name, Bytes}
+use Rattle.bits.specs.Bytes.{Bytes}
+use Rattle.handle.specs.Handles.{Name}
 use Rattle.store.specs.Records.{tableAt}
 use Rattle.calls.specs.Calls.{Copy, Call, buffer}
 use Rattle.calls.specs.Steps.{Reply, Ran, plain, run}
@@ -27,28 +28,28 @@ use Rattle.calls.specs.Answers.{copyOf}
 use Rattle.isolation.specs.Copies.{SoundCopy, setApart, Alike, AllShut}
 use Rattle.isolation.specs.Statements.{Agreed}
 use Rattle.image.specs.Images.{imageBytes, good, storeIn, imageOf}
-use Rattle.gelmuszta.specs.Exported.{Performed, performed}
+use Rattle.gelmuszta.specs.Exported.{Exported, exported}
 use Rattle.gelmuszta.specs.Fits.{AllFit}
 
-pub record Rowed : Type 0 where
+pub record RanOn : Type 0 where
   pub replies : List Reply
   pub image : List ℕ
   pub memory : List ℕ
 
-abbrev pub followedBy : Reply → Rowed → Rowed
+abbrev pub followedBy : Reply → RanOn → RanOn
 followedBy r n = record { replies = r ∷ n .replies; image = n .image; memory = n .memory }
 
-abbrev pub row : List Call → List ℕ → List ℕ → Rowed
-row [] b m = record { replies = []; image = b; memory = m }
-row (x ∷ xs) b m = followedBy (performed x b m .reply) (row xs (performed x b m .image) (performed x b m .memory))
+abbrev pub runOn : List Call → List ℕ → List ℕ → RanOn
+runOn [] b m = record { replies = []; image = b; memory = m }
+runOn (x ∷ xs) b m = followedBy (exported x b m .reply) (runOn xs (exported x b m .image) (exported x b m .memory))
 
-abbrev pub imagedRun : Ran → Rowed
+abbrev pub imagedRun : Ran → RanOn
 imagedRun n = record { replies = n .replies; image = imageOf (n .copy .store); memory = n .copy .memory }
 
-abbrev pub RowsAreRuns : Type 0
-RowsAreRuns =
+abbrev pub ListsAreRuns : Type 0
+ListsAreRuns =
     (xs : List Call) (b m : List ℕ) → AllFit xs → Bytes imageBytes b → good b ≡ true
-    → row xs b m ≡ imagedRun (run product xs (copyOf (storeIn b) m))
+    → runOn xs b m ≡ imagedRun (run product xs (copyOf (storeIn b) m))
 
 abbrev pub f : Name → List ℕ → ℕ → List ℕ
 f n = conversion
@@ -57,7 +58,7 @@ abbrev pub held : List ℕ → List ℕ → Copy
 held b m = copyOf (storeIn b) m
 
 pub record ImagesAgree (node local : ℕ) (xs : List Call) (b m d n : List ℕ) : Type 0 where
-  pub replies : row xs b m .replies ≡ row xs d n .replies
+  pub replies : runOn xs b m .replies ≡ runOn xs d n .replies
   pub agreed : Agreed node local f xs (held b m) (held d n)
 
 abbrev pub TwoImages : Type 0
@@ -69,10 +70,10 @@ TwoImages =
     → AllShut node local f xs (held b m) → AllShut node local f xs (held d n)
     → ImagesAgree node local xs b m d n
 
-abbrev pub refusedWith : ℕ → Call → List ℕ → List ℕ → Performed
+abbrev pub refusedWith : ℕ → Call → List ℕ → List ℕ → Exported
 refusedWith n x b m = record { reply = plain n (buffer x); image = b; memory = m }
 
 abbrev pub RefusalLeaves : Type 0
 RefusalLeaves =
-    (x : Call) (b m : List ℕ) → Bytes imageBytes b → performed x b m .reply .number ≢ 0
-    → performed x b m ≡ refusedWith (performed x b m .reply .number) x b m
+    (x : Call) (b m : List ℕ) → Bytes imageBytes b → exported x b m .reply .number ≢ 0
+    → exported x b m ≡ refusedWith (exported x b m .reply .number) x b m

@@ -1,9 +1,9 @@
 -- Two bytes as one number.
 -- Assumes nothing.
-use Rattle.image.proofs.PlaceLaws.{word-two}
+use Rattle.bits.proofs.ByteLaws.{word-two}
 use borrow.Author.Needs.{needs}
-use Rattle.image.proofs.reading.word.Statement.{statement}
-use Rattle.image.proofs.reading.word.Tie as tie
+use Rattle.bits.proofs.word.Statement.{statement}
+use Rattle.bits.proofs.word.Tie as tie
 
 returns : tie.Need-returns
 returns c = word-two _ _

@@ -17,7 +17,7 @@ use Rattle.sizes.specs.Sizes.{segments}
 use Rattle.store.specs.declared.Place.{Place}
 use Rattle.store.specs.Records.{tableOf, placeOf}
 use Rattle.store.specs.Sound.{settled}
-use Rattle.store.specs.Passes.{Map, claimable, stamped, stampedBy, claims}
+use Rattle.store.specs.inner.Passes.{Map, claimable, stamped, stampedBy, claims}
 use Rattle.image.specs.Parts.{slot}
 use Rattle.image.specs.Images.{placeBytes, placeIn, clusterIn, goodPlace, goodPlaces, goodRecord}
 

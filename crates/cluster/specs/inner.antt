@@ -1,0 +1,3 @@
+-- What only inner contracts cite: how the code goes about it. What states the documents stands beside this folder.
+pub mod Access
+pub mod Makes

@@ -1,0 +1,87 @@
+-- On the image of a store in range a call is the step on that store, and what the step leaves is in range again: so a list
+-- of calls is a run of steps. A refusal leaves the store, whose image the bytes are.
+-- Assumes nothing.
+use mathlib.Core.Path.{_≡_, refl, sym, ap, _∙_}
+use mathlib.Core.Bool.{Bool, true, false}
+use mathlib.Core.List.{List, [], _∷_}
+use Prim.Native.Nat.{ℕ}
+use Rattle.handle.specs.Conversion.{product}
+use Rattle.store.specs.declared.Store.{Store}
+use Rattle.calls.specs.Calls.{Call, among}
+use Rattle.calls.specs.Steps.{Outcome, run, aesStep}
+use Rattle.calls.specs.Answers.{copyOf}
+use Rattle.isolation.proofs.TwoCopies.{two-copies}
+use Rattle.image.specs.Images.{good, storeIn, imageOf}
+use Rattle.image.specs.Ranges.{StoreFits}
+use Rattle.image.proofs.TripLaws.{good-image, store-image, image-store}
+use Rattle.image.proofs.RangeLaws.{store-held}
+use Rattle.gelmuszta.specs.Exported.{Exported, damaged, imaged, exported}
+use Rattle.gelmuszta.specs.Fits.{AllFit}
+use Rattle.gelmuszta.specs.Runs.{RanOn, runOn, followedBy, imagedRun, ListsAreRuns, f, held, TwoImages, refusedWith}
+use Rattle.gelmuszta.specs.Runs.{RefusalLeaves}
+use Rattle.gelmuszta.proofs.ExportLaws.{damagedBy, picked, step-leaves}
+use Rattle.gelmuszta.proofs.FitLaws.{step-fits}
+
+exported-good : (x : Call) (b m : List ℕ) → good b ≡ true → exported x b m ≡ imaged (aesStep x (copyOf (storeIn b) m))
+unfolding exported
+exported-good x b m g = ap (picked x b m) g
+
+exported-damaged : (x : Call) (b m : List ℕ) → good b ≡ false → exported x b m ≡ damaged x b m
+unfolding exported
+exported-damaged x b m g = ap (picked x b m) g
+
+exported-image : (s : Store) → StoreFits s → (x : Call) (m : List ℕ)
+    → exported x (imageOf s) m ≡ imaged (aesStep x (copyOf s m))
+exported-image s k x m =
+    exported-good x (imageOf s) m (good-image s k)
+    ∙ ap (λ (t : Store). imaged (aesStep x (copyOf t m))) (store-image s k)
+
+list-run : (xs : List Call) (s : Store) (m : List ℕ) → AllFit xs → StoreFits s
+    → runOn xs (imageOf s) m ≡ imagedRun (run product xs (copyOf s m))
+list-run [] s m p k = refl
+list-run (x ∷ xs) s m p k =
+    ap (λ (o : Exported). followedBy (o .reply) (runOn xs (o .image) (o .memory))) (exported-image s k x m)
+    ∙ ap (followedBy (aesStep x (copyOf s m) .reply))
+    (list-run xs (aesStep x (copyOf s m) .copy .store) (aesStep x (copyOf s m) .copy .memory) (p .1)
+    (step-fits product x (copyOf s m) (p .0) k))
+
+pub lists-are-runs : ListsAreRuns
+lists-are-runs xs b m p h g =
+    ap (λ (i : List ℕ). runOn xs i m) (sym (image-store b h g)) ∙ list-run xs (storeIn b) m p (store-held b h)
+
+pub two-images : TwoImages
+two-images node local v l xs b m d n p hb gb hd gd sb sd active alike shut-b shut-d =
+    let agreed = two-copies node local f v l xs (held b m) (held d n) sb sd active alike shut-b shut-d in
+    record {
+      replies =
+          ap (λ (r : RanOn). r .replies) (lists-are-runs xs b m p hb gb) ∙ agreed .replies
+          ∙ sym (ap (λ (r : RanOn). r .replies) (lists-are-runs xs d n p hd gd));
+      agreed = agreed;
+    }
+
+-- ---- a refusal
+
+abbrev numberOf : Exported → ℕ
+numberOf o = o .reply .number
+
+-- what is refused with its own number
+told : (x : Call) (b m : List ℕ) (o : Exported) → exported x b m ≡ o → o ≡ refusedWith (numberOf o) x b m
+    → exported x b m ≡ refusedWith (numberOf (exported x b m)) x b m
+told x b m o e r = e ∙ r ∙ ap (λ (n : ℕ). refusedWith n x b m) (sym (ap numberOf e))
+
+pub refusal-leaves : RefusalLeaves
+refusal-leaves x b m h = go (good b) refl
+  where
+    go : (g : Bool) → good b ≡ g → (numberOf (exported x b m) ≡ 0 → ⊥)
+        → exported x b m ≡ refusedWith (numberOf (exported x b m)) x b m
+    go true e ne =
+        told x b m _ (exported-good x b m e)
+        (ap imaged (step-leaves x (copyOf (storeIn b) m) (λ z. ne (ap numberOf (exported-good x b m e) ∙ z)))
+        ∙ ap (λ (i : List ℕ). refusedWith (aesStep x (copyOf (storeIn b) m) .reply .number) x i m) (image-store b h e))
+    go false e ne = told x b m (damaged x b m) (exported-damaged x b m e) (left-damaged (among (7 ∷ []) (x .kind)) (λ z. ne (ap numberOf (exported-damaged x b m e) ∙ z)))
+      where
+        left-damaged : (u : Bool) → (numberOf (damagedBy u x b m) ≡ 0 → ⊥)
+            → damagedBy u x b m ≡ refusedWith (numberOf (damagedBy u x b m)) x b m
+        left-damaged true ne =
+            ap (λ (o : Outcome). record { reply = o .reply; image = b; memory = m }) (step-leaves x (copyOf (storeIn b) m) ne)
+        left-damaged false ne = refl
