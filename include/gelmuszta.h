@@ -156,7 +156,7 @@ uint8_t gelmuszta_validate(const uint8_t image[GELMUSZTA_IMAGE], const uint8_t *
 /* Validation of many handles, 23 bytes each, one after the other: numbers[i] becomes what gelmuszta_validate gives
  * for handle i. As many are judged as `handles` has whole and `numbers` has places for; how many that is, is
  * returned. Bytes of a handle cut short are not looked at, and places of `numbers` without a handle stay as they
- * were. */
+ * were. The image is judged once for all of them. */
 size_t gelmuszta_validate_all(const uint8_t image[GELMUSZTA_IMAGE], const uint8_t *memory, size_t memory_length,
                               size_t mode, const uint8_t *handles, size_t handles_length, uint8_t *numbers,
                               size_t numbers_length);
