@@ -1,6 +1,6 @@
 -- Reading and writing: refused, or done, where the place that was looked up is that of the segment that the call is about.
 -- Assumes nothing.
-use mathlib.Core.Path.{_≡_, sym, ap, ap₂, _∙_}
+use mathlib.Core.Path.{_≡_, refl, sym, ap, ap₂, _∙_}
 use mathlib.Core.Bool.{Bool, true, false}
 use mathlib.Core.List.{List, _++_}
 use Prim.Native.Nat.{ℕ, _+_, _<_}
@@ -76,87 +76,84 @@ module _ (s : Store) (m b : List ℕ) (i : ℕ) (d : List ℕ) (n : ℕ) where
           let l = el ∙ ap lengthOf ep in
           omega arith
 
-  -- ---- call 5
-
-  abbrev ReadRefuses : Bool → Handle → Cluster → Type 0
-  ReadRefuses sd h c =
-      (p : Place) → p ≡ placeOf (tableOf c) i → n ≡ accessed sd h c p i (length d) readMode → (n ≡ 0 → ⊥) → (a : Answer)
-      → a ≡ numberAlone n → ended s m a d ≡ aesStep (reading i b d) (copyOf s m)
-
-  abbrev ReadBeyond : Bool → Handle → Cluster → Type 0
-  ReadBeyond sd h c =
-      (p : Place) → p ≡ placeOf (tableOf c) i → n ≡ accessed sd h c p i (length d) readMode → n ≡ 0
-      → (from : ℕ) → from ≡ address (nodeOf h) (baseOf p) → (size : ℕ) → size ≡ lengthOf p
-      → (v : Bool) → v ≡ ltb (length m) (from + size) → v ≡ true → (a : Answer) → a ≡ numberAlone 1 → ended s m a d ≡ aesStep (reading i b d) (copyOf s m)
-
-  abbrev ReadDone : Bool → Handle → Cluster → Type 0
-  ReadDone sd h c =
-      (p : Place) → p ≡ placeOf (tableOf c) i → n ≡ accessed sd h c p i (length d) readMode → n ≡ 0
-      → (from : ℕ) → from ≡ address (nodeOf h) (baseOf p) → (size : ℕ) → size ≡ lengthOf p
-      → (buffer : List ℕ) → buffer ≡ take size (drop from m) ++ drop size d → (a : Answer) → a ≡ lengthAlone size
-      → ended s m a buffer ≡ aesStep (reading i b d) (copyOf s m)
-
-  -- ---- call 6
-
-  abbrev WriteRefuses : Bool → Handle → Cluster → Type 0
-  WriteRefuses sd h c =
-      (p : Place) → p ≡ placeOf (tableOf c) i → n ≡ accessed sd h c p i (length d) writeMode → (n ≡ 0 → ⊥) → (a : Answer)
-      → a ≡ numberAlone n → ended s m a d ≡ aesStep (writing i b d) (copyOf s m)
-
-  abbrev WriteBeyond : Bool → Handle → Cluster → Type 0
-  WriteBeyond sd h c =
-      (p : Place) → p ≡ placeOf (tableOf c) i → n ≡ accessed sd h c p i (length d) writeMode → n ≡ 0
-      → (from : ℕ) → from ≡ address (nodeOf h) (baseOf p) → (size : ℕ) → size ≡ lengthOf p
-      → (v : Bool) → v ≡ ltb (length m) (from + size) → v ≡ true → (a : Answer) → a ≡ numberAlone 1 → ended s m a d ≡ aesStep (writing i b d) (copyOf s m)
-
-  abbrev WriteDone : Bool → Handle → Cluster → Type 0
-  WriteDone sd h c =
-      (p : Place) → p ≡ placeOf (tableOf c) i → n ≡ accessed sd h c p i (length d) writeMode → n ≡ 0
-      → (from : ℕ) → from ≡ address (nodeOf h) (baseOf p) → (size : ℕ) → size ≡ lengthOf p
-      → (after : List ℕ) → after ≡ overwritten m from (take size d) → (a : Answer) → a ≡ numberAlone 0
-      → ended s after a d ≡ aesStep (writing i b d) (copyOf s m)
-
   -- ---- from what a core is given
 
+  abbrev Ends : Call → List ℕ → Answer → List ℕ → Type 0
+  Ends x after a buf = ended s after a buf ≡ aesStep x (copyOf s m)
+
+  -- R of the place that was looked up, once the number is told of it; of the part that begins and ends there, where it is 0
+  abbrev Accesses : ℕ → (Place → Handle → Type 0) → Bool → Handle → Cluster → Type 0
+  Accesses mode R sd h c = (p : Place) → p ≡ placeOf (tableOf c) i → n ≡ accessed sd h c p i (length d) mode → R p h
+
+  abbrev Moves : (ℕ → ℕ → Type 0) → Place → Handle → Type 0
+  Moves R p h = n ≡ 0 → (from : ℕ) → from ≡ address (nodeOf h) (baseOf p) → (size : ℕ) → size ≡ lengthOf p → R from size
+
+  abbrev Refuses : ℕ → Call → Bool → Handle → Cluster → Type 0
+  Refuses mode x = Accesses mode (λ p h. (n ≡ 0 → ⊥) → (a : Answer) → a ≡ numberAlone n → Ends x m a d)
+
+  abbrev Beyond : ℕ → Call → Bool → Handle → Cluster → Type 0
+  Beyond mode x =
+      Accesses mode
+      (Moves (λ from size. (v : Bool) → v ≡ ltb (length m) (from + size) → v ≡ true → (a : Answer) → a ≡ numberAlone 1 → Ends x m a d))
+
+  abbrev Reads : Bool → Handle → Cluster → Type 0
+  Reads =
+      Accesses readMode
+      (Moves (λ from size. (buffer : List ℕ) → buffer ≡ take size (drop from m) ++ drop size d → (a : Answer)
+      → a ≡ lengthAlone size → Ends (reading i b d) m a buffer))
+
+  abbrev Writes : Bool → Handle → Cluster → Type 0
+  Writes =
+      Accesses writeMode
+      (Moves (λ from size. (after : List ℕ) → after ≡ overwritten m from (take size d) → (a : Answer)
+      → a ≡ numberAlone 0 → Ends (writing i b d) after a d))
+
   module _ (sd : Bool) (h : Handle) (c : Cluster) (g : Given sd h c s m b) where
-    pub read-refused : ReadRefuses sd h c
-    read-refused =
-        by-given s m b ReadRefuses sd h c g
+    refused : (mode : ℕ) (x : Call) → d ≡ buffer x
+        → number product x s (length m)
+        ≡ firstOf (sharedRows (judged s m b) k e false (leb segments i) false mode ++ accessRows k q i (length d))
+        → Refuses mode x sd h c
+    refused mode x buf tells =
+        by-given s m b (Refuses mode x) sd h c g
         (λ p ep en t a ea.
-        ap (λ (y : Answer). ended s m y d) ea
-        ∙ refused-alone (reading i b d) s m n t (joined readMode p ep en (reading i b d) (number-read s m b i d)))
+        ap₂ (λ (y : Answer) (l : List ℕ). ended s m y l) ea buf ∙ refused-alone x s m n t (joined mode p ep en x tells))
 
-    pub read-beyond : ReadBeyond sd h c
-    read-beyond =
-        by-given s m b ReadBeyond sd h c g
-        (λ p ep en z from ef size el v ev t a ea. absurd (never readMode p ep en z from size ef el (ltb-true (length m) (from + size) (sym ev ∙ t))))
+    beyond : (mode : ℕ) (x : Call) → Beyond mode x sd h c
+    beyond mode x =
+        by-given s m b (Beyond mode x) sd h c g
+        (λ p ep en z from ef size el v ev t a ea.
+        absurd (never mode p ep en z from size ef el (ltb-true (length m) (from + size) (sym ev ∙ t))))
 
-    pub read-done : ReadDone sd h c
+    -- ---- call 5
+
+    pub read-refused : Refuses readMode (reading i b d) sd h c
+    read-refused = refused readMode (reading i b d) refl (number-read s m b i d)
+
+    pub read-beyond : Beyond readMode (reading i b d) sd h c
+    read-beyond = beyond readMode (reading i b d)
+
+    pub read-done : Reads sd h c
     unfolding left given segmentRead
     read-done =
-        by-given s m b ReadDone sd h c g
+        by-given s m b Reads sd h c g
         (λ p ep en z from ef size el buffer eb a ea.
         ap₂ (λ (y : Answer) (l : List ℕ). ended s m y l) ea eb
         ∙ ap₂ (λ (j o : ℕ). ended s m (lengthAlone o) (take o (drop j m) ++ drop o d))
         (starts readMode p ep en z from size ef el) (long readMode p ep en z from size ef el)
         ∙ sym (step-done product (reading i b d) (copyOf s m) (joined readMode p ep en (reading i b d) (number-read s m b i d) ∙ z)))
 
-    pub write-refused : WriteRefuses sd h c
-    write-refused =
-        by-given s m b WriteRefuses sd h c g
-        (λ p ep en t a ea.
-        ap (λ (y : Answer). ended s m y d) ea
-        ∙ refused-alone (writing i b d) s m n t (joined writeMode p ep en (writing i b d) (number-write s m b i d)))
+    -- ---- call 6
 
-    pub write-beyond : WriteBeyond sd h c
-    write-beyond =
-        by-given s m b WriteBeyond sd h c g
-        (λ p ep en z from ef size el v ev t a ea. absurd (never writeMode p ep en z from size ef el (ltb-true (length m) (from + size) (sym ev ∙ t))))
+    pub write-refused : Refuses writeMode (writing i b d) sd h c
+    write-refused = refused writeMode (writing i b d) refl (number-write s m b i d)
 
-    pub write-done : WriteDone sd h c
+    pub write-beyond : Beyond writeMode (writing i b d) sd h c
+    write-beyond = beyond writeMode (writing i b d)
+
+    pub write-done : Writes sd h c
     unfolding left given segmentWritten
     write-done =
-        by-given s m b WriteDone sd h c g
+        by-given s m b Writes sd h c g
         (λ p ep en z from ef size el after et a ea.
         ap₂ (λ (y : Answer) (l : List ℕ). ended s l y d) ea et
         ∙ ap₂ (λ (j o : ℕ). record { copy = copyOf s (overwritten m j (take o d)); reply = plain 0 d })
