@@ -30,9 +30,9 @@
  *
  * The nine calls and gelmuszta_validate return a number, 0 for done. When several refusals apply, the first of them in the
  * order below is given. On a refusal the handles given are 23 zero bytes, counts and lengths are zero, and image, memory and
- * buffer stay as they were, byte for byte. Arguments of type size_t are judged whole: a node, local number, segment or
- * size out of its range is refused, however large. Modes, masks and parameters are bytes, and C cuts a larger value to a
- * byte without a word.
+ * buffer stay as they were, byte for byte. Arguments of type size_t are judged whole: a node, local number, mode, segment
+ * or size out of its range is refused, however large; as a mode 257 gets GELMUSZTA_FIELD. Masks and parameters are bytes,
+ * and C cuts a larger value to a byte without a word.
  *
  * Calls 3 and 6 write to the memory and no other does; call 5 alone reads its bytes; the rest look at its length.
  *
@@ -138,26 +138,26 @@ uint8_t gelmuszta_weaken(const uint8_t handle[GELMUSZTA_HANDLE], uint8_t mask, u
 /* 8, reduce: gives a handle that references the same segments with subselector 0 alone; a primary handle comes back as it
  * is. */
 uint8_t gelmuszta_reduce(const uint8_t image[GELMUSZTA_IMAGE], const uint8_t *memory, size_t memory_length,
-                         uint8_t mode, const uint8_t handle[GELMUSZTA_HANDLE], uint8_t given[GELMUSZTA_HANDLE]);
+                         size_t mode, const uint8_t handle[GELMUSZTA_HANDLE], uint8_t given[GELMUSZTA_HANDLE]);
 
 /* 9, new password: by the primary handle of the mode named, whose primary password becomes the new one. Gives the new
  * primary handle. */
 uint8_t gelmuszta_new_password(uint8_t image[GELMUSZTA_IMAGE], const uint8_t *memory, size_t memory_length,
-                               uint8_t mode, const uint8_t handle[GELMUSZTA_HANDLE],
+                               size_t mode, const uint8_t handle[GELMUSZTA_HANDLE],
                                const uint8_t password[GELMUSZTA_PASSWORD], uint8_t given[GELMUSZTA_HANDLE]);
 
 /* ---- validation and conversion */
 
 /* Validation by itself: the number that reduce would give. */
 uint8_t gelmuszta_validate(const uint8_t image[GELMUSZTA_IMAGE], const uint8_t *memory, size_t memory_length,
-                           uint8_t mode, const uint8_t handle[GELMUSZTA_HANDLE]);
+                           size_t mode, const uint8_t handle[GELMUSZTA_HANDLE]);
 
 /* Validation of many handles, 23 bytes each, one after the other: numbers[i] becomes what gelmuszta_validate gives
  * for handle i. As many are judged as `handles` has whole and `numbers` has places for; how many that is, is
  * returned. Bytes of a handle cut short are not looked at, and places of `numbers` without a handle stay as they
  * were. */
 size_t gelmuszta_validate_all(const uint8_t image[GELMUSZTA_IMAGE], const uint8_t *memory, size_t memory_length,
-                              uint8_t mode, const uint8_t *handles, size_t handles_length, uint8_t *numbers,
+                              size_t mode, const uint8_t *handles, size_t handles_length, uint8_t *numbers,
                               size_t numbers_length);
 
 /* The conversion f: AES-128, under the password as key, of fifteen zero bytes and the parameter. */

@@ -13,6 +13,20 @@ static void expect(const char *what, int holds) {
     }
 }
 
+/* Modes are judged whole: 257 and 258 are those of the two handles in their lowest byte alone. */
+static void wide_mode(size_t mode, const uint8_t handle[GELMUSZTA_HANDLE]) {
+    const uint8_t password[GELMUSZTA_PASSWORD] = {8}, none[GELMUSZTA_HANDLE] = {0};
+    uint8_t given[GELMUSZTA_HANDLE], number = 99;
+
+    expect("mode of validate", gelmuszta_validate(image, memory, sizeof memory, mode, handle) == GELMUSZTA_FIELD);
+    expect("mode of validate all", gelmuszta_validate_all(image, memory, sizeof memory, mode, handle, GELMUSZTA_HANDLE,
+                                                          &number, 1) == 1 && number == GELMUSZTA_FIELD);
+    expect("mode of reduce", gelmuszta_reduce(image, memory, sizeof memory, mode, handle, given) == GELMUSZTA_FIELD
+                                 && memcmp(given, none, sizeof given) == 0);
+    expect("mode of new password", gelmuszta_new_password(image, memory, sizeof memory, mode, handle, password, given)
+                                       == GELMUSZTA_FIELD && memcmp(given, none, sizeof given) == 0);
+}
+
 int main(void) {
     const size_t all = sizeof memory, node = 1, local = 2, segment = 5, size = 6;
     const uint8_t first_password[GELMUSZTA_PASSWORD] = {3}, second_password[GELMUSZTA_PASSWORD] = {4};
@@ -47,6 +61,8 @@ int main(void) {
     expect("validate all", gelmuszta_validate_all(image, memory, all, GELMUSZTA_MODE_READ, handles, sizeof handles,
                                                   numbers, sizeof numbers) == 3);
     expect("numbers", numbers[0] == 0 && numbers[1] == GELMUSZTA_VIOLATED && numbers[2] == 0 && numbers[3] == 99);
+    wide_mode(257, reader);
+    wide_mode(258, writer);
     expect("new password", gelmuszta_new_password(image, memory, all, GELMUSZTA_MODE_READ, reader, third_password,
                                                   given) == GELMUSZTA_DONE && given[3] == 7);
     expect("revoked", gelmuszta_read(image, memory, all, segment, weaker, buffer, sizeof buffer, &length)

@@ -1,27 +1,29 @@
 //! Many validations by one call, against one call each and against the model.
 
-use crate::chance::damage::{inflict, Damage};
+use crate::chance::damage::{inflict, Damage, LAST_PLACE};
 use crate::chance::handles::{handle, Wish};
 use crate::chance::stores::{self, Fill};
 use crate::chance::{below, bytes, cases};
 use crate::compare::{ask, same_bytes, Sides};
+use crate::damages::Where;
 use crate::guard;
-use crate::question::{Held, Question, READ_MODE, WRITE_MODE};
+use crate::question::{Held, Question, BATCH, BEYOND, READ_MODE, WRITE_MODE};
+use crate::tally::Tally;
 use model::call::Call;
 use model::handle::{Handle, HandleBytes};
 use model::random::Random;
-use model::sizes::{HANDLE_BYTES, NODES};
+use model::sizes::{CLUSTERS, HANDLE_BYTES, NODES};
 use model::store::{Mode, Store};
 
 /// Something that validates many handles; [`guard::validate_all`] is the one to be compared.
-pub type BatchGuard = fn(&mut Held, u8, &[u8], &mut [u8]) -> usize;
+pub type BatchGuard = fn(&mut Held, usize, &[u8], &mut [u8]) -> usize;
 
 const MOST_HANDLES: usize = 40;
 
 /// One batch by chance.
 struct Batch {
     held: Held,
-    mode: u8,
+    mode: usize,
     handles: Vec<u8>,
     /// What the places for the numbers hold before.
     numbers: Vec<u8>,
@@ -35,15 +37,31 @@ impl Batch {
     }
 }
 
-/// Gives how many validations were compared.
-pub fn compare(guard: BatchGuard, seed: u64, batches: u64) -> Result<u64, String> {
+/// Gives how many validations were compared. Every second batch is put to a damaged store, with each
+/// kind of damage in turn.
+pub fn compare(
+    guard: BatchGuard,
+    seed: u64,
+    batches: u64,
+    tally: &mut Tally,
+) -> Result<u64, String> {
     let mut validations = 0;
+    let mut damages = Damage::ALL.into_iter().cycle();
+    let mut sound = false;
     cases(seed, batches, |random| {
-        let batch = by_chance(random);
+        sound = !sound;
+        let damage = if sound { None } else { damages.next() };
+        let batch = by_chance(random, damage, tally);
+        tally.note_mode(BATCH, narrow(batch.mode));
         validations += batch.expected_count() as u64;
         one(guard, &batch)
     })?;
     Ok(validations)
+}
+
+/// A mode as the model takes it.
+fn narrow(mode: usize) -> u32 {
+    u32::try_from(mode).unwrap_or(BEYOND)
 }
 
 fn one(guard: BatchGuard, batch: &Batch) -> Result<(), String> {
@@ -69,22 +87,29 @@ fn one(guard: BatchGuard, batch: &Batch) -> Result<(), String> {
 /// The number on which the library's single validation and the model agree.
 fn validated_alone(batch: &Batch, bytes: &[u8]) -> Result<u8, String> {
     let bytes = HandleBytes::try_from(bytes).map_err(|_| "not a whole handle")?;
-    let question = Question::of(Call::Validate {
-        mode: batch.mode.into(),
+    let call = Call::Validate {
+        mode: narrow(batch.mode),
         handle: Handle::from_bytes(&bytes),
-    });
+    };
+    let question = Question {
+        beyond: batch.mode,
+        ..Question::of(call)
+    };
     let answer = ask(guard::ask, &mut Sides::both(batch.held.clone()), &question)?;
     Ok(answer.reply.number)
 }
 
-fn by_chance(random: &mut Random) -> Batch {
+fn by_chance(random: &mut Random, damage: Option<Damage>, tally: &mut Tally) -> Batch {
     let fill = Fill::by_chance(random);
     let store = stores::store(random, fill);
     let mut held = stores::held(random, &store);
-    if random.one_in(8) {
-        let damage = Damage::ALL[below(random, Damage::ALL.len())];
-        let node = below(random, NODES);
-        inflict(random, &mut held, damage, node);
+    if let Some(damage) = damage {
+        let place = match random.one_in(2) {
+            true => LAST_PLACE,
+            false => (below(random, NODES), below(random, CLUSTERS)),
+        };
+        inflict(random, &mut held, damage, place);
+        tally.note_damage(BATCH, damage, Where::seen_from(None, damage, place));
     }
     let count = below(random, MOST_HANDLES + 1);
     let places = match random.below(4) {
@@ -100,11 +125,18 @@ fn by_chance(random: &mut Random) -> Batch {
     }
 }
 
-fn mode(random: &mut Random) -> u8 {
-    match random.below(8) {
-        0 => random.byte(),
-        1..=3 => READ_MODE as u8,
-        _ => WRITE_MODE as u8,
+fn mode(random: &mut Random) -> usize {
+    let mode = match random.one_in(2) {
+        true => READ_MODE as usize,
+        false => WRITE_MODE as usize,
+    };
+    match random.below(16) {
+        0 => random.byte().into(),
+        // Right in the lowest byte, the lowest two, or the lowest four, alone.
+        1 => mode + (1 << 8),
+        2 => mode + (1 << 16),
+        3 => mode + (1 << (32 + random.below(32))),
+        _ => mode,
     }
 }
 

@@ -79,7 +79,7 @@ extern "C" {
         image: *const Image,
         memory: *const u8,
         memory_length: usize,
-        mode: u8,
+        mode: usize,
         handle: *const HandleBytes,
         given: *mut HandleBytes,
     ) -> u8;
@@ -88,7 +88,7 @@ extern "C" {
         image: *mut Image,
         memory: *const u8,
         memory_length: usize,
-        mode: u8,
+        mode: usize,
         handle: *const HandleBytes,
         password: *const Password,
         given: *mut HandleBytes,
@@ -98,7 +98,7 @@ extern "C" {
         image: *const Image,
         memory: *const u8,
         memory_length: usize,
-        mode: u8,
+        mode: usize,
         handle: *const HandleBytes,
     ) -> u8;
 
@@ -106,7 +106,7 @@ extern "C" {
         image: *const Image,
         memory: *const u8,
         memory_length: usize,
-        mode: u8,
+        mode: usize,
         handles: *const u8,
         handles_length: usize,
         numbers: *mut u8,

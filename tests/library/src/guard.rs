@@ -37,7 +37,7 @@ pub fn convert(password: &Password, parameter: u8) -> Password {
 }
 
 /// Validates the handles that stand in `handles` one after the other; gives how many were judged.
-pub fn validate_all(held: &mut Held, mode: u8, handles: &[u8], numbers: &mut [u8]) -> usize {
+pub fn validate_all(held: &mut Held, mode: usize, handles: &[u8], numbers: &mut [u8]) -> usize {
     // SAFETY: see the head of this file.
     unsafe {
         ffi::gelmuszta_validate_all(
@@ -101,13 +101,13 @@ impl Lent<'_> {
             Call::Read { segment, handle } => self.read(wide(segment), &handle),
             Call::Write { segment, handle } => self.write(wide(segment), &handle),
             Call::Weaken { mask, handle } => weaken(mask, &handle),
-            Call::Reduce { mode, handle } => self.reduce(byte(mode), &handle),
+            Call::Reduce { mode, handle } => self.reduce(wide(mode), &handle),
             Call::NewPassword {
                 mode,
                 handle,
                 password,
-            } => self.new_password(byte(mode), &handle, &password),
-            Call::Validate { mode, handle } => self.validate(byte(mode), &handle),
+            } => self.new_password(wide(mode), &handle, &password),
+            Call::Validate { mode, handle } => self.validate(wide(mode), &handle),
         }
     }
 
@@ -195,7 +195,7 @@ impl Lent<'_> {
         })
     }
 
-    fn reduce(self, mode: u8, handle: &Handle) -> Reply {
+    fn reduce(self, mode: usize, handle: &Handle) -> Reply {
         let (memory, length) = (self.memory.as_mut_ptr(), self.memory.len());
         let (handle, mut first) = (handle.to_bytes(), UNWRITTEN_HANDLE);
         // SAFETY: see the head of this file.
@@ -207,7 +207,7 @@ impl Lent<'_> {
         }
     }
 
-    fn new_password(self, mode: u8, handle: &Handle, password: &Password) -> Reply {
+    fn new_password(self, mode: usize, handle: &Handle, password: &Password) -> Reply {
         let mut first = UNWRITTEN_HANDLE;
         // SAFETY: see the head of this file.
         let number = unsafe {
@@ -227,7 +227,7 @@ impl Lent<'_> {
         }
     }
 
-    fn validate(self, mode: u8, handle: &Handle) -> Reply {
+    fn validate(self, mode: usize, handle: &Handle) -> Reply {
         let (memory, length) = (self.memory.as_mut_ptr(), self.memory.len());
         let handle = handle.to_bytes();
         // SAFETY: see the head of this file.
@@ -249,9 +249,4 @@ fn weaken(mask: u8, handle: &Handle) -> Reply {
 /// A reply that gives nothing but its number.
 fn bare(number: u8) -> Reply {
     Reply::refused(number)
-}
-
-/// A mode as the library takes it.
-fn byte(mode: u32) -> u8 {
-    u8::try_from(mode).expect("modes are asked for in one byte")
 }

@@ -5,13 +5,15 @@
 //! - [`question`]: a call with everything it is asked with, and what is answered.
 //! - [`compare`]: one question put to both, and everything that has to be equal afterwards.
 //! - [`chance`]: stores, damage, handles and questions made by chance from a seed.
-//! - [`single`], [`runs`], [`batch`], [`copies`], [`published`]: what is compared.
-//! - [`tally`]: which answers, fills, damages and selectors were met.
+//! - [`single`], [`runs`], [`edges`], [`batch`], [`copies`], [`published`]: what is compared.
+//! - [`tally`], [`damages`]: which answers, fills, selectors, modes and damages were met.
 
 pub mod batch;
 pub mod chance;
 pub mod compare;
 pub mod copies;
+pub mod damages;
+pub mod edges;
 pub mod ffi;
 pub mod guard;
 pub mod image;

@@ -1,7 +1,7 @@
 //! A call with everything it is asked with, what it is asked of, and what is answered.
 
 use crate::image::Image;
-use model::call::{self, Call, Reply};
+use model::call::{self, Call, Reply, CALLS};
 use model::handle::Handle;
 use std::fmt;
 
@@ -10,8 +10,20 @@ pub const BEYOND: u32 = u32::MAX;
 /// The modes as callers name them.
 pub const READ_MODE: u32 = 1;
 pub const WRITE_MODE: u32 = 2;
-/// Validation has no code; in tables it stands below the nine calls.
+/// Validation has no code; in tables it stands below the nine calls, and that of many below it.
 pub const VALIDATION: u8 = 10;
+pub const BATCH: u8 = 11;
+/// The rows of tables.
+pub const CODES: [u8; 11] = [1, 2, 3, 4, 5, 6, 7, 8, 9, VALIDATION, BATCH];
+
+pub fn name(code: u8) -> &'static str {
+    let call = CALLS.iter().find(|call| call.0 == code);
+    match code {
+        VALIDATION => "validation",
+        BATCH => "batch",
+        _ => call.expect("the nine calls have names").1,
+    }
+}
 
 /// What a caller keeps and lends to each call.
 #[derive(Clone, PartialEq, Eq)]

@@ -1,17 +1,18 @@
 //! Single calls on sound and on damaged stores, with soundness and conversion beside them.
 
-use crate::chance::damage::{inflict, Damage};
+use crate::chance::damage::{inflict, Damage, LAST_PLACE};
 use crate::chance::questions::{Maker, EVENLY};
 use crate::chance::stores::{self, Fill};
 use crate::chance::{below, cases, password};
 use crate::compare::{ask, is_sound, Guard, Sides};
+use crate::damages::Where;
 use crate::guard;
 use crate::question::{Held, Question};
-use crate::tally::{Tally, Where};
+use crate::tally::Tally;
 use model::call::Call;
 use model::handle::convert;
 use model::random::Random;
-use model::sizes::NODES;
+use model::sizes::{CLUSTERS, NODES};
 
 pub fn compare(guard: Guard, seed: u64, calls: u64, tally: &mut Tally) -> Result<(), String> {
     cases(seed, calls, |random| one(guard, random, tally))
@@ -30,7 +31,7 @@ fn one(guard: Guard, random: &mut Random, tally: &mut Tally) -> Result<(), Strin
     let question = maker.question(&EVENLY);
     if random.one_in(4) {
         let (damage, place) = damage(random, &mut held, &question);
-        tally.note_damage(damage, place);
+        tally.note_damage(question.code(), damage, place);
         if is_sound(&held) {
             return Err(format!("{damage:?} does no damage"));
         }
@@ -42,27 +43,29 @@ fn one(guard: Guard, random: &mut Random, tally: &mut Tally) -> Result<(), Strin
     Ok(())
 }
 
-/// Damages the store in any way, in the call's node or in another.
+/// Damages the store in any way: in the call's record or node, in the last record, or anywhere.
 fn damage(random: &mut Random, held: &mut Held, question: &Question) -> (Damage, Where) {
     let damage = Damage::ALL[below(random, Damage::ALL.len())];
-    let own = node_of(&question.call).filter(|&node| node < NODES);
-    let node = match own {
-        Some(node) if random.one_in(2) => node,
-        _ => below(random, NODES),
+    let own = place_of(&question.call);
+    let place = match (random.below(4), own) {
+        (0, Some(own)) => own,
+        (1, Some((node, _))) => (node, below(random, CLUSTERS)),
+        (2, _) => LAST_PLACE,
+        _ => (below(random, NODES), below(random, CLUSTERS)),
     };
-    inflict(random, held, damage, node);
-    let place = match damage.has_a_node() {
-        false => Where::Slice,
-        true if own == Some(node) => Where::ItsNode,
-        true => Where::AnotherNode,
-    };
-    (damage, place)
+    inflict(random, held, damage, place);
+    (damage, Where::seen_from(own, damage, place))
 }
 
-/// The node of the cluster that a call is about.
-fn node_of(call: &Call) -> Option<usize> {
-    let handle = call.handle().map(|handle| usize::from(handle.node));
-    handle.or_else(|| call.current_node().map(|node| node as usize))
+/// The node and the local number of the cluster that a call is about, if there is such a place.
+fn place_of(call: &Call) -> Option<(usize, usize)> {
+    let (node, local) = match *call {
+        Call::NewCluster { node, local, .. } => (node as usize, local as usize),
+        _ => call
+            .handle()
+            .map(|handle| (handle.node.into(), handle.local.into()))?,
+    };
+    (node < NODES && local < CLUSTERS).then_some((node, local))
 }
 
 fn same_soundness(held: &mut Held) -> Result<(), String> {

@@ -2,8 +2,9 @@
 
 use crate::chance::damage::Damage;
 use crate::chance::stores::Fill;
-use crate::question::{Answer, Question, VALIDATION};
-use model::call::{self, Call, CALLS};
+use crate::damages::{Damages, Where};
+use crate::question::{name, Answer, Question, BATCH, BEYOND, VALIDATION};
+use model::call::{self, Call};
 use model::handle::FLAT;
 use model::sizes::SUBSELECTORS;
 use model::table::{
@@ -51,19 +52,18 @@ const VALIDATING: &[u8] = &[
     DONE, UNSOUND, NO_SUCH_PLACE, FIELD, GAPPED, INACTIVE, VIOLATED_PROTECTION,
 ];
 
-/// Where damage was done, as seen from the call that came upon it.
-#[derive(Clone, Copy, Debug, PartialEq, Eq, PartialOrd, Ord)]
-pub enum Where {
-    Slice,
-    ItsNode,
-    AnotherNode,
-}
+/// Modes above a byte: right in the lowest byte, in the lowest two, or perhaps in the lowest four.
+const WIDE_MODES: [u32; 5] = [257, 258, 65_537, 65_538, BEYOND];
+/// What takes a mode.
+const NAMING_A_MODE: [u8; 4] = [call::REDUCE, call::NEW_PASSWORD, VALIDATION, BATCH];
 
 #[derive(Default)]
 pub struct Tally {
     pub pairs: BTreeMap<(u8, u8), u64>,
     fills: BTreeMap<Fill, u64>,
-    damages: BTreeMap<(Damage, Where), u64>,
+    damages: Damages,
+    /// Wide modes, with the codes of what they were given to.
+    modes: BTreeSet<(u8, u32)>,
     /// Calls done, by how many subselectors of their handle are not flat.
     weakened: [u64; SUBSELECTORS + 1],
     masks: BTreeSet<u8>,
@@ -81,14 +81,23 @@ impl Tally {
         if let Call::Weaken { mask, .. } = question.call {
             self.masks.insert(mask);
         }
+        if let Some(mode) = question.call.named_mode() {
+            self.note_mode(question.code(), mode);
+        }
+    }
+
+    pub fn note_mode(&mut self, code: u8, mode: u32) {
+        if WIDE_MODES.contains(&mode) {
+            self.modes.insert((code, mode));
+        }
     }
 
     pub fn note_fill(&mut self, fill: Fill) {
         *self.fills.entry(fill).or_default() += 1;
     }
 
-    pub fn note_damage(&mut self, damage: Damage, place: Where) {
-        *self.damages.entry((damage, place)).or_default() += 1;
+    pub fn note_damage(&mut self, code: u8, damage: Damage, place: Where) {
+        self.damages.note(code, damage, place);
     }
 
     /// Everything that was to be met and was not, and pairs that were met and may not be.
@@ -115,31 +124,23 @@ impl Tally {
             .into_iter()
             .filter(|fill| !self.fills.contains_key(fill))
             .map(|fill| format!("not tried: store {fill:?}"));
-        let damages = Damage::ALL
+        let modes = NAMING_A_MODE
             .into_iter()
-            .flat_map(|damage| places_of(damage).iter().map(move |place| (damage, *place)))
-            .filter(|pair| !self.damages.contains_key(pair))
-            .map(|(damage, place)| format!("not tried: damage {damage:?}, {place:?}"));
+            .flat_map(|code| WIDE_MODES.map(|mode| (code, mode)))
+            .filter(|pair| !self.modes.contains(pair))
+            .map(|(code, mode)| format!("not tried: {} with mode {mode}", name(code)));
         let weakened = (0..=SUBSELECTORS)
             .filter(|&count| self.weakened[count] == 0)
             .map(|count| format!("not done: a call with {count} subselectors not flat"));
         let masks = (0..=u8::MAX)
             .filter(|mask| !self.masks.contains(mask))
             .map(|mask| format!("not tried: mask {mask}"));
-        fills.chain(damages).chain(weakened).chain(masks)
+        fills
+            .chain(modes)
+            .chain(self.damages.missing())
+            .chain(weakened)
+            .chain(masks)
     }
-}
-
-fn places_of(damage: Damage) -> &'static [Where] {
-    match damage.has_a_node() {
-        true => &[Where::ItsNode, Where::AnotherNode],
-        false => &[Where::Slice],
-    }
-}
-
-fn name(code: u8) -> &'static str {
-    let call = CALLS.iter().find(|call| call.0 == code);
-    call.map_or("validation", |call| call.1)
 }
 
 fn in_words(&(code, number): &(u8, u8)) -> String {
@@ -160,13 +161,9 @@ impl fmt::Display for Tally {
             writeln!(to, "{:<15}{cells}", name(code))?;
         }
         writeln!(to, "stores: {:?}", self.fills)?;
-        for damage in Damage::ALL {
-            let counts = places_of(damage).iter().map(|place| {
-                let count = self.damages.get(&(damage, *place)).unwrap_or(&0);
-                format!(" {place:?} {count}")
-            });
-            writeln!(to, "damage {damage:?}:{}", counts.collect::<String>())?;
-        }
+        write!(to, "{}", self.damages)?;
+        let modes = self.modes.len();
+        writeln!(to, "wide modes, each in a call that names one: {modes}")?;
         writeln!(to, "masks: {}", self.masks.len())?;
         let weakened = &self.weakened;
         write!(

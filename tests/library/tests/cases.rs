@@ -1,12 +1,14 @@
 //! What is made by chance is what it says it is, and images read back as the stores they are of.
 
-use library::chance::damage::{inflict, Damage};
+use library::chance::below;
+use library::chance::damage::{inflict, Damage, LAST_PLACE};
 use library::chance::stores::{extents, gaps, held, store, Fill};
+use library::chance::words::WORD;
 use library::compare::is_sound;
 use library::image::{decode, encode, IMAGE_BYTES};
 use library::tally::Tally;
 use model::random::Random;
-use model::sizes::{MEMORY_BYTES, NODES, NODE_BYTES, NODE_SEGMENTS};
+use model::sizes::{CLUSTERS, MEMORY_BYTES, NODES, NODE_BYTES, NODE_SEGMENTS};
 use model::store::Store;
 
 const TIMES: usize = 200;
@@ -38,6 +40,7 @@ fn stores_are_sound_and_as_full_as_they_say() {
                 match fill {
                     Fill::Empty => assert_eq!(taken, 0),
                     Fill::Partial => {}
+                    Fill::AtWords => assert!(borders(&store, node).all(about_a_word)),
                     Fill::NoByteFree => assert_eq!(free, 0),
                     Fill::NoSegmentAbsent => {
                         assert_eq!(extents(&store, node).len(), NODE_SEGMENTS)
@@ -46,6 +49,16 @@ fn stores_are_sound_and_as_full_as_they_say() {
             }
         }
     }
+}
+
+/// Where the segments of a node begin and end.
+fn borders(store: &Store, node: usize) -> impl Iterator<Item = usize> {
+    let extents = extents(store, node).into_iter();
+    extents.flat_map(|extent| [extent.base, extent.end()])
+}
+
+fn about_a_word(byte: usize) -> bool {
+    matches!(byte % WORD, 0 | 1 | 63)
 }
 
 #[test]
@@ -58,9 +71,12 @@ fn damage_is_damage_whatever_it_is_done_to() {
         {
             let store = store(&mut random, *fill);
             let mut held = held(&mut random, &store);
-            let node = random.below(NODES as u64) as usize;
-            inflict(&mut random, &mut held, damage, node);
-            assert!(!is_sound(&held), "{damage:?} of {fill:?}");
+            let place = match random.one_in(4) {
+                true => LAST_PLACE,
+                false => (below(&mut random, NODES), below(&mut random, CLUSTERS)),
+            };
+            inflict(&mut random, &mut held, damage, place);
+            assert!(!is_sound(&held), "{damage:?} of {fill:?} at {place:?}");
         }
     }
 }
@@ -75,7 +91,16 @@ fn what_is_not_reached_is_told() {
             .count(),
         81
     );
-    assert!(faults.contains(&"not reached: new segment with 16 (no room)".to_string()));
+    for fault in [
+        "not reached: new segment with 16 (no room)",
+        "not tried: new password with mode 258",
+        "not tried: batch with mode 257",
+        "not tried: damage ActiveByteTwo, batch",
+        "not tried: damage LastRecord, new cluster",
+        "not tried: damage OverlapAtAWord, ItsRecord",
+    ] {
+        assert!(faults.contains(&fault.to_string()), "{fault}");
+    }
     let mut tally = Tally::default();
     tally.pairs.insert((7, 1), 1);
     assert!(tally

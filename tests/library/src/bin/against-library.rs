@@ -2,6 +2,7 @@
 
 use library::batch;
 use library::copies;
+use library::edges;
 use library::guard;
 use library::published;
 use library::runs::{self, RUN_CALLS};
@@ -44,8 +45,17 @@ fn compare(task: &Task, tally: &mut Tally) -> Result<(), String> {
     let in_rows = count * RUN_CALLS;
     println!("long rows: {count}, with {in_rows} calls");
 
+    let images = edges::every_byte(guard::is_sound, seed).map_err(named("every byte"))?;
+    println!("images with one byte changed: {images}");
+    let (images, sound) =
+        edges::pairs_at_words(guard::is_sound, seed).map_err(named("pairs at words"))?;
+    println!(
+        "images with two segments about the borders of words: {images}, {sound} of them sound"
+    );
+
     let count = calls.div_ceil(CALLS_PER_BATCH);
-    let validations = batch::compare(guard::validate_all, seed, count).map_err(named("batches"))?;
+    let validations =
+        batch::compare(guard::validate_all, seed, count, tally).map_err(named("batches"))?;
     println!("batches: {count}, with {validations} validations");
 
     let count = calls.div_ceil(CALLS_PER_PAIR);

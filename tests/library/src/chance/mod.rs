@@ -1,9 +1,11 @@
 //! What calls are tried with, made by chance: equal states of a [`Random`] make equal cases.
 
 pub mod damage;
+mod faults;
 pub mod handles;
 pub mod questions;
 pub mod stores;
+pub mod words;
 
 use model::handle::Password;
 use model::random::Random;

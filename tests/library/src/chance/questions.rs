@@ -17,6 +17,9 @@ pub const FILLING: [u8; 25] = [
     1, 1, 1, 2, 3, 3, 3, 3, 3, 4, 5, 5, 5, 5, 6, 6, 6, 6, 7, 7, 8, 8, 9, 9, VALIDATION,
 ];
 
+/// Modes are numbered from 1.
+const MODES: usize = WRITE_MODE as usize;
+
 /// Buffers where there is no segment to go by.
 const SMALL_BUFFER_BYTES: usize = 64;
 
@@ -74,15 +77,15 @@ impl Maker<'_> {
         }
     }
 
+    /// A mode, and mostly its number.
     fn mode(&mut self) -> (Mode, u32) {
         let (mode, number) = match self.random.one_in(2) {
             true => (Mode::Read, READ_MODE),
             false => (Mode::Write, WRITE_MODE),
         };
-        match self.random.below(20) {
-            0 => (mode, self.random.byte().into()),
-            1 => (mode, self.random.below(4) as u32),
-            _ => (mode, number),
+        match self.random.one_in(20) {
+            true => (mode, self.random.byte().into()),
+            false => (mode, self.near(number as usize, MODES)),
         }
     }
 

@@ -1,5 +1,6 @@
 //! Sound stores by chance, from empty ones to ones in which nothing is left.
 
+use super::words::WORD;
 use super::{below, bytes, password};
 use crate::image::encode;
 use crate::question::Held;
@@ -18,14 +19,17 @@ pub enum Fill {
     NoByteFree,
     /// Every cluster is active and every segment present.
     NoSegmentAbsent,
+    /// Segments begin and end about the borders of words, one where the other ends.
+    AtWords,
 }
 
 impl Fill {
-    pub const ALL: [Fill; 4] = [
+    pub const ALL: [Fill; 5] = [
         Fill::Empty,
         Fill::Partial,
         Fill::NoByteFree,
         Fill::NoSegmentAbsent,
+        Fill::AtWords,
     ];
 
     /// One of them, the partial one most often.
@@ -34,6 +38,7 @@ impl Fill {
             0 => Fill::Empty,
             1..=3 => Fill::NoByteFree,
             4 | 5 => Fill::NoSegmentAbsent,
+            6 | 7 => Fill::AtWords,
             _ => Fill::Partial,
         }
     }
@@ -47,6 +52,7 @@ pub fn store(random: &mut Random, fill: Fill) -> Store {
             Fill::Partial => partial(random, clusters),
             Fill::NoByteFree => no_byte_free(random, clusters),
             Fill::NoSegmentAbsent => no_segment_absent(random, clusters),
+            Fill::AtWords => at_words(random, clusters),
         }
     }
     store
@@ -66,7 +72,7 @@ fn partial(random: &mut Random, clusters: &mut [Cluster; CLUSTERS]) {
     let most = if random.one_in(4) { places.len() } else { 12 };
     places.truncate(below(random, most + 1));
     // As many parts are left free as are taken.
-    let mut parts = parts(random, 2 * places.len());
+    let mut parts = parts(random, 2 * places.len(), anywhere);
     random.shuffle(&mut parts);
     put(clusters, &places, &parts);
 }
@@ -76,7 +82,7 @@ fn no_byte_free(random: &mut Random, clusters: &mut [Cluster; CLUSTERS]) {
     let mut places = places(random, clusters);
     let most = places.len().min(12);
     places.truncate(1 + below(random, most));
-    let parts = parts(random, places.len());
+    let parts = parts(random, places.len(), anywhere);
     put(clusters, &places, &parts);
 }
 
@@ -84,7 +90,19 @@ fn no_segment_absent(random: &mut Random, clusters: &mut [Cluster; CLUSTERS]) {
     activate(random, clusters, CLUSTERS);
     let places = places(random, clusters);
     let more = below(random, 2) * places.len();
-    let mut parts = parts(random, places.len() + more);
+    let mut parts = parts(random, places.len() + more, anywhere);
+    random.shuffle(&mut parts);
+    put(clusters, &places, &parts);
+}
+
+/// One part in three or so is left free.
+fn at_words(random: &mut Random, clusters: &mut [Cluster; CLUSTERS]) {
+    activate(random, clusters, CLUSTERS * 2 / 3);
+    let mut places = places(random, clusters);
+    let most = if random.one_in(2) { places.len() } else { 4 };
+    places.truncate(1 + below(random, most));
+    let free = below(random, places.len() + 1);
+    let mut parts = parts(random, places.len() + free, about_a_word);
     random.shuffle(&mut parts);
     put(clusters, &places, &parts);
 }
@@ -119,15 +137,26 @@ fn places(random: &mut Random, clusters: &[Cluster; CLUSTERS]) -> Vec<(usize, us
     places
 }
 
+/// A place to cut a node's memory at, often near its ends.
+fn anywhere(random: &mut Random) -> usize {
+    match random.below(8) {
+        0 => 1 + below(random, 3),
+        1 => NODE_BYTES - 1 - below(random, 3),
+        _ => 1 + below(random, NODE_BYTES - 1),
+    }
+}
+
+/// A place to cut it at that is at the border of a word, or one byte off.
+fn about_a_word(random: &mut Random) -> usize {
+    let border = WORD * (1 + below(random, NODE_BYTES / WORD - 1));
+    border - 1 + below(random, 3)
+}
+
 /// A node's memory cut into `count` parts, of one byte at least.
-fn parts(random: &mut Random, count: usize) -> Vec<Extent> {
+fn parts(random: &mut Random, count: usize, cut: fn(&mut Random) -> usize) -> Vec<Extent> {
     let mut ends = BTreeSet::new();
     while ends.len() + 1 < count {
-        ends.insert(match random.below(8) {
-            0 => 1 + below(random, 3),
-            1 => NODE_BYTES - 1 - below(random, 3),
-            _ => 1 + below(random, NODE_BYTES - 1),
-        });
+        ends.insert(cut(random));
     }
     ends.insert(NODE_BYTES);
     let mut base = 0;

@@ -146,7 +146,7 @@ fn batch(store: &Store) {
         BATCH_ROUNDS,
         1,
         || {
-            guard::validate_all(&mut held, READ_MODE, black_box(&handles), first);
+            guard::validate_all(&mut held, READ_MODE.into(), black_box(&handles), first);
         },
         || {
             let store = decode(black_box(&image)).expect("the image is not damaged");

@@ -2,6 +2,7 @@
 
 use library::batch::BatchGuard;
 use library::compare::Guard;
+use library::tally::Tally;
 use library::{batch, copies, guard, published};
 use model::sizes::{MEMORY_BYTES, NODE_BYTES};
 
@@ -51,7 +52,8 @@ fn a_batch_that_clears_the_other_places() {
         numbers.fill(0);
         guard::validate_all(held, mode, handles, numbers)
     };
-    let told = batch::compare(clearing, SEED, BATCHES).expect_err("places were cleared");
+    let told = batch::compare(clearing, SEED, BATCHES, &mut Tally::default())
+        .expect_err("places were cleared");
     assert!(told.contains("numbers of a batch differ"), "{told}");
 }
 
@@ -59,7 +61,8 @@ fn a_batch_that_clears_the_other_places() {
 fn a_batch_that_counts_a_handle_cut_short() {
     let counting: BatchGuard =
         |held, mode, handles, numbers| guard::validate_all(held, mode, handles, numbers).max(1);
-    let told = batch::compare(counting, SEED, BATCHES).expect_err("one is too many");
+    let told = batch::compare(counting, SEED, BATCHES, &mut Tally::default())
+        .expect_err("one is too many");
     assert!(told.contains("0 are due"), "{told}");
 }
 

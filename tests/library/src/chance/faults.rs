@@ -1,0 +1,203 @@
+//! What is wrong in the records of a damaged store.
+
+use super::below;
+use super::damage::Damage;
+use super::stores::{active, extents, gaps, present};
+use super::words::{self, Beside};
+use model::random::Random;
+use model::sizes::{CLUSTERS, NODE_BYTES, PASSWORD_BYTES, SEGMENTS};
+use model::store::{Cluster, Extent, Segment, Store};
+
+/// The numbers that two bytes can hold.
+const TWO_BYTES: usize = 1 << 16;
+
+/// Puts something wrong into the cluster at `place`, or makes it what damage to its bytes needs:
+/// active, or inactive with nothing in it.
+pub fn fault(random: &mut Random, store: &mut Store, damage: Damage, place: (usize, usize)) {
+    match damage {
+        Damage::BaseAbove | Damage::LengthAbove | Damage::EndAbove | Damage::LastByteAndOneMore => {
+            let extent = out_of_range(random, store, damage, place.0);
+            make_room(store, place.0, extent);
+            let segment = below(random, SEGMENTS);
+            *segment_of(random, store, place, segment) = present(extent.base, extent.length);
+        }
+        Damage::OverlapInACluster => overlap(random, store, place, place),
+        Damage::OverlapOfClusters => {
+            let other = other_cluster(random, place);
+            overlap(random, store, place, other);
+        }
+        Damage::ActiveByteTwo | Damage::ActiveByteAbove => {}
+        Damage::AbsentWithBase => {
+            segment_of(random, store, place, 0);
+        }
+        _ => match sharing_words(random, damage) {
+            Some(extents) => put_both(random, store, extents, place),
+            None => inactive_with(random, store, damage, place),
+        },
+    }
+}
+
+fn other_cluster(random: &mut Random, (node, local): (usize, usize)) -> (usize, usize) {
+    let further = 1 + below(random, CLUSTERS - 1);
+    (node, (local + further) % CLUSTERS)
+}
+
+/// A segment of a cluster, which is made active if it was not.
+fn segment_of<'a>(
+    random: &mut Random,
+    store: &'a mut Store,
+    (node, local): (usize, usize),
+    segment: usize,
+) -> &'a mut Segment {
+    let cluster = &mut store.clusters[node][local];
+    if !cluster.active {
+        *cluster = active(random);
+    }
+    &mut cluster.segments[segment]
+}
+
+/// Takes away every segment of the node that has a byte of the extent.
+fn make_room(store: &mut Store, node: usize, extent: Extent) {
+    let clusters = store.clusters[node].iter_mut();
+    for segment in clusters.flat_map(|cluster| &mut cluster.segments) {
+        let taken = segment.extent();
+        if taken.is_some_and(|taken| taken.base < extent.end() && extent.base < taken.end()) {
+            *segment = Segment::Absent;
+        }
+    }
+}
+
+/// Base and length of which one is out of range, or only their sum is. Sums that would be small
+/// in two bytes are among them.
+fn out_of_range(random: &mut Random, store: &Store, damage: Damage, node: usize) -> Extent {
+    let free_from = extents(store, node).last().map_or(0, Extent::end);
+    match damage {
+        Damage::BaseAbove => Extent {
+            base: match random.below(3) {
+                0 => NODE_BYTES,
+                1 => TWO_BYTES - 1,
+                _ => NODE_BYTES + below(random, TWO_BYTES - NODE_BYTES),
+            },
+            length: 1 + below(random, NODE_BYTES),
+        },
+        Damage::LengthAbove => {
+            let base = free_from.min(NODE_BYTES - 1);
+            let length = match random.below(4) {
+                0 => NODE_BYTES + 1,
+                1 => TWO_BYTES - 1,
+                2 => (TWO_BYTES - base + below(random, 8)).min(TWO_BYTES - 1),
+                _ => NODE_BYTES + 1 + below(random, TWO_BYTES - NODE_BYTES - 1),
+            };
+            Extent { base, length }
+        }
+        Damage::LastByteAndOneMore => Extent {
+            base: NODE_BYTES - 1,
+            length: 2,
+        },
+        _ => {
+            let base = free_from.clamp(1, NODE_BYTES - 1);
+            let least = NODE_BYTES - base + 1;
+            let more = if random.one_in(2) {
+                0
+            } else {
+                below(random, base)
+            };
+            Extent {
+                base,
+                length: least + more,
+            }
+        }
+    }
+}
+
+/// Makes two segments share bytes, which are often one byte only.
+fn overlap(random: &mut Random, store: &mut Store, first: (usize, usize), second: (usize, usize)) {
+    let at = below(random, SEGMENTS);
+    let other = (at + 1 + below(random, SEGMENTS - 1)) % SEGMENTS;
+    let free = gaps(store, first.0);
+    let placed = segment_of(random, store, first, at);
+    let extent = match (placed.extent(), random.pick(&free)) {
+        (Some(extent), _) => extent,
+        (None, Some(gap)) => *gap,
+        (None, None) => Extent { base: 0, length: 1 },
+    };
+    *placed = present(extent.base, extent.length);
+    let sharing = sharing(random, extent);
+    *segment_of(random, store, second, other) = present(sharing.base, sharing.length);
+}
+
+/// Bytes of which at least one is the extent's.
+fn sharing(random: &mut Random, extent: Extent) -> Extent {
+    let Extent { base, length } = extent;
+    match random.below(5) {
+        0 => extent,
+        1 => Extent { base, length: 1 },
+        2 => Extent {
+            base: extent.end() - 1,
+            length: 1 + below(random, NODE_BYTES - extent.end() + 1),
+        },
+        3 => Extent {
+            base: 0,
+            length: base + 1,
+        },
+        _ => Extent {
+            base: base + below(random, length),
+            length: 1,
+        },
+    }
+}
+
+/// Two extents that share bytes as the damage says.
+fn sharing_words(random: &mut Random, damage: Damage) -> Option<[Extent; 2]> {
+    match damage {
+        Damage::OverlapAtAWord => Some(words::sharing_a_byte(random, Beside::At)),
+        Damage::OverlapBeforeAWord => Some(words::sharing_a_byte(random, Beside::Before)),
+        Damage::OverlapAfterAWord => Some(words::sharing_a_byte(random, Beside::After)),
+        Damage::OverlapInsideWords => Some(words::one_inside(random)),
+        Damage::OverlapOfTheNode => Some(words::with_the_node(random)),
+        _ => None,
+    }
+}
+
+/// Two segments of the node, one of them of the cluster at `place`; nothing else shares their bytes.
+fn put_both(random: &mut Random, store: &mut Store, both: [Extent; 2], place: (usize, usize)) {
+    for extent in both {
+        make_room(store, place.0, extent);
+    }
+    let [first, second] = match random.one_in(2) {
+        true => both,
+        false => [both[1], both[0]],
+    };
+    let at = below(random, SEGMENTS);
+    let other = (at + 1 + below(random, SEGMENTS - 1)) % SEGMENTS;
+    let second_place = match random.one_in(2) {
+        true => place,
+        false => other_cluster(random, place),
+    };
+    *segment_of(random, store, place, at) = present(first.base, first.length);
+    *segment_of(random, store, second_place, other) = present(second.base, second.length);
+}
+
+/// An inactive cluster with one thing left in it, or with nothing.
+fn inactive_with(
+    random: &mut Random,
+    store: &mut Store,
+    damage: Damage,
+    (node, local): (usize, usize),
+) {
+    let mut cluster = Cluster::INACTIVE;
+    store.clusters[node][local] = cluster;
+    let at = below(random, PASSWORD_BYTES);
+    let byte = 1 << random.below(8);
+    match damage {
+        Damage::InactiveWithReadPassword => cluster.read[at] = byte,
+        Damage::InactiveWithWritePassword => cluster.write[at] = byte,
+        Damage::InactiveWithSegment => {
+            let base = store.place(node, 1).unwrap_or(0);
+            cluster.segments[at % SEGMENTS] = present(base, 1);
+        }
+        Damage::InactiveWithLastByte => cluster.segments[SEGMENTS - 1] = present(0, 1),
+        _ => {}
+    }
+    store.clusters[node][local] = cluster;
+}

@@ -1,0 +1,6 @@
+//! That the comparison can fail: guards that are wrong in one way each, all of them found out.
+
+mod calls;
+mod copies;
+mod damage;
+mod modes;
