@@ -115,6 +115,8 @@ bench: need-rt need-cargo need-cc benchrun lib
 	@tools/prove library measured
 	cargo run --quiet --release --offline --manifest-path bench/Cargo.toml
 	cargo run --quiet --release --offline --manifest-path tests/library/Cargo.toml --bin measure
+	cc -std=c99 -O1 -fno-builtin -Wall -Wextra -pedantic -Werror -Iinclude bench/takes.c $(LIBRARY) -Wl,-z,now -o target/takes
+	target/takes
 	cargo build --quiet --release --offline --manifest-path tests/Cargo.toml
 	$(MODEL)/time-lists $(BENCHRUN) $(MODEL)/model-benchrun 500 examples/measured/reads.list examples/measured/clusters.list
 

@@ -46,8 +46,9 @@
  *     that write nothing in common, as reads and validations on one store, may run at the same time;
  *   - the image holds every primary password and the memory every byte: whoever can read them needs no handle.
  *
- * Nothing is kept between calls and nothing is allocated. A call uses about 20 kilobytes of stack (measured on x86-64, not
- * proved).
+ * Nothing is kept between calls and nothing is allocated. A call judges the whole image where it stands, takes out one record
+ * and puts back one where it changes it; the rest of the image is neither copied nor written. It uses less than 2 kilobytes
+ * of stack (1,464 bytes at most, measured on x86-64, not proved).
  */
 #ifndef GELMUSZTA_H
 #define GELMUSZTA_H

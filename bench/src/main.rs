@@ -3,9 +3,12 @@
 
 mod aes;
 mod handle;
+mod image;
+mod spans;
 mod store;
 
 use handle::Handle;
+use image::IMAGE;
 use std::hint::black_box;
 use std::time::Instant;
 
@@ -14,6 +17,7 @@ extern "C" {
     fn measured_validate(bytes: *const [u8; 23], primary: *const [u8; 16]) -> bool;
     fn measured_weaken(bytes: *const [u8; 23], mask: u8, out: *mut [u8; 23]) -> u8;
     fn measured_sound(bases: *const [u16; 256], lengths: *const [u16; 256], size: usize) -> bool;
+    fn gelmuszta_sound(image: *const [u8; IMAGE], size: usize) -> bool;
 }
 
 const BATCHES: usize = 400;
@@ -65,6 +69,11 @@ extern "C" fn rust_weaken(bytes: &[u8; 23], mask: u8, out: &mut [u8; 23]) -> u8 
 #[inline(never)]
 extern "C" fn rust_sound(bases: &[u16; 256], lengths: &[u16; 256], size: usize) -> bool {
     store::sound(store::store_from(bases, lengths), size)
+}
+
+#[inline(never)]
+extern "C" fn rust_sound_in(image: &[u8; IMAGE], size: usize) -> bool {
+    image::sound_in(image, size)
 }
 
 /// Each encryption takes the last one's result as its key and as its block.
@@ -171,6 +180,18 @@ fn soundness(name: &str, each: usize, length: u16) {
     );
 }
 
+/// An image tested as it stands.
+fn soundness_in(name: &str, image: [u8; IMAGE]) {
+    let mut ends = (true, true);
+    let size = store::MEMORY;
+    let times = beside(
+        || ends.0 &= unsafe { gelmuszta_sound(black_box(&image), size) },
+        || ends.1 &= rust_sound_in(black_box(&image), size),
+    );
+    assert_eq!(ends, (true, true), "the image is sound");
+    report(name, times);
+}
+
 fn main() {
     println!(
         "{:<44}{:>9}{:>9}{:>8}",
@@ -182,4 +203,7 @@ fn main() {
     soundness("soundness, empty store", 0, 1);
     soundness("soundness, 10 segments of 400 bytes a node", 10, 400);
     soundness("soundness, 64 segments of 64 bytes a node", 64, 64);
+    soundness_in("on the image, empty store", image::image_of(0, 0, 0));
+    soundness_in("on the image, typical store", image::image_of(5, 2, 400));
+    soundness_in("on the image, full store", image::image_of(8, 8, 64));
 }

@@ -1,10 +1,12 @@
 //! The text of crates/store in Rust, as far as soundness needs it, and of the stores that are measured.
 
-const NODES: usize = 4;
-const CLUSTERS: usize = 8;
-const SEGMENTS: usize = 8;
+use crate::spans;
+
+pub const NODES: usize = 4;
+pub const CLUSTERS: usize = 8;
+pub const SEGMENTS: usize = 8;
+pub const MAP_WORDS: usize = 64;
 const RECORDS: usize = 32;
-const NODE_MEMORY: usize = 4096;
 pub const MEMORY: usize = 16384;
 const PASSWORD_BYTES: usize = 16;
 
@@ -32,36 +34,19 @@ pub struct Store {
     pub clusters: [Cluster; RECORDS],
 }
 
-fn mark(part: &mut [u8]) -> bool {
-    let mut fresh = true;
-    let mut i: usize = 0;
-    while i < part.len() {
-        fresh = (part[i] == 0) & fresh;
-        part[i] = 1;
-        i += 1;
-    }
-    fresh
-}
-
-fn claim(place: Place, map: &mut [u8]) -> bool {
+fn claim(place: Place, map: &mut [u64]) -> bool {
     match place {
         Place::Absent => true,
         Place::Present { base, length } => {
             let from = base as usize;
             let size = length as usize;
-            if size < 1 {
-                return false;
-            }
             let to = from + size;
-            if NODE_MEMORY < to {
-                return false;
-            }
-            mark(&mut map[from..to])
+            spans::mark(map, from, to)
         }
     }
 }
 
-fn claim_all(cluster: Cluster, map: &mut [u8]) -> bool {
+fn claim_all(cluster: Cluster, map: &mut [u64]) -> bool {
     let mut ok = true;
     let mut i: usize = 0;
     while i < SEGMENTS {
@@ -112,7 +97,7 @@ pub fn sound(store: Store, size: usize) -> bool {
     let mut ok = true;
     let mut node: usize = 0;
     while node < NODES {
-        let mut map = [0u8; NODE_MEMORY];
+        let mut map = [0u64; MAP_WORDS];
         let mut taken = true;
         let mut local: usize = 0;
         while local < CLUSTERS {

@@ -1,11 +1,14 @@
 //! The library's measurements for docs/PERFORMANCE.md: the proved library and the model, turn about,
 //! in one run.
 
+mod calls;
 mod repeated;
-mod typical;
+mod stores;
 
+use calls::{groups, many_handles, weakening, Row};
 use library::guard;
 use library::image::{decode, Image};
+use library::question::READ_MODE;
 use model::call::Call;
 use model::handle::{convert, Handle, HandleBytes, Password};
 use model::sizes::{HANDLE_BYTES, MEMORY_BYTES};
@@ -14,7 +17,7 @@ use model::table::{refusal_below, Found, DONE, UNSOUND};
 use repeated::{OnImage, OnRecords};
 use std::hint::black_box;
 use std::time::Instant;
-use typical::{calls, full, held, many_handles, typical, weakest, READ_MODE};
+use stores::{full, held, typical};
 
 const ROUNDS: usize = 1000;
 const CALLS: usize = 200;
@@ -23,9 +26,9 @@ const BATCH_HANDLES: usize = 10_000;
 
 const PREFACE: &str = "\
 The library, the model on the same image, and the model on records that it keeps decoded take turns.
-Ratios are library to model. Buffers are not cleared between calls. After each call on the typical
-store the record of its cluster is put back, which is in the figures. Typical: on each node ten
-segments of 400 bytes in five clusters.";
+Ratios are library to model. Buffers are not cleared between calls. After each call the record of its
+cluster is put back, which is in the figures. Typical: on each node ten segments of 400 bytes in five
+clusters; full: 64 of 64 bytes. Reads and writes are of one segment.";
 
 /// The best times of a call: the library's, the model's on the image, the model's on its records.
 type Times = [f64; 3];
@@ -96,15 +99,16 @@ fn soundness(name: &str, store: &Store) {
 }
 
 /// One call, done again and again on the same store.
-fn one_call(name: &str, store: &Store, call: Call, place: (usize, usize)) {
-    let [mut first, mut second] = [(); 2].map(|()| OnImage::new(store, place));
-    let mut third = OnRecords::new(store, place);
+fn one_call(row: &Row) {
+    let Row { name, call, .. } = row;
+    let [mut first, mut second] = [(); 2].map(|()| OnImage::new(&row.store, row.place));
+    let mut third = OnRecords::new(&row.store, row.place);
     let times = beside(
         ROUNDS,
         CALLS,
-        || first.by_library(black_box(&call)),
-        || second.by_model(black_box(&call)),
-        || third.by_model(black_box(&call)),
+        || first.by_library(black_box(call)),
+        || second.by_model(black_box(call)),
+        || third.by_model(black_box(call)),
     );
     assert_eq!(first.reply.number, DONE, "{name} is done");
     assert!(
@@ -146,13 +150,13 @@ fn batch(store: &Store) {
         BATCH_ROUNDS,
         1,
         || {
-            guard::validate_all(&mut held, READ_MODE.into(), black_box(&handles), first);
+            guard::validate_all(&mut held, READ_MODE as usize, black_box(&handles), first);
         },
         || {
             let store = decode(black_box(&image)).expect("the image is not damaged");
-            validate_all(&store, READ_MODE.into(), &handles, second);
+            validate_all(&store, READ_MODE, &handles, second);
         },
-        || validate_all(store, READ_MODE.into(), black_box(&handles), third),
+        || validate_all(store, READ_MODE, black_box(&handles), third),
     );
     let done = |numbers: &Vec<u8>| numbers.iter().all(|&number| number == DONE);
     assert!(numbers.iter().all(done), "every handle validates");
@@ -167,22 +171,14 @@ fn main() {
         "{:<44}{:>10}{:>10}{:>7}{:>10}{:>7}",
         "", "library", "on image", "ratio", "records", "ratio"
     );
-    let store = typical();
     conversion();
+    one_call(&weakening());
     soundness("soundness, empty store", &Store::starting());
-    soundness("soundness, typical store", &store);
-    soundness("soundness, 64 segments of 64 bytes a node", &full());
-    let validate = |handle| Call::Validate {
-        mode: READ_MODE.into(),
-        handle,
-    };
-    let place = typical::PLACE;
-    let primary = typical::primary(&store);
-    one_call("validation, primary", &store, validate(primary), place);
-    let weakest = weakest(primary);
-    one_call("validation, 4 not flat", &store, validate(weakest), place);
-    batch(&store);
-    for (name, call, place) in calls(&store) {
-        one_call(name, &store, call, place);
+    soundness("soundness, typical store", &typical());
+    soundness("soundness, full store", &full());
+    batch(&typical());
+    for group in groups() {
+        println!("{}", group.name);
+        group.rows.iter().for_each(one_call);
     }
 }

@@ -1,6 +1,6 @@
 //! The same call done again and again: afterwards the record of its cluster is put back.
 
-use crate::typical::held;
+use crate::stores::held;
 use library::guard::Lent;
 use library::image::{decode, encode, record_at, RECORD_BYTES};
 use library::question::Held;

@@ -1,0 +1,100 @@
+//! The stores that calls are measured on.
+
+use library::image::encode;
+use library::question::Held;
+use model::sizes::{CLUSTERS, MEMORY_BYTES, NODES, NODE_BYTES, NODE_SEGMENTS, SEGMENTS};
+use model::store::{Cluster, Segment, Store};
+
+/// The cluster that calls are about, and one that a call can make.
+pub const PLACE: (usize, usize) = (2, 3);
+pub const FREE_PLACE: (usize, usize) = (2, 6);
+
+pub const TYPICAL_CLUSTERS: usize = 5;
+const TYPICAL_SEGMENTS: usize = 2;
+const TYPICAL_LENGTH: usize = 400;
+/// No byte is free where every segment has so many.
+pub const FULL_LENGTH: usize = NODE_BYTES / NODE_SEGMENTS;
+
+pub fn held(store: &Store) -> Held {
+    Held {
+        image: encode(store),
+        memory: vec![0; MEMORY_BYTES],
+    }
+}
+
+/// Active, with passwords that no other cluster has.
+fn cluster(node: usize, local: usize) -> Cluster {
+    let number = (node * CLUSTERS + local) as u8;
+    Cluster {
+        active: true,
+        read: [0x10 + number; 16],
+        write: [0x80 + number; 16],
+        ..Cluster::INACTIVE
+    }
+}
+
+fn present(base: usize, length: usize) -> Segment {
+    Segment::Present {
+        base: base as u16,
+        length: length as u16,
+    }
+}
+
+/// Every node has `clusters` active clusters of `segments` segments each, one after the other.
+fn store(clusters: usize, segments: usize, length: usize) -> Store {
+    let mut store = Store::starting();
+    for (node, records) in store.clusters.iter_mut().enumerate() {
+        for (local, record) in records[..clusters].iter_mut().enumerate() {
+            *record = cluster(node, local);
+            for (at, segment) in record.segments[..segments].iter_mut().enumerate() {
+                *segment = present((local * segments + at) * length, length);
+            }
+        }
+    }
+    store
+}
+
+pub fn typical() -> Store {
+    store(TYPICAL_CLUSTERS, TYPICAL_SEGMENTS, TYPICAL_LENGTH)
+}
+
+/// The starting store with the one cluster of the typical one that calls are about.
+pub fn lone() -> Store {
+    let mut store = Store::starting();
+    store.clusters[PLACE.0][PLACE.1] = typical().clusters[PLACE.0][PLACE.1];
+    store
+}
+
+/// No segment is absent and no byte is free.
+pub fn full() -> Store {
+    store(CLUSTERS, SEGMENTS, FULL_LENGTH)
+}
+
+/// The full store without the cluster that a call makes.
+pub fn full_but_a_cluster() -> Store {
+    let mut store = full();
+    store.clusters[FREE_PLACE.0][FREE_PLACE.1] = Cluster::INACTIVE;
+    store
+}
+
+/// The full store without the last segment of the cluster that calls are about.
+pub fn full_but_a_segment() -> Store {
+    let mut store = full();
+    store.clusters[PLACE.0][PLACE.1].segments[SEGMENTS - 1] = Segment::Absent;
+    store
+}
+
+/// The same with segments from the highest base down, as the records go, and the free bytes highest.
+pub fn falling() -> Store {
+    let mut store = full_but_a_segment();
+    for node in 0..NODES {
+        let segments = store.clusters[node].iter_mut();
+        let present_ones = segments
+            .flat_map(|cluster| &mut cluster.segments)
+            .filter(|segment| **segment != Segment::Absent);
+        for (at, segment) in present_ones.rev().enumerate() {
+            *segment = present(at * FULL_LENGTH, FULL_LENGTH);
+        }
+    }
+    store
+}
