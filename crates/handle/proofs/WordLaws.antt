@@ -113,14 +113,17 @@ module _ (h : Handle) (e : Four h) where
         rest (suc (suc (suc zero))) a b = refl
         rest (suc (suc (suc (suc k)))) a b = absurd (omega arith)
 
+    other-common : (k : ℕ) → k < 4 → subselector h k ≢ 255 → Common f p h (reduced 8 f h p)
+    other-common k l n =
+        reduced-cases 8 f h p (Common f p h) (λ t. absurd (n (flat-out ss t k (rw e l)))) (λ t. made-common)
+
     pub reduced-in-words : ReducedInWords f h p
     reduced-in-words =
         record {
           primary = λ all.
               reduced-cases 8 f h p (λ k. k ≡ h) (λ t. refl)
               (λ t. absurd (false≢true (sym t ∙ flat-in ss (λ k l. all k (rw e at l)))));
-          other = λ k l n.
-              reduced-cases 8 f h p (Common f p h) (λ t. absurd (n (flat-out ss t k (rw e l)))) (λ t. made-common);
+          other = other-common;
         }
 
   -- ---- weakening
