@@ -1,4 +1,4 @@
-//! A program as a child process: what it is started with, and what comes of it.
+//! A program as a child process: what it is started with, and its outcome.
 
 use std::ffi::OsString;
 use std::fmt;
@@ -56,7 +56,7 @@ impl Program {
         collecting(command)
     }
 
-    /// What comes of it with these bytes on its standard input, a pipe.
+    /// Its outcome with these bytes on its standard input, a pipe.
     pub fn answer(&self, input: &[u8]) -> io::Result<Outcome> {
         let mut command = self.command();
         command.stdin(Stdio::piped());
@@ -120,7 +120,7 @@ impl Running {
     /// Writes to the program's standard input, where that is a pipe, and then closes it.
     pub fn feed(&mut self, write: impl FnOnce(&mut ChildStdin) -> io::Result<()>) {
         if let Some(mut pipe) = self.input.take() {
-            // Whether the program took what it should is seen in what comes of it.
+            // Whether the program took what it should is seen in its outcome.
             let _ = write(&mut pipe);
         }
     }

@@ -15,4 +15,5 @@ pub mod ValidWords
 pub mod TableLaws
 pub mod BoundLaws
 pub mod ReadWordLaws
+pub mod MadeWordLaws
 pub mod WrittenLaws

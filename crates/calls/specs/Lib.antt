@@ -4,6 +4,7 @@ pub mod Clear
 pub mod Words
 pub mod Steps
 pub mod ReadWords
+pub mod MadeWords
 pub mod Examples
 pub mod Cases
 pub mod Orders

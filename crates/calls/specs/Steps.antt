@@ -32,7 +32,7 @@
 --     step f              what a call leaves and gives on a copy
 --     followed r n        the reply r, and then the list's
 --     run f               the replies of a list of calls, and the copy at its end
---     aesStep             the step by the AES conversion, which takes in no name
+--     aesStep             the step by the product's conversion
 --     effects             a name that opens what each call leaves and gives
 -- Assumes nothing.
 use Prim.Native.Nat.{ℕ, zero, suc, _+_}

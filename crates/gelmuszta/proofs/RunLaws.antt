@@ -17,7 +17,7 @@ use Rattle.image.proofs.TripLaws.{good-image, store-image, image-store}
 use Rattle.image.proofs.RangeLaws.{store-held}
 use Rattle.gelmuszta.specs.Exported.{Exported, damaged, imaged, exported}
 use Rattle.gelmuszta.specs.Fits.{AllFit}
-use Rattle.gelmuszta.specs.Runs.{RanOn, runOn, followedBy, imagedRun, ListsAreRuns, f, held, TwoImages, refusedWith}
+use Rattle.gelmuszta.specs.Runs.{RanOn, runOn, followedBy, imagedRun, ListsAreRuns, held, TwoImages, refusedWith}
 use Rattle.gelmuszta.specs.Runs.{RefusalLeaves}
 use Rattle.gelmuszta.proofs.ExportLaws.{damagedBy, picked, step-leaves}
 use Rattle.gelmuszta.proofs.FitLaws.{step-fits}
@@ -51,7 +51,7 @@ lists-are-runs xs b m p h g =
 
 pub two-images : TwoImages
 two-images node local v l xs b m d n p hb gb hd gd sb sd active alike shut-b shut-d =
-    let agreed = two-copies node local f v l xs (held b m) (held d n) sb sd active alike shut-b shut-d in
+    let agreed = two-copies node local product v l xs (held b m) (held d n) sb sd active alike shut-b shut-d in
     record {
       replies =
           ap (λ (r : RanOn). r .replies) (lists-are-runs xs b m p hb gb) ∙ agreed .replies

@@ -18,9 +18,8 @@ use mathlib.Core.Bool.{true}
 use mathlib.Core.List.{List, [], _∷_}
 use Prim.Native.Nat.{ℕ, _<_}
 use Rattle.sizes.specs.Sizes.{nodes, clusters}
-use Rattle.handle.specs.Conversion.{conversion, product}
+use Rattle.handle.specs.Conversion.{product}
 use Rattle.bits.specs.Bytes.{Bytes}
-use Rattle.handle.specs.Handles.{Name}
 use Rattle.store.specs.Records.{tableAt}
 use Rattle.calls.specs.Calls.{Copy, Call, buffer}
 use Rattle.calls.specs.Steps.{Reply, Ran, plain, run}
@@ -51,15 +50,12 @@ ListsAreRuns =
     (xs : List Call) (b m : List ℕ) → AllFit xs → Bytes imageBytes b → good b ≡ true
     → runOn xs b m ≡ imagedRun (run product xs (copyOf (storeIn b) m))
 
-abbrev pub f : Name → List ℕ → ℕ → List ℕ
-f n = conversion
-
 abbrev pub held : List ℕ → List ℕ → Copy
 held b m = copyOf (storeIn b) m
 
 pub record ImagesAgree (node local : ℕ) (xs : List Call) (b m d n : List ℕ) : Type 0 where
   pub replies : runOn xs b m .replies ≡ runOn xs d n .replies
-  pub agreed : Agreed node local f xs (held b m) (held d n)
+  pub agreed : Agreed node local product xs (held b m) (held d n)
 
 abbrev pub TwoImages : Type 0
 TwoImages =
@@ -67,7 +63,7 @@ TwoImages =
     → Bytes imageBytes b → good b ≡ true → Bytes imageBytes d → good d ≡ true
     → SoundCopy (held b m) → SoundCopy (held d n)
     → tableAt (storeIn b) (setApart node local) .active ≡ true → Alike node local (held b m) (held d n)
-    → AllShut node local f xs (held b m) → AllShut node local f xs (held d n)
+    → AllShut node local product xs (held b m) → AllShut node local product xs (held d n)
     → ImagesAgree node local xs b m d n
 
 abbrev pub refusedWith : ℕ → Call → List ℕ → List ℕ → Exported

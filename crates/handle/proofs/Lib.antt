@@ -7,3 +7,4 @@ pub mod CodeLaws
 pub mod WeakenLaws
 pub mod ExamplesHold
 pub mod LiteralLaws
+pub mod WordLaws

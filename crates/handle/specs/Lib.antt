@@ -5,3 +5,4 @@ pub mod Conversion
 pub mod Opens
 pub mod Examples
 pub mod Literals
+pub mod Words

@@ -6,6 +6,7 @@ use crate::RECORD;
 use crate::WRITE_AT;
 use bits::BYTE;
 use sizes::PASSWORD_BYTES;
+use sizes::Password;
 use sizes::RECORDS;
 use sizes::SEGMENTS;
 use store::Cluster;
@@ -45,7 +46,7 @@ fn put_places(table: [Segment; SEGMENTS], out: &mut [u8])
     }
 }
 
-fn put_password(password: [u8; PASSWORD_BYTES], out: &mut [u8])
+fn put_password(password: Password, out: &mut [u8])
     requires { ⌜ length (now out) ≡ passwordBytes ⌝ }
     ensures { λ _. ⌜ now (out .exit) ≡ password ⌝ }
 {

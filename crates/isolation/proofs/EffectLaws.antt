@@ -32,7 +32,7 @@ use Rattle.calls.proofs.MemoryLaws.{part-overwritten}
 use Rattle.calls.proofs.DoneLaws.{done-range, done-segment, done-active}
 use Rattle.calls.proofs.StepLaws.{step-done}
 use Rattle.isolation.proofs.KeptLaws.{tables, new-fits, write-fits, length-data}
-use Rattle.isolation.proofs.GivenLaws.{active-in}
+use Rattle.calls.proofs.MadeWordLaws.{active-in}
 
 same-place : (x y : Call) (ts : Tables) → SameSegment x y → placeFor y ts ≡ placeFor x ts
 same-place x y ts s = λ t. placeAt ts (recordOf (s .node t) (s .local t)) (s .segment t)

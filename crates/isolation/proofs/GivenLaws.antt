@@ -6,10 +6,9 @@ use mathlib.Core.Path.{_≡_, refl, sym, ap, _∙_, subst}
 use mathlib.Core.Logic.{_⊎_, inl, inr}
 use Prim.Native.Nat.{ℕ, _<_}
 use native.Mathlib.Omega.{arith}
-use native.Mathlib.Decide.{decLt}
-use mathlib.Core.Bool.{Bool, true, false, true≢false}
+use mathlib.Core.Bool.{Bool, true, false}
 use mathlib.Core.List.{List}
-use lib.ListN.{length, List·getD-eq-default}
+use lib.ListN.{length}
 use Rattle.sizes.specs.Sizes.{nodes, clusters, segments, passwordBytes}
 use Rattle.handle.specs.declared.Handle.{Handle}
 use Rattle.handle.specs.Sizes.{handleBytes}
@@ -25,7 +24,7 @@ use Rattle.handle.proofs.PasswordLaws.{equal-validates, validates-equal}
 use Rattle.handle.proofs.CodecLaws.{decode-encode, holdable-decoded, whole-decoded, holdable-weakened, holdable-reduced}
 use Rattle.store.specs.declared.Cluster.{Cluster}
 use Rattle.store.specs.declared.Store.{Store}
-use Rattle.store.specs.Records.{started, recordOf, noCluster, clusterAt, tableAt, putRecord, withPassword}
+use Rattle.store.specs.Records.{started, recordOf, clusterAt, tableAt, putRecord, withPassword}
 use Rattle.store.proofs.ChangeLaws.{put-same}
 use Rattle.store.specs.Records.{readMode, writeMode, primaryOf}
 use Rattle.calls.specs.Calls.{Call, call, newCluster, weaken, reduce, newPassword}
@@ -38,17 +37,8 @@ use Rattle.isolation.specs.Effects.{Weakened, WeakenedOpens, Refers}
 use Rattle.calls.proofs.CallLaws.{or-left, InRange}
 use Rattle.calls.proofs.DoneLaws.{NoRow, no-row, done-range, done-mode, done-even, done-active, done-valid}
 use Rattle.calls.proofs.StepLaws.{step-done}
+use Rattle.calls.proofs.MadeWordLaws.{active-in}
 use Rattle.isolation.proofs.EntryLaws.{other-stays}
-
--- an active record is one of the store's
-pub active-in : (s : Store) (n : ℕ) → tableAt s n .active ≡ true → n < length (s .clusters)
-active-in s n e = go (decLt n (length (s .clusters)))
-  where
-    go : Dec (n < length (s .clusters)) → n < length (s .clusters)
-    go (yes h) = h
-    go (no h) =
-        absurd (true≢false
-        (sym e ∙ ap (λ (c : Cluster). c .active) (List·getD-eq-default (s .clusters) noCluster (omega arith))))
 
 -- what a handle's bytes are read back as
 back-refers : {n : Name} {r : ℕ → Bool} (h : Handle) → decoded (encoded h) ≡ h → Refers n r h

@@ -5,7 +5,7 @@
 --     FirstTold            condition 1: the number is that of a row which applies and above which none applies
 --     MustHold k x s       the column "Must hold" for the kind k:
 --       Opener m             the handle validates in the mode m, is not gapped, and its cluster is active
---       Primary m            so it does, and all its subselectors are flat
+--       Primary m            the same, and all its subselectors are flat
 --       Owner                it is a write primary handle of the current node
 --       Access m             it validates in the mode m and references the segment
 --       Fresh                the cluster is inactive, and the two passwords differ

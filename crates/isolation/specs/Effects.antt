@@ -5,7 +5,8 @@
 --     Refers n r h       the handle h names n, is not gapped, and references exactly the segments that r gives
 --     MadeOpens          call 1: the two handles name the cluster, reference every segment, and validate, one for
 --                        reading and one for writing, on the copy left
---     RenewedOpens       call 9: so does the handle, in the mode named, and the other password stays
+--     RenewedOpens       call 9: the new handle names the cluster, references every segment and validates in the mode
+--                        named; the other password stays
 --     ReducedOpens       call 8: the handle validates in the mode named, and references the same segments
 --     WeakenedOpens      call 7: the handle validates in each mode in which the old one does, and references those
 --                        segments of the old one that the mask keeps
@@ -19,7 +20,7 @@
 --     OtherSegments      the record a has become b: active or not, passwords and the other segments are as they were
 --     OtherPassword      its table and the password of the other mode are as they were
 --     Entries k x a b    what a call of the kind k leaves alone in its own cluster's record, a before it and b after
---     EntriesStay        so does every call
+--     EntriesStay        every call leaves these alone
 -- Assumes nothing.
 use mathlib.Core.Path.{_≡_}
 use mathlib.Core.Logic.{_≢_}

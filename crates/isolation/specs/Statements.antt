@@ -1,5 +1,5 @@
 -- Condition 3 and what stands beside it, each as one statement about `step` and `run`, for every conversion f.
---     StartSound              it is sound
+--     StartSound              the starting copy is sound
 --     SoundKept               any list of calls leaves a sound copy sound
 --     Agreed xs a b           condition 3's conclusions, for the list xs on the copies a and b:
 --       replies                 the answers and the buffers are equal, call by call
@@ -13,7 +13,7 @@
 --     Touched k x ts p        address p is a byte of the segment that the call x, of the kind k, makes or writes
 --     OnlyItsOwn x c          the call x on the copy c leaves every record but that of its own cluster as it was, and
 --                             every byte but those of the segment that it makes or writes
---     OthersAlone             so does every call on a sound copy
+--     OthersAlone             every call on a sound copy does only that
 --     OtherHeld               and the record and the segment bytes of every cluster that a call is not about are held
 -- Assumes nothing.
 use mathlib.Core.Path.{_≡_}

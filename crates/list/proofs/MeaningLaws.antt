@@ -2,21 +2,24 @@
 -- which bytes of a record count: those of the arguments that its call uses.
 -- Assumes nothing.
 use mathlib.Core.Path.{_≡_, refl, sym, ap, _∙_, subst}
-use mathlib.Core.Logic.{_↔_}
-use Prim.Native.Nat.{ℕ, _%_}
+use mathlib.Core.Logic.{_↔_, _⊎_, inl, inr}
+use Prim.Native.Nat.{ℕ, _%_, _<_}
 use native.Mathlib.Omega.{arith}
-use mathlib.Core.Bool.{Bool, true, false, not, _||_, cond}
-use mathlib.Core.List.{List}
-use mathlib.Core.Option.{Option}
-use borrow.Author.Tests.{lt-ltb, ne-eqb}
-use lib.Dec.{eqb}
+use mathlib.Core.Bool.{Bool, true, false, not, _&&_, _||_, cond, or-false}
+use mathlib.Core.List.{List, [], _∷_, _++_}
+use mathlib.Core.Option.{Option, none, some}
+use borrow.Author.Tests.{lt-ltb, ne-eqb, ltb-true, leb-true, leb-false, eqb-true, eqb-false}
+use lib.Dec.{eqb, leb, ltb}
 use lib.ListN.{length}
-use Rattle.handle.specs.Handles.{Row, firstOf}
+use Rattle.handle.specs.Handles.{Row, firstOf, decoded}
 use Rattle.handle.specs.Conversion.{product}
+use Rattle.store.specs.declared.Store.{Store}
+use Rattle.store.specs.Sound.{sound}
 use Rattle.calls.specs.Calls.{Copy, Kind, newCluster, deleteCluster, newSegment, deleteSegment, read, write, weaken}
-use Rattle.calls.specs.Calls.{reduce, newPassword, validate, Arguments, call, uses}
+use Rattle.calls.specs.Calls.{reduce, newPassword, validate, code, among, Arguments, call, uses, writing}
 use Rattle.calls.specs.Numbers.{unsound, noPlace}
 use Rattle.calls.specs.Steps.{Outcome}
+use Rattle.calls.specs.Answers.{copyOf, leftAlone}
 use Rattle.chain.specs.declared.Walked.{Walked}
 use Rattle.numbers.specs.Numbers.{linkNumber, loopNumber}
 use Rattle.chain.specs.Way.{done}
@@ -25,12 +28,16 @@ use Rattle.chain.specs.Bytes.{count, nextIn, wayIn}
 use Rattle.chain.proofs.MeansLaws.{means}
 use Rattle.isolation.specs.Checks.{trimmed}
 use Rattle.isolation.proofs.UnusedLaws.{unused-ignored}
-use Rattle.list.specs.Records.{recordBytes, mostBytes, kindOf, argumentsOf}
-use Rattle.list.specs.Runs.{Performed, misfits, misfitRows, refused, afterStep, stepped, performedAs}
+use Rattle.list.specs.Records.{recordBytes, mostBytes, mostData, byte, field, codeOf, ownCalls, otherCalls}
+use Rattle.list.specs.Records.{kindAmong, kindOf, argumentsOf}
+use Rattle.list.specs.Runs.{Bench, Performed, misfits, misfitRows, refused, afterStep, stepped, performedAs}
 use Rattle.list.specs.Runs.{performed}
 use Rattle.list.specs.Texts.{badLength, checked, textOf, output}
-use Rattle.list.specs.Meanings.{ListMeans, LongRefused, UnusedBytes, BadCode}
+use Rattle.list.specs.Meanings.{ListMeans, LongRefused, LengthInWords, UnusedBytes, BadCode}
+use Rattle.list.specs.Meanings.{MisfitInWords}
 use Rattle.list.proofs.CheckLaws.{by-length, check-empty}
+use Rattle.list.proofs.PerformLaws.{write-misfit, perform-write, misfit-unsound, misfit-node, misfit-local}
+use Rattle.list.proofs.PerformLaws.{misfit-field}
 
 -- ---- the check
 
@@ -57,17 +64,61 @@ module _ (list : List ℕ) where
         again = λ e t. subst (λ (w : Walked). (w .number ≡ loopNumber) ↔ Again n next 1) (is-way e t) (means n next 1 .again);
       }
 
+either : (t : Bool) {u : Bool} → u ≡ true → (t || u) ≡ true
+either true e = refl
+either false e = e
+
 pub long-refused : LongRefused
 unfolding output badLength
 long-refused list h =
     ap (λ (w : Walked). textOf list (w .number) (w .records))
     (list-means list .no-list (either (not (eqb (length list % recordBytes) 0)) (lt-ltb mostBytes (length list) h)))
+
+pub length-in-words : LengthInWords
+unfolding badLength
+length-in-words n = (told (eqb (n % 64) 0) refl, tells)
   where
-    either : (t : Bool) {u : Bool} → u ≡ true → (t || u) ≡ true
-    either true e = refl
-    either false e = e
+    told : (t : Bool) → eqb (n % 64) 0 ≡ t → (not t || ltb 16320 n) ≡ true → (n % 64 ≡ 0 → ⊥) ⊎ (16320 < n)
+    told true e l = inr (ltb-true 16320 n l)
+    told false e l = inl (eqb-false (n % 64) 0 e)
+
+    tells : (n % 64 ≡ 0 → ⊥) ⊎ (16320 < n) → badLength n ≡ true
+    tells (inl t) = ap (λ (u : Bool). not u || ltb 16320 n) (ne-eqb (n % 64) 0 t)
+    tells (inr l) = either (not (eqb (n % 64) 0)) (lt-ltb 16320 n l)
 
 -- ---- the bytes of a record
+
+-- the kind that a code names has that code
+abbrev picked : Bool → Kind → Option Kind → Option Kind
+picked t k o = elim t [ true ↦ some k | false ↦ o ]
+
+abbrev Named : ℕ → Option Kind → Type 0
+Named c none = Unit {0}
+Named c (some k) = code k ≡ c
+
+named : (ks : List Kind) (c : ℕ) → Named c (kindAmong ks c)
+named [] c = tt
+named (j ∷ js) c = go (eqb (code j) c) refl (named js c)
+  where
+    go : (t : Bool) → eqb (code j) c ≡ t → Named c (kindAmong js c) → Named c (picked t j (kindAmong js c))
+    go true e h = eqb-true (code j) c e
+    go false e h = h
+
+-- byte 5 counts for a write alone
+misfits-same : (k : Kind) (r q : List ℕ) → kindOf (codeOf r) ≡ some k → (byte r 1 ≡ 6 → byte r 5 ≡ byte q 5)
+    → misfits k r ≡ misfits k q
+unfolding kindOf
+misfits-same k r q e d = go (among (6 ∷ []) k) refl
+  where
+    coded : code k ≡ byte r 1
+    coded = subst (Named (byte r 1)) e (named (ownCalls ++ otherCalls) (byte r 1))
+
+    go : (t : Bool) → among (6 ∷ []) k ≡ t → misfits k r ≡ misfits k q
+    go true a =
+        ap (λ (n : ℕ). among (6 ∷ []) k && ltb mostData n)
+        (d (sym coded ∙ eqb-true (code k) 6 (sym (or-false (eqb (code k) 6)) ∙ a)))
+    go false a =
+        ap (λ (t : Bool). t && ltb mostData (byte r 5)) a ∙ sym (ap (λ (t : Bool). t && ltb mostData (byte q 5)) a)
 
 -- rows 1 and 2 look at used arguments alone
 rows-trimmed : (k : Kind) (g : Arguments) (c : Copy)
@@ -87,7 +138,7 @@ rows-trimmed validate g c = refl
 pub unused-bytes : UnusedBytes
 unfolding performed
 unused-bytes k r q b e s =
-    ap (λ (o : Option Kind). performedAs o r b) e ∙ branches (misfits k r) ∙ ap (chosen q) (s .data-lengths)
+    ap (λ (o : Option Kind). performedAs o r b) e ∙ branches (misfits k r) ∙ ap (chosen q) (misfits-same k r q e (s .data-lengths))
     ∙ ap (λ (o : Option Kind). performedAs o q b) (sym e ∙ ap kindOf (s .codes))
   where
     asked : List ℕ → Arguments
@@ -115,3 +166,51 @@ unused-bytes k r q b e s =
 pub bad-code : BadCode
 unfolding performed
 bad-code r b e = ap (λ (o : Option Kind). performedAs o r b) e
+
+-- ---- a write's data length above 32
+
+module _ (r : List ℕ) (b : Bench) where
+  abbrev s : Store
+  s = b .copy .store
+
+  abbrev m : List ℕ
+  m = b .copy .memory
+
+  abbrev h : List ℕ
+  h = field r 8 23
+
+  abbrev first : ℕ
+  first = firstOf (misfitRows (writing 0 h []) (copyOf s m))
+
+  refused-with : byte r 1 ≡ 6 → 32 < byte r 5 → (n : ℕ) → n ≡ first → performed r b ≡ refused n b
+  refused-with e l n en =
+      sym
+      (perform-write r s m (b .buffer) e m (leftAlone s n)
+      (write-misfit r s m h refl (byte r 5) refl l n en (leftAlone s n) refl))
+
+  module _ (t : not (sound s (length m)) ≡ false) where
+    node-above : 3 < decoded h .node → 2 ≡ first
+    node-above = misfit-node s m h (decoded h) refl (sound s (length m)) refl t (decoded h .node) refl
+
+    module _ (n : decoded h .node < 4) where
+      local-above : 7 < decoded h .local → 2 ≡ first
+      local-above = misfit-local s m h (decoded h) refl (sound s (length m)) refl t (decoded h .node) refl n
+
+      neither-above : decoded h .local < 8 → 3 ≡ first
+      neither-above = misfit-field s m h (decoded h) refl (sound s (length m)) refl t (decoded h .node) refl n
+
+    either-above : (3 < decoded h .node) ⊎ (7 < decoded h .local) → 2 ≡ first
+    either-above (inl p) = node-above p
+    either-above (inr p) = go (leb 4 (decoded h .node)) refl
+      where
+        go : (u : Bool) → leb 4 (decoded h .node) ≡ u → 2 ≡ first
+        go true e = node-above (leb-true 4 (decoded h .node) e)
+        go false e = local-above (leb-false 4 (decoded h .node) e) p
+
+pub misfit-in-words : MisfitInWords
+misfit-in-words r b e l =
+    record {
+      unsound = λ t. refused-with r b e l 1 (misfit-unsound (s r b) (m r b) (h r b) (decoded (h r b)) refl _ refl (ap not t));
+      no-place = λ t p. refused-with r b e l 2 (either-above r b (ap not t) p);
+      misfit = λ t n k. refused-with r b e l 3 (neither-above r b (ap not t) (omega arith) (omega arith));
+    }

@@ -9,8 +9,8 @@ use mathlib.Core.List.{List}
 use mathlib.Core.Option.{Option, none, some}
 use borrow.Author.Tests.{ltb-false}
 use lib.ListN.{length}
-use Rattle.handle.specs.Handles.{Name, firstOf}
-use Rattle.handle.specs.Conversion.{conversion}
+use Rattle.handle.specs.Handles.{firstOf}
+use Rattle.handle.specs.Conversion.{product}
 use Rattle.store.specs.Records.{tableAt, lengthOf}
 use Rattle.calls.specs.Calls.{Copy, Kind, newCluster, deleteCluster, newSegment, deleteSegment, read, write, weaken}
 use Rattle.calls.specs.Calls.{reduce, newPassword, validate, Call, call, placeFor}
@@ -24,14 +24,11 @@ abbrev chosen : Bool → Performed → Performed → Performed
 chosen t p q = elim t [ true ↦ p | false ↦ q ]
 
 module _ (r : List ℕ) (b : List ℕ) (c : Copy) where
-  abbrev f : Name → List ℕ → ℕ → List ℕ
-  f n = conversion
-
   abbrev asks : Kind → Call
   asks k = call k (argumentsOf k r b)
 
-  done-told : (k : Kind) → number f (asks k) (c .store) (length (c .memory)) ≡ 0
-      → given f k (asks k) c .length ≤ length b
+  done-told : (k : Kind) → number product (asks k) (c .store) (length (c .memory)) ≡ 0
+      → given product k (asks k) c .length ≤ length b
   unfolding given segmentRead short
   done-told newCluster e = omega arith
   done-told deleteCluster e = omega arith
@@ -39,7 +36,7 @@ module _ (r : List ℕ) (b : List ℕ) (c : Copy) where
   done-told deleteSegment e = omega arith
   done-told read e =
       ltb-false (length b) (lengthOf (placeFor (asks read) (tableAt (c .store))))
-      (no-row f (asks read) (c .store) (length (c .memory)) e .short)
+      (no-row product (asks read) (c .store) (length (c .memory)) e .short)
   done-told write e = omega arith
   done-told weaken e = omega arith
   done-told reduce e = omega arith
@@ -48,9 +45,9 @@ module _ (r : List ℕ) (b : List ℕ) (c : Copy) where
 
   step-told : (k : Kind) → aesStep (asks k) c .reply .length ≤ length b
   unfolding step
-  step-told k = go (number f (asks k) (c .store) (length (c .memory))) refl
+  step-told k = go (number product (asks k) (c .store) (length (c .memory))) refl
     where
-      go : (n : ℕ) → number f (asks k) (c .store) (length (c .memory)) ≡ n → outcome f n (asks k) c .reply .length ≤ length b
+      go : (n : ℕ) → number product (asks k) (c .store) (length (c .memory)) ≡ n → outcome product n (asks k) c .reply .length ≤ length b
       go zero e = done-told k e
       go (suc n) e = omega arith
 

@@ -9,8 +9,10 @@
 --     handled                   a record with the fields in its first eight bytes, the primary handle of node 1 and local
 --                               number 4 with sixteen bytes b, and what stands where the passwords do
 --     Printed, prints           a list and its whole output
---     printed                   an empty list; lists refused for their length, one of 256 records among them; with 19 and
---                               with 20; a bad code; the last of 255 records
+--     lengthsList               a write to node 4 with a data length of 33, and a read whose byte 5 is 255
+--     printed                   an empty list; lists refused for their length, some that are multiples of 32 and one of 256
+--                               records among them; with 19 and with 20; bad codes in one record and in two; the last
+--                               of 255 records; lengthsList
 --     OutputsPrinted            they are the outputs
 -- Assumes nothing.
 use Prim.Native.Nat.{ℕ}
@@ -193,6 +195,16 @@ fullText =
     ++ replicate 8192 48
     ++ ascii "\nend 3\n"
 
+abbrev pub lengthsList : List ℕ
+lengthsList =
+    -- record 1
+    (2 ∷ 6 ∷ 0 ∷ 0 ∷ 0 ∷ 33 ∷ 0 ∷ 0 ∷ [])
+    ++ (0 ∷ 4 ∷ [])
+    ++ replicate 54 0
+    -- record 2
+    ++ (0 ∷ 5 ∷ 0 ∷ 0 ∷ 0 ∷ 255 ∷ 0 ∷ 0 ∷ [])
+    ++ replicate 56 0
+
 pub record Printed : Type 0 where
   pub list : List ℕ
   pub text : String
@@ -205,10 +217,15 @@ printed =
     prints [] "end 0\n"
     ∷ prints (0 ∷ []) "list 18\n"
     ∷ prints (replicate 63 0) "list 18\n"
+    ∷ prints (replicate 65 0) "list 18\n"
+    ∷ prints (replicate 96 0) "list 18\n"
+    ∷ prints (replicate 160 0) "list 18\n"
     ∷ prints (replicate 16384 0) "list 18\n"
     ∷ prints (2 ∷ replicate 63 0) "list 19\n"
     ∷ prints (1 ∷ replicate 63 0) "list 20\n"
     ∷ prints (replicate 64 0) "1 0 3\nend 1\n"
+    ∷ prints (2 ∷ replicate 127 0) "1 0 3\n2 0 3\nend 2\n"
+    ∷ prints lengthsList "1 6 2\n2 5 8\nend 2\n"
     ∷ prints (255 ∷ replicate 16319 0) "1 0 3\n255 0 3\nend 2\n"
     ∷ []
 

@@ -4,27 +4,34 @@
 --                             it is so
 --     LongRefused             every input longer than a list gives the line of 18: so does its beginning, where that is
 --                             longer than a list too
---     SameUse k r q b         two records agree in the code, in the arguments that a call of the kind k uses, and in
---                             whether they misfit
+--     LengthInWords           a length is no list's exactly where it is no multiple of 64, or above 16,320
+--     SameUse k r q b         two records agree in the code, in the arguments that a call of the kind k uses, and, for a
+--                             write, in the data length
 --     UnusedBytes             such records do the same: unused bytes are ignored
 --     BadCode                 a code outside 1 to 9 is 3, whatever the other bytes are
+--     MisfitNumbers r b sd h  the record r is refused with 1 where sd, which says that the store is sound, is false; else
+--                             with 2 where the node of h is above 3 or its local number above 7; else with 3
+--     MisfitInWords           so is a write whose data length is above 32, by its handle
 -- Assumes nothing.
 use mathlib.Core.Path.{_≡_}
-use mathlib.Core.Logic.{_↔_}
-use Prim.Native.Nat.{ℕ, _<_}
-use mathlib.Core.Bool.{true, false}
+use mathlib.Core.Logic.{_↔_, _⊎_}
+use Prim.Native.Nat.{ℕ, _%_, _≤_, _<_}
+use mathlib.Core.Bool.{Bool, true, false}
 use mathlib.Core.List.{List}
 use mathlib.Core.Option.{none, some}
 use lib.ListN.{length}
+use Rattle.handle.specs.declared.Handle.{Handle}
+use Rattle.handle.specs.Handles.{decoded}
+use Rattle.store.specs.Sound.{sound}
 use Rattle.calls.specs.Calls.{Kind, uses}
 use Rattle.chain.specs.Way.{done, refusal}
 use Rattle.chain.specs.Means.{Whole, Leaves, Again}
 use Rattle.chain.specs.Bytes.{count, nextIn}
 use Rattle.isolation.specs.Checks.{trimmed}
 use Rattle.lines.specs.Lines.{refusedLine}
-use Rattle.list.specs.Records.{recordBytes, mostBytes, codeOf, kindOf, argumentsOf}
+use Rattle.list.specs.Records.{recordBytes, mostBytes, byte, field, codeOf, kindOf, argumentsOf}
 use Rattle.numbers.specs.Numbers.{fieldNumber, lengthNumber, linkNumber, loopNumber}
-use Rattle.list.specs.Runs.{Bench, misfits, refused, performed}
+use Rattle.list.specs.Runs.{Bench, refused, performed}
 use Rattle.list.specs.Texts.{badLength, checked, output}
 
 pub record ListMeans (list : List ℕ) : Type 0 where
@@ -40,10 +47,13 @@ pub record ListMeans (list : List ℕ) : Type 0 where
 abbrev pub LongRefused : Type 0
 LongRefused = (list : List ℕ) → mostBytes < length list → output list ≡ refusedLine lengthNumber
 
+abbrev pub LengthInWords : Type 0
+LengthInWords = (n : ℕ) → (badLength n ≡ true) ↔ ((n % 64 ≡ 0 → ⊥) ⊎ (16320 < n))
+
 pub record SameUse (k : Kind) (r q b : List ℕ) : Type 0 where
-  pub codes : codeOf r ≡ codeOf q
+  pub codes : byte r 1 ≡ byte q 1
   pub arguments : trimmed (uses k) (argumentsOf k r b) ≡ trimmed (uses k) (argumentsOf k q b)
-  pub data-lengths : misfits k r ≡ misfits k q
+  pub data-lengths : byte r 1 ≡ 6 → byte r 5 ≡ byte q 5
 
 abbrev pub UnusedBytes : Type 0
 UnusedBytes =
@@ -52,3 +62,13 @@ UnusedBytes =
 
 abbrev pub BadCode : Type 0
 BadCode = (r : List ℕ) (b : Bench) → kindOf (codeOf r) ≡ none → performed r b ≡ refused fieldNumber b
+
+pub record MisfitNumbers (r : List ℕ) (b : Bench) (sd : Bool) (h : Handle) : Type 0 where
+  pub unsound : sd ≡ false → performed r b ≡ refused 1 b
+  pub no-place : sd ≡ true → (3 < h .node) ⊎ (7 < h .local) → performed r b ≡ refused 2 b
+  pub misfit : sd ≡ true → h .node ≤ 3 → h .local ≤ 7 → performed r b ≡ refused 3 b
+
+abbrev pub MisfitInWords : Type 0
+MisfitInWords =
+    (r : List ℕ) (b : Bench) → byte r 1 ≡ 6 → 32 < byte r 5
+    → MisfitNumbers r b (sound (b .copy .store) (length (b .copy .memory))) (decoded (field r 8 23))

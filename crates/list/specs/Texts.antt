@@ -8,11 +8,11 @@
 --     output list             the text of a run: the lines of the chain in its order and the last one, or that of a
 --                             refused list
 --     mostText                the bytes of the longest text: a line for each of 255 records, and the last
---     briefText               the bytes that do for a text with no read: a brief line for each of 255 records, and the
---                             longest line once, since a line is put only where the longest one fits
+--     briefText               the bytes that are enough for a text with no read: a brief line for each of 255 records,
+--                             and the longest line once, since a line is put only where the longest one fits
 --     isRead list k           record k is a read: its code is 5
 --     quiet list              no record of the list, reached or not, is a read
---     roomFor list            the bytes that do for the text of a list: fewer where it is quiet
+--     roomFor list            the bytes that are enough for the text of a list: fewer where it is quiet
 --     outputWithin n list     what is put into n bytes: the text; nothing where they may not hold it
 -- Assumes nothing.
 use Prim.Native.Nat.{ℕ, zero, suc, _+_, _*_, _/_, _%_}

@@ -29,7 +29,7 @@ pub const BUFFER: usize = 4096;
 // The bytes of the longest text: a line for each of 255 records, and the last.
 pub const MOST_TEXT: usize = 2092283;
 
-// The bytes that do for the text of a list with no read: a brief line for each of 255 records, and the longest line once,
+// The bytes that are enough for the text of a list with no read: a brief line for each of 255 records, and the longest line once,
 // since a line is put only where the longest one fits.
 pub const BRIEF_TEXT: usize = MOST_BYTES / RECORD * BRIEF + LONGEST;
 
@@ -154,7 +154,7 @@ fn quiet(list: &[u8]) -> bool
     ok
 }
 
-// The bytes that do for the text of a list.
+// How many bytes are enough for the text of a list.
 fn room_for(list: &[u8]) -> usize
     ensures { λ r. ⌜ r ≡ texts.roomFor (now (list .entry)) ⌝ }
 {

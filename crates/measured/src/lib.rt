@@ -1,5 +1,10 @@
 // What the measurements under bench/ call, over bytes and numbers alone. It is linked into them and nowhere else.
 use handle::Handle;
+use handle::HandleBytes;
+use sizes::PASSWORD_BYTES;
+use sizes::Password;
+use sizes::RECORDS;
+use sizes::SEGMENTS;
 use store::Cluster;
 use store::Place;
 use store::Segment;
@@ -27,7 +32,7 @@ pub extern "C" fn measured_encrypt(key: &[u8; 16], block: &[u8; 16], out: &mut [
 
 // Whether the handle that 23 bytes hold validates from a primary password.
 #[no_mangle]
-pub extern "C" fn measured_validate(bytes: &[u8; 23], primary: &[u8; 16]) -> bool
+pub extern "C" fn measured_validate(bytes: &HandleBytes, primary: &Password) -> bool
     ensures { λ r. ⌜ r ≡ validates segments conversion (now (primary .entry)) (decoded (now (bytes .entry))) ⌝ }
 {
     let b = *bytes;
@@ -38,7 +43,7 @@ pub extern "C" fn measured_validate(bytes: &[u8; 23], primary: &[u8; 16]) -> boo
 
 // The handle that 23 bytes hold, weakened by a mask; its bytes go to `out`, its number is returned.
 #[no_mangle]
-pub extern "C" fn measured_weaken(bytes: &[u8; 23], mask: u8, out: &mut [u8; 23]) -> u8
+pub extern "C" fn measured_weaken(bytes: &HandleBytes, mask: u8, out: &mut HandleBytes) -> u8
     ensures { λ r. ⌜ r ≡ weakening segments conversion (decoded (now (bytes .entry))) mask .number ⌝ }
     ensures { λ _. ⌜ now (out .exit) ≡ encoded (weakening segments conversion (decoded (now (bytes .entry))) mask .handle) ⌝ }
 {
@@ -60,16 +65,16 @@ fn place_from(base: u16, length: u16) -> Place
 }
 
 // The segments of record n.
-fn segments_from(bases: &[u16; 256], lengths: &[u16; 256], n: usize) -> [Segment; 8]
+fn segments_from(bases: &[u16; 256], lengths: &[u16; 256], n: usize) -> [Segment; SEGMENTS]
     requires { ⌜ n < records ⌝ }
     ensures { λ r. ⌜ r ≡ tabulate segments (segmentFrom (now (bases .entry)) (now (lengths .entry)) n) ⌝ }
 {
     let absent = Segment {
         place: Place::Absent,
     };
-    let mut r = [absent; 8];
-    for i in 0..8usize {
-        let at = n * 8 + i;
+    let mut r = [absent; SEGMENTS];
+    for i in 0..SEGMENTS {
+        let at = n * SEGMENTS + i;
         r[i] = Segment {
             place: place_from(bases[at], lengths[at]),
         };
@@ -80,13 +85,13 @@ fn segments_from(bases: &[u16; 256], lengths: &[u16; 256], n: usize) -> [Segment
 fn store_from(bases: &[u16; 256], lengths: &[u16; 256]) -> Store
     ensures { λ r. ⌜ r ≡ storeFrom (now (bases .entry)) (now (lengths .entry)) ⌝ }
 {
-    let mut clusters = [store::inactive_cluster(); 32];
-    for n in 0..32usize {
+    let mut clusters = [store::inactive_cluster(); RECORDS];
+    for n in 0..RECORDS {
         let segments = segments_from(bases, lengths, n);
         clusters[n] = Cluster {
             active: true,
-            read: [0; 16],
-            write: [0; 16],
+            read: [0; PASSWORD_BYTES],
+            write: [0; PASSWORD_BYTES],
             segments,
         };
     }

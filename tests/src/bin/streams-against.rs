@@ -1,5 +1,5 @@
-//! Runs a program on lists that come in every way, and on streams that fail, and compares what comes of it with what
-//! should.
+//! Runs a program on lists that come in every way, and on streams that fail, and compares its text, its message and its
+//! end with what is expected.
 
 use model::generate;
 use model::list::{output, MOST_LIST_BYTES, RECORD_BYTES};

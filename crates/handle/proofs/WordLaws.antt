@@ -1,0 +1,208 @@
+-- Reduction, weakening and the count in words. The definitions go along the row of subselectors and make sets of bits;
+-- a row of four tells of each of them, and a set has the bits that it was made of.
+-- Assumes nothing.
+use mathlib.Core.Path.{_≡_, refl, sym, ap, _∙_, subst}
+use mathlib.Core.Logic.{_≢_, _⊎_, inl, inr, _↔_}
+use Prim.Native.Nat.{ℕ, zero, suc, _+_, _<_}
+use native.Mathlib.Omega.{arith}
+use mathlib.Core.Bool.{Bool, true, false, not, _&&_, false≢true}
+use mathlib.Core.List.{List, [], _∷_}
+use lib.ListN.{length, getD, set, length-set}
+use lib.Seq.{getD-set-same, getD-set-other}
+use borrow.Author.Tests.{eqb-true, eq-eqb, ne-eqb}
+use Rattle.bits.specs.Sets.{has, one, setOf, count}
+use Rattle.bits.proofs.SetLaws.{setOf-lt, has-setOf, setOf-same, count-none}
+use Rattle.loops.proofs.BelowLaws.{and-left, and-right, and-both}
+use Rattle.handle.specs.declared.Handle.{Handle}
+use Rattle.handle.specs.Selectors.{references, excludes, flat, allFlat, firstFlat, common, keepsAll, parameter}
+use Rattle.handle.specs.Handles.{renewed, weakened, reduced}
+use Rattle.handle.specs.Words.{Bit, subselector, Four, References, Excluded, Common, ReducedInWords}
+use Rattle.handle.specs.Words.{Cut, WeakenedInWords, CountInWords}
+use Rattle.handle.proofs.SelectorLaws.{first-here, first-past, has-parameter, parameter-lt, keeps-each}
+use Rattle.handle.proofs.HandleLaws.{weakened-cases, reduced-cases}
+
+-- ---- one bit, and a row of subselectors
+
+bit-out : (i s : ℕ) → has i s ≡ true → Bit i s
+unfolding has
+bit-out i s e = eqb-true _ 1 e
+
+bit-in : (i s : ℕ) → Bit i s → has i s ≡ true
+unfolding has
+bit-in i s b = eq-eqb _ 1 b
+
+references-out : (i : ℕ) (ss : List ℕ) → references ss i ≡ true → (k : ℕ) → k < length ss → Bit i (getD ss k 0)
+references-out i [] e k l = absurd (omega arith)
+references-out i (s ∷ ss) e zero l = bit-out i s (and-left (has i s) (references ss i) e)
+references-out i (s ∷ ss) e (suc k) l =
+    references-out i ss (and-right (has i s) (references ss i) e) k (omega arith)
+
+references-in : (i : ℕ) (ss : List ℕ) → ((k : ℕ) → k < length ss → Bit i (getD ss k 0)) → references ss i ≡ true
+references-in i [] b = refl
+references-in i (s ∷ ss) b =
+    and-both (has i s) (references ss i) (bit-in i s (b 0 (omega arith)))
+    (references-in i ss (λ k l. b (suc k) (omega arith)))
+
+flat-out : (ss : List ℕ) → allFlat 8 ss ≡ true → (k : ℕ) → k < length ss → getD ss k 0 ≡ 255
+flat-out [] e k l = absurd (omega arith)
+flat-out (s ∷ ss) e zero l = eqb-true s 255 (and-left (flat 8 s) (allFlat 8 ss) e)
+flat-out (s ∷ ss) e (suc k) l = flat-out ss (and-right (flat 8 s) (allFlat 8 ss) e) k (omega arith)
+
+flat-in : (ss : List ℕ) → ((k : ℕ) → k < length ss → getD ss k 0 ≡ 255) → allFlat 8 ss ≡ true
+flat-in [] b = refl
+flat-in (s ∷ ss) b =
+    and-both (flat 8 s) (allFlat 8 ss) (eq-eqb s 255 (b 0 (omega arith))) (flat-in ss (λ k l. b (suc k) (omega arith)))
+
+no-bits : setOf 8 (λ i. false) ≡ 0
+unfolding setOf
+no-bits = refl
+
+-- the first flat subselector is the one that is 255 after others that are not
+first-is : (ss : List ℕ) (j : ℕ) → j < length ss → getD ss j 0 ≡ 255 → ((k : ℕ) → k < j → getD ss k 0 ≢ 255)
+    → firstFlat 8 ss ≡ j
+first-is [] j l e b = absurd (omega arith)
+first-is (s ∷ ss) zero l e b = first-here 8 s ss (eq-eqb s 255 e)
+first-is (s ∷ ss) (suc j) l e b =
+    first-past 8 s ss (ne-eqb s 255 (b 0 (omega arith)))
+    ∙ ap suc (first-is ss j (omega arith) e (λ k q. b (suc k) (omega arith)))
+
+module _ (h : Handle) (e : Four h) where
+  abbrev ss : List ℕ
+  ss = h .selector
+
+  refers-out : (i : ℕ) → references ss i ≡ true → References h i
+  refers-out i q k l = references-out i ss q k (rw e l)
+
+  refers-in : (i : ℕ) → References h i → references ss i ≡ true
+  refers-in i r = references-in i ss (λ k l. r k (rw e at l))
+
+  -- ---- the count
+
+  pub count-in-words : CountInWords h
+  unfolding count
+  count-in-words =
+      record { ones = λ i. one (references ss i); each = λ i l. go i (references ss i) refl; total = omega arith }
+    where
+      go : (i : ℕ) (b : Bool) → references ss i ≡ b
+          → (References h i × (one b ≡ 1)) ⊎ ((¬ References h i) × (one b ≡ 0))
+      go i true q = inl (refers-out i q, refl)
+      go i false q = inr (λ r. false≢true (sym q ∙ refers-in i r), refl)
+
+  -- ---- reduction
+
+  module _ (f : List ℕ → ℕ → List ℕ) (p : List ℕ) where
+    made-common : Common f p h (renewed h (f p (common 8 ss)) (common 8 ss ∷ 255 ∷ 255 ∷ 255 ∷ []))
+    made-common =
+        record {
+          node = refl;
+          local = refl;
+          four = refl;
+          byte = setOf-lt 8 (references ss);
+          bits = λ i l. (
+            λ b. refers-out i (sym (has-setOf 8 (references ss) i l) ∙ bit-in i (common 8 ss) b),
+            λ r. bit-out i (common 8 ss) (has-setOf 8 (references ss) i l ∙ refers-in i r),
+          );
+          others = rest;
+          password = refl;
+        }
+      where
+        rest : (k : ℕ) → 0 < k → k < 4 → getD (common 8 ss ∷ 255 ∷ 255 ∷ 255 ∷ []) k 0 ≡ 255
+        rest zero a b = absurd (omega arith)
+        rest (suc zero) a b = refl
+        rest (suc (suc zero)) a b = refl
+        rest (suc (suc (suc zero))) a b = refl
+        rest (suc (suc (suc (suc k)))) a b = absurd (omega arith)
+
+    other-common : (k : ℕ) → k < 4 → subselector h k ≢ 255 → Common f p h (reduced 8 f h p)
+    other-common k l n =
+        reduced-cases 8 f h p (Common f p h) (λ t. absurd (n (flat-out ss t k (rw e l)))) (λ t. made-common)
+
+    pub reduced-in-words : ReducedInWords f h p
+    reduced-in-words =
+        record {
+          primary = λ all.
+              reduced-cases 8 f h p (λ k. k ≡ h) (λ t. refl)
+              (λ t. absurd (false≢true (sym t ∙ flat-in ss (λ k l. all k (rw e at l)))));
+          other = other-common;
+        }
+
+  -- ---- weakening
+
+  module _ (f : List ℕ → ℕ → List ℕ) (mask : ℕ) where
+    excluded-out : (i : ℕ) → excludes mask ss i ≡ true → Excluded h mask i
+    excluded-out i q = (
+      refers-out i (and-left (references ss i) (not (has i mask)) q),
+      λ b. clear (has i mask) (bit-in i mask b) (and-right (references ss i) (not (has i mask)) q),
+    )
+      where
+        clear : (m : Bool) → m ≡ true → not m ≡ true → ⊥
+        clear true a b = false≢true b
+        clear false a b = false≢true a
+
+    excluded-in : (i : ℕ) → Excluded h mask i → excludes mask ss i ≡ true
+    excluded-in i x =
+        and-both (references ss i) (not (has i mask)) (refers-in i (x .0)) (clear (has i mask) (λ q. x .1 (bit-out i mask q)))
+      where
+        clear : (m : Bool) → (m ≡ true → ⊥) → not m ≡ true
+        clear true n = absurd (n refl)
+        clear false n = refl
+
+    off : (b : Bool) → (b ≡ true → ⊥) → b ≡ false
+    off true n = absurd (n refl)
+    off false n = refl
+
+    none-excluded : ((i : ℕ) → i < 8 → ¬ Excluded h mask i) → keepsAll 8 mask ss ≡ true
+    none-excluded n =
+        count-none 8 (excludes mask ss)
+        ∙ eq-eqb (setOf 8 (excludes mask ss)) 0
+        (setOf-same 8 (excludes mask ss) (λ i. false) (λ i l. off (excludes mask ss i) (λ q. n i l (excluded-out i q)))
+        ∙ no-bits)
+
+    some-excluded : (i : ℕ) → i < 8 → Excluded h mask i → keepsAll 8 mask ss ≡ true → ⊥
+    some-excluded i l x q = go (references ss i) (has i mask) (keeps-each 8 mask ss q i l) (excluded-in i x)
+      where
+        go : (r m : Bool) → r ≡ r && m → r && not m ≡ true → ⊥
+        go true true a b = false≢true b
+        go true false a b = false≢true (sym a)
+        go false m a b = false≢true b
+
+    abbrev v : ℕ
+    v = parameter 8 mask ss
+
+    cut-at : (j : ℕ) → j < 4 → Cut f mask h j (renewed h (f (h .password) v) (set ss j v))
+    cut-at j l =
+        record {
+          node = refl;
+          local = refl;
+          four = length-set ss j v ∙ e;
+          byte = subst (λ (s : ℕ). s < 256) (sym here) (parameter-lt 8 mask ss);
+          bits = λ i b. subst (λ (s : ℕ). Bit i s ↔ (¬ Excluded h mask i)) (sym here) (of-bit i b);
+          others = λ k n. getD-set-other ss j k v 0 n;
+          password = ap (f (h .password)) (sym here);
+        }
+      where
+        here : getD (set ss j v) j 0 ≡ v
+        here = getD-set-same ss j v 0 (rw e l)
+
+        of-bit : (i : ℕ) → i < 8 → Bit i v ↔ (¬ Excluded h mask i)
+        of-bit i b = (
+          λ q x. go (excludes mask ss i) (excluded-in i x) (sym (has-parameter 8 mask ss i b) ∙ bit-in i v q),
+          λ n. bit-out i v
+              (has-parameter 8 mask ss i b ∙ ap not (off (excludes mask ss i) (λ q. n (excluded-out i q)))),
+        )
+          where
+            go : (t : Bool) → t ≡ true → not t ≡ true → ⊥
+            go true a c = false≢true c
+            go false a c = false≢true a
+
+    pub weakened-in-words : WeakenedInWords f h mask
+    weakened-in-words =
+        record {
+          kept = λ n.
+              weakened-cases 8 f h mask (λ k. k ≡ h) (λ t. refl) (λ t. absurd (false≢true (sym t ∙ none-excluded n)));
+          cut = λ i l x j a q b.
+              weakened-cases 8 f h mask (Cut f mask h j) (λ t. absurd (some-excluded i l x t))
+              (λ t.
+              subst (λ (k : ℕ). Cut f mask h j (renewed h (f (h .password) v) (set ss k v)))
+              (sym (first-is ss j (rw e a) q b)) (cut-at j a));
+        }
