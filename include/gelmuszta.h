@@ -24,15 +24,15 @@
  * segment i if bit i is set in all four. A subselector of 255 is flat; a primary handle has four flat ones; a selector in
  * which a flat one stands below one that is not is gapped. A password has GELMUSZTA_PASSWORD (16) bytes.
  *
- * A handle is valid in a mode, GELMUSZTA_MODE_READ or GELMUSZTA_MODE_WRITE, if its password comes of that mode's primary
- * password. Reading needs a handle that is valid for reading, and one that is valid for writing does not do; everything
- * else that opens a cluster needs one that is valid for writing, or in the mode that the call names.
+ * A handle is valid in a mode, GELMUSZTA_MODE_READ or GELMUSZTA_MODE_WRITE, if converting that mode's primary
+ * password by its subselectors gives its password. Reading needs a handle that is valid for reading, and one that is
+ * valid for writing is refused; everything else that opens a cluster needs one that is valid for writing, or in the mode that the call names.
  *
  * The nine calls and gelmuszta_validate return a number, 0 for done. When several refusals apply, the first of them in the
  * order below is given. On a refusal the handles given are 23 zero bytes, counts and lengths are zero, and image, memory and
  * buffer stay as they were, byte for byte. Arguments of type size_t are judged whole: a node, local number, mode, segment
  * or size out of its range is refused, however large; as a mode 257 gets GELMUSZTA_FIELD. Masks and parameters are bytes,
- * and C cuts a larger value to a byte without a word.
+ * and C cuts a larger value to a byte without telling.
  *
  * Calls 3 and 6 write to the memory and no other does; call 5 alone reads its bytes; the rest look at its length.
  *
