@@ -26,7 +26,8 @@
  *
  * A handle is valid in a mode, GELMUSZTA_MODE_READ or GELMUSZTA_MODE_WRITE, if converting that mode's primary
  * password by its subselectors gives its password. Reading needs a handle that is valid for reading, and one that is
- * valid for writing is refused; everything else that opens a cluster needs one that is valid for writing, or in the mode that the call names.
+ * valid for writing is refused; everything else that opens a cluster needs one that is valid for writing, or in the mode
+ * that the call names.
  *
  * The nine calls and gelmuszta_validate return a number, 0 for done. When several refusals apply, the first of them in the
  * order below is given. On a refusal the handles given are 23 zero bytes, counts and lengths are zero, and image, memory and
