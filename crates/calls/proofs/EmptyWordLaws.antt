@@ -22,7 +22,7 @@ use Rattle.store.specs.declared.Store.{Store}
 use Rattle.calls.specs.Calls.{Call, Kind, weaken, call, handleOf}
 use Rattle.calls.specs.Words.{Named, Handled, Bit, NoSuchPlace, Field, Gapped, Empty, Spent, Told, table}
 use Rattle.calls.specs.Steps.{Outcome, weakenReply}
-use Rattle.calls.specs.EmptyWords.{Emptied, EmptyInWords, SomeGiven, NeverToNothing}
+use Rattle.calls.specs.EmptyWords.{Emptied, EmptyInWords, SixteenGiven, SomeGiven, NeverToNothing}
 use Rattle.calls.proofs.KindLaws.{one, other-kind}
 use Rattle.calls.proofs.SelectorWords.{row-references}
 use Rattle.calls.proofs.TableLaws.{table-in-words}
@@ -123,7 +123,7 @@ module _ (f : Name → List ℕ → ℕ → List ℕ) where
       at : 19 + k ≡ suc (suc (suc (length (h .password) + k)))
       at = omega arith
 
-  pub never-to-nothing : NeverToNothing f
+  pub never-to-nothing : SixteenGiven f → NeverToNothing f
   unfolding decoded
   never-to-nothing sixteen g c l d = subst (λ (o : Outcome). SomeGiven (o .reply)) (sym (step-weaken f g c)) left
     where

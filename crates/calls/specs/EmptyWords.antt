@@ -6,7 +6,8 @@
 --     SixteenGiven         the conversion gives sixteen bytes
 --     SomeGiven r          the reply r has a segment whose bit is set in all four subselectors of the handle given, its bytes
 --                          19 to 22, and a count that is not 0
---     NeverToNothing       so it is whenever a handle of 23 bytes is weakened and the call is done
+--     NeverToNothing       so it is whenever a handle of 23 bytes is weakened and the call is done, by a conversion that is
+--                          SixteenGiven
 -- Assumes nothing.
 use mathlib.Core.Path.{_≡_}
 use mathlib.Core.Logic.{_≢_, _↔_}
@@ -45,5 +46,5 @@ module _ (f : Name → List ℕ → ℕ → List ℕ) where
 
   abbrev pub NeverToNothing : Type 0
   NeverToNothing =
-      SixteenGiven → (g : Arguments) (c : Copy) → length (g .handle) ≡ 23
+      (g : Arguments) (c : Copy) → length (g .handle) ≡ 23
       → step f (call weaken g) c .reply .number ≡ 0 → SomeGiven (step f (call weaken g) c .reply)

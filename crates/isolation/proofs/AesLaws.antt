@@ -3,6 +3,8 @@
 use Prim.Native.Nat.{ℕ}
 use Rattle.handle.specs.Conversion.{product}
 use Rattle.handle.proofs.PasswordLaws.{length-conversion}
+use Rattle.calls.specs.EmptyWords.{NeverToNothing}
+use Rattle.calls.proofs.EmptyWordLaws.{never-to-nothing}
 use Rattle.isolation.specs.Copies.{SixteenBytes}
 use Rattle.isolation.specs.Statements.{SoundKept, TwoCopies, ReadersAlterNothing, Agreed}
 use Rattle.isolation.specs.Witness.{one, two, tries, Concluded, Bites}
@@ -29,6 +31,9 @@ aes-readers-alter-nothing node local = readers-alter-nothing node local product
 
 pub aes-validation-judges : ValidationJudges product
 aes-validation-judges = validation-judges product aes-sixteen
+
+pub aes-never-to-nothing : NeverToNothing product
+aes-never-to-nothing = never-to-nothing product aes-sixteen
 
 pub aes-agreed : Agreed 0 2 product (tries product) one two
 aes-agreed = agreed product
