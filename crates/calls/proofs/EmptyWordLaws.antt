@@ -1,117 +1,98 @@
--- No handles to nothing, in words. 21 is the table's, so it is given just where its row holds and none above it, and of
--- those above only 2 and 4 are about weakening. A weakening done is the handle crate's, whose handle references a segment;
--- the subselectors stand at the end of a handle's bytes.
+-- No handles to nothing, in words. Only one row of the table has the number 21, and it is about weakening, whose number is
+-- the handle crate's. A weakening done is that crate's too, and its handle references a segment; the subselectors stand at
+-- the end of a handle's bytes.
 -- Assumes nothing.
 use mathlib.Core.Path.{_≡_, refl, sym, ap, _∙_, subst}
 use mathlib.Core.Logic.{_⊎_, inl, inr}
-use Prim.Native.Nat.{ℕ, suc, _+_, _<_}
+use Prim.Native.Nat.{ℕ, suc, _+_, _≤_}
 use native.Mathlib.Omega.{arith}
-use mathlib.Core.Bool.{false}
-use mathlib.Core.List.{List, [], _∷_, _++_}
+use mathlib.Core.Bool.{true, true≢false, or-false}
+use mathlib.Core.List.{List, [], _∷_}
 use lib.ListN.{length, getD, drop, length-drop, length-set}
 use lib.Seq.{length-take-le, getD-append-add}
 use Rattle.bits.specs.Bytes.{bytes}
 use Rattle.handle.specs.declared.Handle.{Handle}
 use Rattle.handle.specs.declared.Weakened.{Weakened}
 use Rattle.handle.specs.Selectors.{firstFlat, parameter}
-use Rattle.handle.specs.Handles.{Name, nameOf, nodeOf, encoded, decoded, weakening}
+use Rattle.handle.specs.Handles.{Name, nameOf, nodeOf, encoded, decoded, noSuchPlace, weakenNumber, weakening}
 use Rattle.handle.specs.Empty.{SomeLeft}
 use Rattle.handle.proofs.HandleLaws.{weakened-cases}
-use Rattle.handle.proofs.EmptyLaws.{handle-done, done-references}
+use Rattle.handle.proofs.EmptyLaws.{empty-out, empty-in, handle-done, done-references}
 use Rattle.store.specs.declared.Store.{Store}
 use Rattle.calls.specs.Calls.{Call, Kind, weaken, call, handleOf}
-use Rattle.calls.specs.Words.{Named, Handled, Bit, NoSuchPlace, Field, Gapped, Empty, Spent, Told, table}
+use Rattle.calls.specs.Numbers.{emptyHandle, at, rows, number}
+use Rattle.calls.specs.Words.{Named, Handled, Taken, Bit}
 use Rattle.calls.specs.Steps.{Outcome, weakenReply}
 use Rattle.calls.specs.EmptyWords.{Emptied, EmptyInWords, SixteenGiven, SomeGiven, NeverToNothing}
-use Rattle.calls.proofs.KindLaws.{one, other-kind}
-use Rattle.calls.proofs.SelectorWords.{row-references}
-use Rattle.calls.proofs.TableLaws.{table-in-words}
-use Rattle.calls.proofs.WeakenLaws.{step-weaken}
+use Rattle.calls.proofs.FirstLaws.{first-holding}
+use Rattle.calls.proofs.TestLaws.{Is, off-is, or-is, le-is}
+use Rattle.calls.proofs.KindLaws.{other-kind}
+use Rattle.calls.proofs.SelectorWords.{row-references, gapped-is, empty-is, four}
+use Rattle.calls.proofs.WordLaws.{empty-row}
+use Rattle.calls.proofs.WeakenLaws.{number-weaken, step-weaken}
 
 -- ---- which calls get 21
 
--- the entry of another number is passed; so is one whose words do not hold
-past : {n m : ℕ} {W R : Type 0} → (n ≡ m → ⊥) → ((n ≡ m) × W) ⊎ ((¬ W) × R) → (¬ W) × R
-past d (inl r) = absurd (d (r .0))
-past d (inr r) = r
-
-named : (x : Call) → x .kind ≡ weaken → Named (weaken ∷ []) x
+named-weaken : (x : Call) → Named (weaken ∷ []) x → x .kind ≡ weaken
 unfolding Named
-named x k = inl k
+named-weaken x (inl k) = k
+named-weaken x (inr k) = absurd k
 
-infixr 2 _▹_
-_▹_ : {A W R : Type 0} → ¬ W → R → A ⊎ ((¬ W) × R)
-_▹_ n r = inr (n, r)
-
-module _ (f : Name → List ℕ → ℕ → List ℕ) (x : Call) (s : Store) (size : ℕ) where
-  emptied : Told (table f x s size) 21 → Emptied x
-  unfolding Named
-  emptied t =
-      let r1 = past (λ e. omega arith) t in
-      let r2 = past (λ e. omega arith) (r1 .1) in
-      let r3 = past (λ e. omega arith) (r2 .1) in
-      let r4 = past (λ e. omega arith) (r3 .1) in
-      let r5 = past (λ e. omega arith) (r4 .1) in
-      let r6 = past (λ e. omega arith) (r5 .1) in
-      let r7 = past (λ e. omega arith) (r6 .1) in
-      let r8 = past (λ e. omega arith) (r7 .1) in
-      let r9 = past (λ e. omega arith) (r8 .1) in
-      let r10 = past (λ e. omega arith) (r9 .1) in
-      let r11 = past (λ e. omega arith) (r10 .1) in
-      let r12 = past (λ e. omega arith) (r11 .1) in
-      let r13 = past (λ e. omega arith) (r12 .1) in
-      let r14 = past (λ e. omega arith) (r13 .1) in
-      let r15 = past (λ e. omega arith) (r14 .1) in
-      let r16 = past (λ e. omega arith) (r15 .1) in
-      last (r2 .0) (r4 .0) (r16 .1)
-    where
-      taken : x .kind ≡ weaken → Handled x
-      taken k q = other-kind (weaken ∷ []) refl x (inl k) q
-
-      held : ¬ NoSuchPlace x → ¬ Gapped x → x .kind ≡ weaken → Empty x → Emptied x
-      held p g k n =
-          let node : ¬ (3 < nodeOf (handleOf x)) = λ l. p (inl (taken k, inl l)) in
-          let local : ¬ (7 < handleOf x .local) = λ l. p (inl (taken k, inr l)) in
-          record { weakens = k; node = omega arith; local = omega arith; even = g; none = n .1 }
-
-      kind : Named (weaken ∷ []) x → x .kind ≡ weaken
-      kind (inl k) = k
-      kind (inr k) = absurd k
-
-      last : ¬ NoSuchPlace x → ¬ Gapped x
-          → ((_≡_ {A = ℕ} 21 21) × Empty x) ⊎ ((¬ Empty x) × (((_≡_ {A = ℕ} 21 17) × Spent x) ⊎ ((¬ Spent x) × ⊥)))
-          → Emptied x
-      last p g (inl (e, n)) = held p g (kind (n .0)) n
-      last p g (inr (n, inl (e, r))) = absurd (omega arith)
-      last p g (inr (n, inr (m, r))) = absurd r
-
-  given : Emptied x → Told (table f x s size) 21
-  given e =
-      (λ r. r .0 (e .weakens))
-      ▹ no-place ▹ no-field ▹ e .even
-      ▹ away _ refl ▹ away _ refl ▹ away _ refl ▹ away _ refl ▹ away _ refl ▹ away _ refl
-      ▹ away _ refl ▹ away _ refl ▹ away _ refl ▹ away _ refl ▹ away _ refl ▹ away _ refl
-      ▹ inl (refl, (named x (e .weakens), e .none))
-    where
-      away : (ks : List Kind) {W : Type 0} → one ks weaken ≡ false → ¬ (Named ks x × W)
-      away ks o r = other-kind ks o x (r .0) (e .weakens)
-
-      no-place : ¬ NoSuchPlace x
-      no-place (inl (h, inl l)) = let n = e .node in omega arith
-      no-place (inl (h, inr l)) = let n = e .local in omega arith
-      no-place (inr (inl r)) = other-kind _ refl x (r .0) (e .weakens)
-      no-place (inr (inr r)) = other-kind _ refl x (r .0) (e .weakens)
-
-      no-field : ¬ Field x
-      no-field (inl r) = other-kind _ refl x (r .0) (e .weakens)
-      no-field (inr (inl r)) = other-kind _ refl x (r .0) (e .weakens)
-      no-field (inr (inr r)) = other-kind _ refl x (r .0) (e .weakens)
+weaken-handled : (x : Call) → x .kind ≡ weaken → Handled x
+unfolding Named
+weaken-handled x k = other-kind (weaken ∷ []) refl x (inl k)
 
 module _ (f : Name → List ℕ → ℕ → List ℕ) where
+  -- only the row of 21 has that number
+  told-empty : (x : Call) (s : Store) (size : ℕ) → number f x s size ≡ 21 → emptyHandle x ≡ true
+  unfolding number
+  told-empty x s size e = sym (or-false (emptyHandle x)) ∙ first-holding (at x s (rows f size)) 21 (omega arith) e
+
+  module _ (x : Call) (s : Store) (size : ℕ) (t : Taken x) (k : x .kind ≡ weaken) where
+    abbrev h : Handle
+    h = handleOf x
+
+    here : length (h .selector) ≡ 4
+    here = four x t (weaken-handled x k)
+
+    place-is : Is (noSuchPlace h) ((4 ≤ nodeOf h) ⊎ (8 ≤ h .local))
+    place-is = or-is (le-is 4 (nodeOf h)) (le-is 8 (h .local))
+
+    number-is : number f x s size ≡ weakenNumber 8 h (x .args .mask)
+    number-is =
+        ap (λ (j : Kind). number f (call j (x .args)) s size) k ∙ number-weaken f (x .args) s size
+
+    emptied : weakenNumber 8 h (x .args .mask) ≡ 21 → Emptied x
+    emptied e =
+        let r = empty-out 8 (f (nameOf h)) h (x .args .mask) e in
+        let node : ¬ (4 ≤ nodeOf h) = λ l. true≢false (sym (place-is .into (inl l)) ∙ r .0) in
+        let local : ¬ (8 ≤ h .local) = λ l. true≢false (sym (place-is .into (inr l)) ∙ r .0) in
+        record {
+          weakens = k;
+          node = omega arith;
+          local = omega arith;
+          even = λ g. true≢false (sym (gapped-is x here .into (g .1)) ∙ r .1);
+          none = empty-is x here (x .args .mask) .out (r .2);
+        }
+
+    given : Emptied x → weakenNumber 8 h (x .args .mask) ≡ 21
+    given e =
+        empty-in 8 (f (nameOf h)) h (x .args .mask)
+        (off-is place-is beyond)
+        (off-is (gapped-is x here) (λ g. e .even (weaken-handled x k, g)))
+        (empty-is x here (x .args .mask) .into (e .none))
+      where
+        beyond : ¬ ((4 ≤ nodeOf h) ⊎ (8 ≤ h .local))
+        beyond (inl l) = let n = e .node in omega arith
+        beyond (inr l) = let n = e .local in omega arith
+
   pub empty-in-words : EmptyInWords f
-  empty-in-words x s size t =
-      let r = table-in-words f x s size t .told 21 (omega arith) in
-      (λ e. emptied f x s size (r .0 e), λ e. r .1 (given f x s size e))
+  empty-in-words x s size t = (out, λ e. number-is x s size t (e .weakens) ∙ given x s size t (e .weakens) e)
+    where
+      out : number f x s size ≡ 21 → Emptied x
+      out e =
+          let k = named-weaken x (empty-row x t .out (told-empty x s size e) .0) in
+          emptied x s size t k (sym (number-is x s size t k) ∙ e)
 
   -- ---- a weakening done
 

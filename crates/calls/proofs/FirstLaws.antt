@@ -1,11 +1,13 @@
 -- Laws of the first row that applies. Rows need to agree on two stores only as far as they are looked at: each may use
--- that those above it did not apply. Where the number is 0, none applies.
+-- that those above it did not apply. Where the number is 0, none applies; any other number is that of a row which applies.
 -- Assumes nothing.
 use mathlib.Core.Path.{_≡_, refl, ap, _∙_}
-use Prim.Native.Nat.{_<_}
+use Prim.Native.Nat.{ℕ, _<_}
 use native.Mathlib.Omega.{arith}
-use mathlib.Core.Bool.{Bool, true, false, cond}
+use mathlib.Core.Bool.{Bool, true, false, _&&_, _||_, cond, and-false}
 use mathlib.Core.List.{List, [], _∷_}
+use lib.Dec.{eqb}
+use borrow.Author.Tests.{eq-eqb}
 use Rattle.handle.specs.Handles.{Row, firstOf}
 use Rattle.store.specs.declared.Store.{Store}
 use Rattle.calls.specs.Calls.{Call}
@@ -27,6 +29,21 @@ module _ (x : Call) (a b : Store) where
           → cond t (l x b .number) (firstOf (at x a ls)) ≡ cond t (l x b .number) (firstOf (at x b ls))
       go true e ih = refl
       go false e ih = ih (h .1 (ap (λ (r : Row). r .applies) (h .0) ∙ e))
+
+-- some row with the number n applies
+abbrev pub holding : ℕ → List Row → Bool
+holding n [] = false
+holding n (r ∷ rs) = eqb (r .number) n && r .applies || holding n rs
+
+-- the number that is told is that of such a row
+pub first-holding : (rs : List Row) (n : ℕ) → 0 < n → firstOf rs ≡ n → holding n rs ≡ true
+first-holding [] n h e = absurd (omega arith)
+first-holding (r ∷ rs) n h e = go (r .applies) (first-holding rs n h) e
+  where
+    go : (t : Bool) → (firstOf rs ≡ n → holding n rs ≡ true) → cond t (r .number) (firstOf rs) ≡ n
+        → eqb (r .number) n && t || holding n rs ≡ true
+    go true ih e = ap (λ (b : Bool). b && true || holding n rs) (eq-eqb (r .number) n e)
+    go false ih e = ap (λ (b : Bool). b || holding n rs) (and-false (eqb (r .number) n)) ∙ ih e
 
 -- every number is above 0
 abbrev pub Numbered : List Row → Type 0

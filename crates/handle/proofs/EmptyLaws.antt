@@ -1,16 +1,18 @@
 -- No handles to nothing: a weakened handle references exactly the old segments that the mask keeps, so it references none
--- just where the mask keeps none; and a weakening done has passed that row.
+-- just where the mask keeps none; and a weakening done has passed that row. 21 is told where that row is met.
 -- Assumes nothing.
 use mathlib.Core.Path.{_≡_, refl, sym, ap, _∙_}
 use Prim.Native.Nat.{ℕ, zero, suc, _<_}
-use mathlib.Core.Bool.{Bool, true, false, false≢true}
+use native.Mathlib.Omega.{arith}
+use mathlib.Core.Bool.{Bool, true, false, cond, false≢true}
 use mathlib.Core.List.{List}
 use borrow.Author.Tests.{eqb-false}
 use Rattle.bits.proofs.SetLaws.{count-out, count-in}
 use Rattle.handle.specs.declared.Handle.{Handle}
 use Rattle.handle.specs.declared.Weakened.{Weakened}
-use Rattle.handle.specs.Selectors.{references, keeps, keepsNone, spent, referenced}
-use Rattle.handle.specs.Handles.{reply, weakenNumber, weakened, weakening}
+use Rattle.numbers.specs.Numbers.{placeNumber, gappedNumber, emptyNumber, spentNumber}
+use Rattle.handle.specs.Selectors.{references, keeps, gapped, keepsNone, spent, referenced}
+use Rattle.handle.specs.Handles.{noSuchPlace, reply, weakenNumber, weakened, weakening}
 use Rattle.handle.specs.Empty.{NoneLeft, SomeLeft, DoneReferences}
 use Rattle.handle.proofs.HandleLaws.{some-kept, unspent, references-weakened}
 
@@ -40,6 +42,28 @@ module _ (w : ℕ) (f : List ℕ → ℕ → List ℕ) (h : Handle) (mask : ℕ)
         where
           found : (i : ℕ) × (i < w) × (kept i ≡ true) → ⊥
           found s = false≢true (sym (n (s .0) (s .1)) ∙ references-weakened w f h mask u (s .0) (s .1) ∙ s .2)
+
+  -- ---- 21, among the four rows
+
+  abbrev telling : Bool → Bool → Bool → Bool → ℕ
+  telling a b c d = cond a placeNumber (cond b gappedNumber (cond c emptyNumber (cond d spentNumber 0)))
+
+  pub empty-out : weakenNumber w h mask ≡ emptyNumber
+      → (noSuchPlace h ≡ false) × (gapped w (h .selector) ≡ false) × (keepsNone w mask (h .selector) ≡ true)
+  unfolding weakenNumber
+  empty-out e = go (noSuchPlace h) (gapped w (h .selector)) (keepsNone w mask (h .selector)) (spent w mask (h .selector)) e
+    where
+      go : (a b c d : Bool) → telling a b c d ≡ emptyNumber → (a ≡ false) × (b ≡ false) × (c ≡ true)
+      go true b c d e = absurd (omega arith)
+      go false true c d e = absurd (omega arith)
+      go false false true d e = (refl, refl, refl)
+      go false false false true e = absurd (omega arith)
+      go false false false false e = absurd (omega arith)
+
+  pub empty-in : noSuchPlace h ≡ false → gapped w (h .selector) ≡ false → keepsNone w mask (h .selector) ≡ true
+      → weakenNumber w h mask ≡ emptyNumber
+  unfolding weakenNumber
+  empty-in a b c = λ j. telling (a j) (b j) (c j) (spent w mask (h .selector))
 
   -- ---- a weakening done
 
