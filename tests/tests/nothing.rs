@@ -6,6 +6,7 @@ mod support;
 use model::call::{Call, Reply};
 use model::handle::{convert, Handle, Selector};
 use model::table::word;
+use support::naive::{has, number, referenced_and_kept, selectors};
 use support::*;
 
 const EMPTY: u8 = 21;
@@ -30,22 +31,6 @@ fn to_nothing() -> [Handle; 6] {
         0x0000_0000,
     ]
     .map(handle)
-}
-
-/// Whether bit `segment` of `number` is set, by halving.
-fn has(number: u8, segment: u32) -> bool {
-    number / 2u8.pow(segment) % 2 == 1
-}
-
-/// The segments that every subselector has, and of these the ones that the mask has.
-fn referenced_and_kept(selector: [u8; 4], mask: u8) -> (u32, u32) {
-    let (mut referenced, mut kept) = (0, 0);
-    for segment in 0..8 {
-        let in_all = selector.iter().filter(|&&part| has(part, segment)).count() == 4;
-        referenced += u32::from(in_all);
-        kept += u32::from(in_all && has(mask, segment));
-    }
-    (referenced, kept)
 }
 
 #[test]
@@ -116,58 +101,36 @@ fn one_segment_kept_is_done_and_counted() {
     }
 }
 
-/// Selectors without gaps that have no subselector but `first` and some that take nothing from it, so
-/// that none to four are not flat.
-fn selectors(first: u8) -> Vec<[u8; 4]> {
-    let others: Vec<u8> = (0..8)
-        .filter(|&segment| !has(first, segment))
-        .map(|segment| 255 - 2u8.pow(segment))
-        .collect();
-    let Some(&one) = others.first() else {
-        return vec![[255; 4]];
-    };
-    let last = others[others.len() - 1];
-    vec![
-        [first, 255, 255, 255],
-        [one, first, 255, 255],
-        [first, one, last, 255],
-        [one, last, one, first],
-    ]
-}
-
 /// Every mask and every set of referenced segments, with every number of flat subselectors.
 #[test]
 fn a_weakening_done_never_counts_0() {
     let mut bench = Bench::starting();
     let mut numbers = [0u32; 22];
-    for selector in (0..=255).flat_map(selectors) {
+    for selector in selectors() {
+        let handle = Handle {
+            selector: Selector(selector),
+            ..reader()
+        };
         for mask in 0..=255 {
-            let handle = Handle {
-                selector: Selector(selector),
-                ..reader()
-            };
-            let (referenced, kept) = referenced_and_kept(selector, mask);
-            let number = match kept {
-                0 => EMPTY,
-                _ if kept == referenced || selector[3] == 255 => 0,
-                _ => 17,
-            };
+            let expected = number(selector, mask);
             let reply = bench.reply(weaken(mask, handle));
-            assert_eq!(reply.number, number, "{selector:?} {mask}");
-            numbers[usize::from(number)] += 1;
-            if number != 0 {
-                assert_eq!(reply, Reply::refused(number));
+            assert_eq!(reply.number, expected, "{selector:?} {mask}");
+            numbers[usize::from(expected)] += 1;
+            if expected != 0 {
+                assert_eq!(reply, Reply::refused(expected));
                 continue;
             }
+            let (_, kept) = referenced_and_kept(selector, mask);
             assert_ne!(reply.count, 0);
             assert_eq!(reply.count, kept);
             let given = Handle::from_bytes(&reply.first).selector.0;
-            assert_eq!(referenced_and_kept(given, 255), (kept, kept));
+            assert_eq!(referenced_and_kept(given, mask), (kept, kept));
         }
     }
-    let all = 256 * (4 * 255 + 1);
-    assert_eq!(numbers[0] + numbers[17] + numbers[21], all);
-    assert!(numbers[0] > all / 4 && numbers[17] > all / 10 && numbers[21] > all / 20);
+    // Four selectors for each set of segments but all eight, one for these; 3^8 pairs of sets share nothing.
+    assert_eq!(numbers.iter().sum::<u32>(), 256 * (4 * 255 + 1));
+    assert_eq!(numbers[21], 4 * 3u32.pow(8) - 3);
+    assert_eq!(numbers[17], 52_416);
 }
 
 #[test]
