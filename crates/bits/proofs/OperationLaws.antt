@@ -130,6 +130,15 @@ xor-assoc a b c =
 
 -- ---- tests and cleared bits, as code writes them
 
+-- `s & m`, of a set s, has what both have
+pub and-has : (w : ℕ) (p : ℕ → Bool) (m : ℕ) → bitAnd (setOf w p) m ≡ setOf w (λ i. p i && has i m)
+and-has w p m =
+    same-bits w (bitAnd (setOf w p) m) (setOf w (λ i. p i && has i m))
+    (lt-of-le-of-lt (and-le-l (setOf w p) m) (setOf-lt w p)) (setOf-lt w (λ i. p i && has i m))
+    (λ i l.
+    has-and i (setOf w p) m ∙ ap (λ (x : Bool). x && has i m) (has-setOf w p i l)
+    ∙ sym (has-setOf w (λ i. p i && has i m) i l))
+
 -- `s & !m`, of a set s, has what s has and m has not
 pub and-not : (w : ℕ) (p : ℕ → Bool) (m : ℕ) → m < 2 ^ w
     → bitAnd (setOf w p) (full w - m) ≡ setOf w (λ i. p i && not (has i m))

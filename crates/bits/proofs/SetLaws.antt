@@ -2,7 +2,7 @@
 -- twice the rest, and bit i + 1 of the number is bit i of the rest.
 -- Assumes nothing.
 use Prim.Native.Nat.{ℕ, zero, suc, _+_, _*_, _/_, _%_, _^_, _<_}
-use native.Mathlib.Nat.{pow-suc, mod-lt, div-eq-of-lt}
+use native.Mathlib.Nat.{zero-add, pow-suc, mod-lt, div-eq-of-lt}
 use native.Mathlib.Numerals.{one-add}
 use native.Mathlib.Omega.{arith}
 use mathlib.Core.Path.{_≡_, refl, sym, ap, ap₂, _∙_}
@@ -10,7 +10,7 @@ use mathlib.Core.Bool.{Bool, true, false, false≢true}
 use lib.Dec.{eqb, eqb·suc-zero}
 use lib.Pow.{shr-shr}
 use lib.Count.{ones, onesIn, ones-step}
-use borrow.Author.Tests.{eq-eqb, ne-eqb}
+use borrow.Author.Tests.{eqb-false, eq-eqb, ne-eqb}
 use Rattle.bits.specs.Sets.{has, one, setOf, count}
 
 -- ---- one bit and the rest
@@ -136,3 +136,32 @@ count-none (suc w) p = go (p 0) (count-none w (λ i. p (suc i)))
         ne-eqb (1 + count w (λ i. p (suc i))) 0 (λ g. omega arith)
         ∙ sym (ne-eqb (setOf w (λ i. p (suc i)) * 2 + 1) 0 (λ g. omega arith))
     go false e = zeros (count w (λ i. p (suc i))) (setOf w (λ i. p (suc i))) e
+
+-- some are counted just where some pass
+pub count-out : (w : ℕ) (p : ℕ → Bool) → eqb (count w p) 0 ≡ false → (i : ℕ) × (i < w) × (p i ≡ true)
+unfolding count
+count-out zero p e = absurd (false≢true (sym e))
+count-out (suc w) p e = go (p 0) refl (count-out w (λ i. p (suc i))) e
+  where
+    rest : ℕ
+    rest = count w (λ i. p (suc i))
+
+    up : (i : ℕ) × (i < w) × (p (suc i) ≡ true) → (i : ℕ) × (i < suc w) × (p i ≡ true)
+    up f = let l = f .1 in (suc (f .0), omega arith, f .2)
+
+    go : (b : Bool) → p 0 ≡ b → (eqb rest 0 ≡ false → (i : ℕ) × (i < w) × (p (suc i) ≡ true))
+        → eqb (one b + rest) 0 ≡ false → (i : ℕ) × (i < suc w) × (p i ≡ true)
+    go true q more e = (0, omega arith, q)
+    go false q more e = up (more (ap (λ (n : ℕ). eqb n 0) (sym (zero-add rest)) ∙ e))
+
+pub count-in : (w : ℕ) (p : ℕ → Bool) (i : ℕ) → i < w → p i ≡ true → eqb (count w p) 0 ≡ false
+unfolding count
+count-in zero p i l e = absurd (omega arith)
+count-in (suc w) p zero l e =
+    ap (λ (b : Bool). eqb (one b + count w (λ i. p (suc i))) 0) e
+    ∙ ne-eqb (1 + count w (λ i. p (suc i))) 0 (λ g. omega arith)
+count-in (suc w) p (suc i) l e = go (p 0) (eqb-false _ 0 (count-in w (λ i. p (suc i)) i (omega arith) e))
+  where
+    go : (b : Bool) → (count w (λ i. p (suc i)) ≡ 0 → ⊥) → eqb (one b + count w (λ i. p (suc i))) 0 ≡ false
+    go true n = ne-eqb (1 + count w (λ i. p (suc i))) 0 (λ g. omega arith)
+    go false n = ne-eqb (0 + count w (λ i. p (suc i))) 0 (λ g. n (omega arith))

@@ -22,7 +22,7 @@ use Rattle.calls.specs.Calls.{needed, handleOf, nodeFor, localFor, recor
 use Rattle.calls.specs.Numbers.{unsound, noPlace, badMode, badSegment, badSize, badField, gappedHandle, elsewhere}
 use Rattle.calls.specs.Numbers.{inUse, twins, inactiveCluster, valid, violated, notPrimary, notReferenced, at}
 use Rattle.calls.specs.Numbers.{oldPassword}
-use Rattle.calls.specs.Numbers.{segmentPresent, segmentAbsent, short, fullNode, spentHandle, rows, number}
+use Rattle.calls.specs.Numbers.{segmentPresent, segmentAbsent, short, fullNode, emptyHandle, spentHandle, rows, number}
 use Rattle.calls.specs.Steps.{newBaseFor}
 use Rattle.calls.specs.Clear.{Clear}
 use Rattle.calls.proofs.FirstLaws.{first-clear}
@@ -53,6 +53,7 @@ module _ (f : Name → List ℕ → ℕ → List ℕ) where
     pub segmentAbsent : segmentAbsent x (tableAt s) ≡ false
     pub short : short x (tableAt s) ≡ false
     pub fullNode : fullNode x (tableAt s) ≡ false
+    pub emptyHandle : emptyHandle x ≡ false
     pub spentHandle : spentHandle x ≡ false
 
   module _ (x : Call) (s : Store) (size : ℕ) where
@@ -75,6 +76,7 @@ module _ (f : Name → List ℕ → ℕ → List ℕ) where
           segmentAbsent = search;
           short = search;
           fullNode = search;
+          emptyHandle = search;
           spentHandle = search;
         }
 

@@ -17,3 +17,4 @@ pub mod BoundLaws
 pub mod ReadWordLaws
 pub mod MadeWordLaws
 pub mod WrittenLaws
+pub mod EmptyWordLaws

@@ -3,8 +3,7 @@
 -- Assumes nothing.
 use mathlib.Core.Path.{_≡_, refl, sym, ap, _∙_, subst}
 use mathlib.Core.Logic.{_≢_, _⊎_, inl, inr}
-use Prim.Native.Nat.{ℕ, zero, suc, _+_, _<_}
-use native.Mathlib.Nat.{zero-add}
+use Prim.Native.Nat.{ℕ, zero, suc, _<_}
 use native.Mathlib.Decide.{ℕ-discrete}
 use native.Mathlib.Omega.{arith}
 use mathlib.Core.Bool.{Bool, true, false, not, _&&_, _||_, false≢true}
@@ -12,11 +11,12 @@ use mathlib.Core.List.{List, [], _∷_}
 use lib.Dec.{eqb}
 use lib.ListN.{length, getD, drop, length-drop}
 use lib.Seq.{length-take-le, getD-take, getD-drop}
-use borrow.Author.Tests.{ne-eqb}
-use Rattle.bits.specs.Sets.{has, one, count}
+use borrow.Author.Tests.{not-true}
+use Rattle.bits.specs.Sets.{has, count}
 use Rattle.bits.specs.Bytes.{word, wordFrom}
+use Rattle.bits.proofs.SetLaws.{count-out, count-in}
 use Rattle.sizes.specs.Sizes.{segments, passwordBytes}
-use Rattle.handle.specs.Selectors.{references, excludes, flat, allFlat, anyFlat, gapped, spent}
+use Rattle.handle.specs.Selectors.{references, excludes, keeps, flat, allFlat, anyFlat, gapped, keepsNone, spent}
 use Rattle.handle.specs.Handles.{decoded, samePassword, converted, validates}
 use Rattle.handle.proofs.CodeLaws.{converted-flat, converted-other, code-opened}
 use Rattle.calls.specs.Calls.{Call, handleOf}
@@ -72,7 +72,7 @@ bit-is : (i s : ℕ) → Is (has i s) (Bit i s)
 unfolding has
 bit-is i s = eq-is _ 1
 
-row-references : (i : ℕ) (ss : List ℕ) → Is (references ss i) ((k : ℕ) → k < length ss → Bit i (getD ss k 0))
+pub row-references : (i : ℕ) (ss : List ℕ) → Is (references ss i) ((k : ℕ) → k < length ss → Bit i (getD ss k 0))
 row-references i = all-is (λ ss. references ss i) (has i) (Bit i) (bit-is i) refl (λ s ss. refl)
 
 row-unflat : (ss : List ℕ) → Is (not (anyFlat segments ss)) ((k : ℕ) → k < length ss → getD ss k 0 ≢ 255)
@@ -108,28 +108,23 @@ row-gapped (s ∷ ss) =
 -- ---- the bits of a set, counted
 
 count-is : (w : ℕ) (p : ℕ → Bool) → Is (not (eqb (count w p) 0)) ((i : ℕ) × (i < w) × (p i ≡ true))
-unfolding count
-count-is zero p =
-    record { out = λ e. absurd (false≢true e); into = λ f. let h = f .1 in absurd (omega arith) }
-count-is (suc w) p = go (p 0) refl (count-is w (λ i. p (suc i)))
-  where
-    rest : ℕ
-    rest = count w (λ i. p (suc i))
+count-is w p =
+    record {
+      out = λ e. count-out w p (not-true (eqb (count w p) 0) e);
+      into = λ f. ap not (count-in w p (f .0) (f .1) (f .2));
+    }
 
-    go : (b : Bool) → p 0 ≡ b → Is (not (eqb rest 0)) ((i : ℕ) × (i < w) × (p (suc i) ≡ true))
-        → Is (not (eqb (one b + rest) 0)) ((i : ℕ) × (i < suc w) × (p i ≡ true))
-    go true q h =
-        record {
-          out = λ e. (0, omega arith, q);
-          into = λ f. ap not (ne-eqb (1 + rest) 0 (λ e. absurd (omega arith)));
-        }
-    go false q h =
-        same-is (ap (λ (n : ℕ). not (eqb n 0)) (zero-add rest))
-        (map-is (λ f. let l = f .1 in (suc (f .0), omega arith, f .2)) (λ f. from (f .0) (f .1) (f .2)) h)
-      where
-        from : (i : ℕ) → i < suc w → p i ≡ true → (i : ℕ) × (i < w) × (p (suc i) ≡ true)
-        from zero l e = absurd (false≢true (sym q ∙ e))
-        from (suc i) l e = (i, omega arith, e)
+-- a test that none passes
+none-is : (w : ℕ) (p : ℕ → Bool) (P : ℕ → Type 0) → ((i : ℕ) → Is (p i) (P i))
+    → Is (eqb (count w p) 0) ((i : ℕ) → i < w → ¬ P i)
+none-is w p P each =
+    same-is (sym (not-not (eqb (count w p) 0)))
+    (map-is (λ n i l q. n (i, l, each i .into q)) (λ n f. n (f .0) (f .1) (each (f .0) .out (f .2)))
+    (not-is (count-is w p)))
+  where
+    not-not : (b : Bool) → not (not b) ≡ b
+    not-not true = refl
+    not-not false = refl
 
 row-excluded : (mask : ℕ) (ss : List ℕ) → Is (not (eqb (count segments (excludes mask ss)) 0))
     ((i : ℕ) × (i < 8) × ((k : ℕ) → k < length ss → Bit i (getD ss k 0)) × ¬ Bit i mask)
@@ -183,6 +178,11 @@ module _ (x : Call) (e : length (handleOf x .selector) ≡ 4) where
   pub gapped-is : Is (gapped segments ss)
       ((j : ℕ) × (k : ℕ) × (j < k) × (k < 4) × (subselector x j ≡ 255) × (subselector x k ≢ 255))
   gapped-is = subst (λ (n : ℕ). Is (gapped segments ss) (Gap n ss)) e (row-gapped ss)
+
+  pub empty-is : (mask : ℕ) → Is (keepsNone segments mask ss) ((i : ℕ) → i < 8 → ¬ (References x i × Bit i mask))
+  empty-is mask =
+      none-is segments (keeps mask ss) (λ i. References x i × Bit i mask)
+      (λ i. and-is (references-is i) (bit-is i mask))
 
   pub spent-is : (mask : ℕ) → Is (spent segments mask ss)
       (((i : ℕ) × (i < 8) × References x i × ¬ Bit i mask) × ((k : ℕ) → k < 4 → subselector x k ≢ 255))

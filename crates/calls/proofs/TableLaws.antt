@@ -16,7 +16,7 @@ use Rattle.calls.proofs.FirstLaws.{Numbered}
 use Rattle.calls.proofs.TestLaws.{Is}
 use Rattle.calls.proofs.WordLaws.{unsound-is, noPlace-is, badField-is, gapped-row, elsewhere-is, inUse-is, twins-is}
 use Rattle.calls.proofs.WordLaws.{inactive-is, notPrimary-is, notReferenced-is, oldPassword-is, present-is}
-use Rattle.calls.proofs.WordLaws.{absent-is, short-is, fullNode-is, spent-row}
+use Rattle.calls.proofs.WordLaws.{absent-is, short-is, fullNode-is, empty-row, spent-row}
 use Rattle.calls.proofs.ValidWords.{violated-is}
 
 -- rows and entries with equal numbers, each test the words', where no words above hold
@@ -78,6 +78,7 @@ module _ (f : Name → List ℕ → ℕ → List ℕ) (x : Call) (s : Store) (si
       next (absent-is x s) λ r14.
       next (short-is x s) λ r15.
       next (fullNode-is x s size a b c) λ r16.
+      next (empty-row x t) λ r21.
       next (spent-row x t) λ r17. last
 
   pub table-in-words : TableInWords f x s size

@@ -29,14 +29,14 @@ use Rattle.calls.specs.Calls.{among, opens, uses, handleOf, presented, a
 use Rattle.calls.specs.Calls.{buffer, nodeFor, recordFor, recordNamed, placeFor}
 use Rattle.calls.specs.Numbers.{unsound, noPlace, badMode, badSegment, badSize, badField, gappedHandle, elsewhere}
 use Rattle.calls.specs.Numbers.{inUse, twins, inactiveCluster, notPrimary, notReferenced, isOld, oldPassword}
-use Rattle.calls.specs.Numbers.{segmentPresent, segmentAbsent, short, fullNode, spentHandle}
+use Rattle.calls.specs.Numbers.{segmentPresent, segmentAbsent, short, fullNode, emptyHandle, spentHandle}
 use Rattle.calls.specs.Words.{Named, Handled, Taken, Opening, clusterOf, place, Unsound, NoSuchPlace, Field}
 use Rattle.calls.specs.Words.{Gapped, Elsewhere, InUse, Twins, Inactive, NotPrimary, NotReferenced, OldPassword}
-use Rattle.calls.specs.Words.{SegmentPresent, SegmentAbsent, Short, NoRoom, Spent}
+use Rattle.calls.specs.Words.{SegmentPresent, SegmentAbsent, Short, NoRoom, Empty, Spent}
 use Rattle.calls.proofs.TestLaws.{Is, map-is, same-is, off-is, not-is, then-is, and-is, or-is, three-is, holds-is}
 use Rattle.calls.proofs.TestLaws.{fails-is, eq-is, le-is, lt-is}
 use Rattle.calls.proofs.KindLaws.{kind-is, but-is, other-kind}
-use Rattle.calls.proofs.SelectorWords.{references-is, other-is, gapped-is, spent-is, password-is, four}
+use Rattle.calls.proofs.SelectorWords.{references-is, other-is, gapped-is, empty-is, spent-is, password-is, four}
 
 module _ (x : Call) where
   -- ---- the kinds
@@ -147,6 +147,12 @@ module _ (x : Call) where
     notReferenced-is =
         then-is (kind-is (among (5 ∷ 6 ∷ [])) _ refl x) (λ n.
         not-is (references-is x (four x t (other-kind _ refl x n)) (x .args .segment)))
+
+    pub empty-row : Is (emptyHandle x) (Empty x)
+    unfolding emptyHandle
+    empty-row =
+        then-is (kind-is (among (7 ∷ [])) _ refl x) (λ n.
+        empty-is x (four x t (other-kind _ refl x n)) (x .args .mask))
 
     pub spent-row : Is (spentHandle x) (Spent x)
     unfolding spentHandle

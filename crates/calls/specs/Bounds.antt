@@ -1,5 +1,5 @@
 -- Document 01, calls done at their bounds, as computed lists: node 3, local number 7, segment 7, size 4,096, a buffer or
--- data exactly as long as the segment, both modes, for every kind that has such an argument. The shorthands are those of
+-- data exactly as long as the segment, one segment left by a mask, both modes, for every kind that has such an argument. The shorthands are those of
 -- the numbers' lists.
 --     corner b             the primary handle, with sixteen bytes b, of node 3 and local number 7
 --     bare, edge           stores with that cluster: no segment; segment 7, the last three bytes of the node's memory
@@ -48,7 +48,8 @@ full =
     ∷ gives 0 (reading 7 (corner 3) room)
     ∷ gives 0 (writing 7 (corner 4) room)
     ∷ gives 0 (weakeningBy 255 (corner 3))
-    ∷ gives 0 (weakeningBy 0 (shown 3 7 3 (254 ∷ 253 ∷ 251 ∷ 255 ∷ [])))
+    ∷ gives 0 (weakeningBy 128 (shown 3 7 3 (254 ∷ 253 ∷ 251 ∷ 255 ∷ [])))
+    ∷ gives 0 (weakeningBy 8 (shown 3 7 3 (254 ∷ 253 ∷ 251 ∷ 255 ∷ [])))
     ∷ gives 0 (weakeningBy 240 (shown 3 7 3 (254 ∷ 253 ∷ 251 ∷ 247 ∷ [])))
     ∷ gives 0 (reducing 1 (corner 3))
     ∷ gives 0 (reducing 2 (corner 4))

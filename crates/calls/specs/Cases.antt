@@ -1,4 +1,4 @@
--- Document 01, "Numbers a call may be turned down with", as computed lists. The conversion adds its parameter to the
+-- Document 01, "Numbers a call may be turned down with", with document 02's 21, as computed lists. The conversion adds its parameter to the
 -- first byte, and gives sixteen such bytes.
 --     added                     that conversion
 --     sixteen b                 sixteen bytes b
@@ -7,6 +7,7 @@
 --     other b, gap, far, high, idle    handles that reference segment 6 alone, are gapped, name a node above 3, a local
 --                               number above 7, an inactive cluster
 --     spent                     a selector with no flat subselector
+--     bare                      a selector of bytes that have no bit in common
 --     room, tight               buffers of three bytes and of two
 --     sample                    a store with that cluster: passwords of sixteen 3 and sixteen 4, and three bytes at 0
 --     Case, gives               a number and a call that gets it
@@ -71,6 +72,10 @@ idle = shown 1 3 0 (flats segments)
 abbrev pub spent : List ℕ
 spent = 254 ∷ 253 ∷ 251 ∷ 247 ∷ []
 
+-- a selector that references nothing
+abbrev pub bare : List ℕ
+bare = 240 ∷ 15 ∷ 255 ∷ 255 ∷ []
+
 abbrev pub sample : Store
 sample = putRecord startingStore (recordOf 1 2) (withPlace (started (sixteen 3) (sixteen 4)) 5 (Present 0 3))
 
@@ -95,7 +100,8 @@ damaged =
     ∷ gives 1 (deletingSegment 1 5 (primary 4))
     ∷ gives 1 (reading 5 (primary 3) room)
     ∷ gives 1 (writing 5 (primary 4) room)
-    ∷ gives 0 (weakeningBy 0 (primary 3))
+    ∷ gives 0 (weakeningBy 1 (primary 3))
+    ∷ gives 21 (weakeningBy 0 (primary 3))
     ∷ gives 1 (reducing 1 (primary 3))
     ∷ gives 1 (renewing 1 (primary 3) (sixteen 8))
     ∷ gives 1 (validating 1 (primary 3))
@@ -187,6 +193,9 @@ refusals =
     ∷ gives 15 (writing 5 (weak 4) tight)
     ∷ gives 16 (makingSegment 1 6 4094 (primary 4))
     ∷ gives 17 (weakeningBy 239 (shown 1 2 3 spent))
+    ∷ gives 21 (weakeningBy 0 (primary 3))
+    ∷ gives 21 (weakeningBy 223 (weak 3))
+    ∷ gives 21 (weakeningBy 255 (shown 1 2 3 bare))
     ∷ []
 
 abbrev pub calls : List Case → List Call

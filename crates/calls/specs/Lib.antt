@@ -5,6 +5,7 @@ pub mod Words
 pub mod Steps
 pub mod ReadWords
 pub mod MadeWords
+pub mod EmptyWords
 pub mod Examples
 pub mod Cases
 pub mod Orders

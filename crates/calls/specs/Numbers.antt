@@ -1,4 +1,5 @@
--- Document 01, "Numbers a call may be turned down with": the rows 1 to 17, a test for each, in the table's order.
+-- Document 01, "Numbers a call may be turned down with": the rows 1 to 17, and document 02's 21, a test for each, in the
+-- order in which they are looked at.
 --     unsound              1, all but 7: the store is not sound
 --     noPlace              2: a node above 3 or a local number above 7, in a handle or in the call
 --     badField             3: badMode, not 1 or 2; badSegment, above 7; badSize, 0 or above 4,096
@@ -15,14 +16,15 @@
 --     segmentAbsent        14, for 4, 5, 6: the segment is absent
 --     short                15, for 5, 6: the buffer or the data is shorter than the segment
 --     fullNode             16, for 3: no base exists
+--     emptyHandle          21, for 7: no segment is both referenced and kept by the mask
 --     spentHandle          17, for 7: something would be excluded and no subselector is flat
 -- A row is made from a test by what the test may see: the call alone, the call and the clusters' tables, or the whole
 -- records. None sees a byte of the memory.
 --     Line, at x s ls      a row before it is known of which call and store; the rows of the lines ls at these
 --     byCall n t, byTables n t, byRecords n t    the row with the number n and the test t, at a call and a store
---     rows f size          the rows in the table's order, for a slice of that many bytes
+--     rows f size          the rows in that order, for a slice of that many bytes
 --     number f x s size    the number that the call x gets: that of the first row that applies, or 0
---     tests                a name that opens the test of every row at once
+--     tests, otherTests    names that open the tests of all rows at once, and of all but row 9
 -- Over a conversion f, which takes a cluster's name, a password and a parameter to a password:
 --     valid f m h s        the handle h validates in the mode m
 -- Assumes nothing.
@@ -33,7 +35,7 @@ use lib.Dec.{eqb, leb, ltb}
 use lib.ListN.{length}
 use Rattle.sizes.specs.Sizes.{nodes, clusters, segments, nodeMemory}
 use Rattle.handle.specs.declared.Handle.{Handle}
-use Rattle.handle.specs.Selectors.{references, allFlat, gapped, spent}
+use Rattle.handle.specs.Selectors.{references, allFlat, gapped, keepsNone, spent}
 use Rattle.handle.specs.Handles.{Name, nameOf, widthOf, samePassword, noSuchPlace, Row, firstOf, validates}
 use Rattle.store.specs.declared.Cluster.{Cluster}
 use Rattle.store.specs.declared.Store.{Store}
@@ -80,6 +82,10 @@ notPrimary x =
 
 unfoldable pub notReferenced : Call → Bool
 notReferenced x = among (5 ∷ 6 ∷ []) (x .kind) && not (references (handleOf x .selector) (x .args .segment))
+
+unfoldable pub emptyHandle : Call → Bool
+emptyHandle x =
+    among (7 ∷ []) (x .kind) && keepsNone (widthOf (handleOf x)) (x .args .mask) (handleOf x .selector)
 
 unfoldable pub spentHandle : Call → Bool
 spentHandle x =
@@ -158,13 +164,18 @@ module _ (f : Name → List ℕ → ℕ → List ℕ) where
       ∷ byTables 14 segmentAbsent
       ∷ byTables 15 short
       ∷ byTables 16 fullNode
+      ∷ byCall 21 emptyHandle
       ∷ byCall 17 spentHandle
       ∷ []
 
   unfoldable pub number : Call → Store → ℕ → ℕ
   number x s size = firstOf (at x s (rows size))
 
+unfoldable pub otherTests : Unit {0}
+unfolding unsound noPlace badMode badSegment badSize badField gappedHandle elsewhere inUse twins inactiveCluster notPrimary
+    notReferenced oldPassword segmentPresent segmentAbsent short fullNode emptyHandle spentHandle
+otherTests = tt
+
 unfoldable pub tests : Unit {0}
-unfolding unsound noPlace badMode badSegment badSize badField gappedHandle elsewhere inUse twins inactiveCluster valid
-    violated notPrimary notReferenced oldPassword segmentPresent segmentAbsent short fullNode spentHandle
+unfolding otherTests valid violated
 tests = tt

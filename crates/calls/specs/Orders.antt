@@ -18,7 +18,7 @@ use Rattle.handle.specs.Handles.{Row}
 use Rattle.calls.specs.Calls.{Call, makingCluster, deletingCluster, makingSegment, deletingSegment, reading}
 use Rattle.calls.specs.Calls.{writing, weakeningBy, reducing, renewing, validating}
 use Rattle.calls.specs.Numbers.{at, rows, number}
-use Rattle.calls.specs.Cases.{added, sixteen, shown, primary, weak, other, gap, far, high, idle, spent, room, tight}
+use Rattle.calls.specs.Cases.{added, sixteen, shown, primary, weak, other, gap, far, high, idle, spent, bare, room, tight}
 use Rattle.calls.specs.Cases.{sample}
 
 abbrev farGap : List ℕ
@@ -49,7 +49,7 @@ applies n x = among n (at x sample (rows added memory))
 -- and a gapped handle has a flat subselector
 abbrev pub orders : List Order
 orders =
-    -- 2 above 3, 4, 6, 7 and 17
+    -- 2 above 3, 4, 6, 7, 17 and 21
     over 2 6 (makingCluster 0 10 (sixteen 1) (sixteen 2))
     ∷ over 2 7 (makingCluster 4 3 (sixteen 1) (sixteen 1))
     ∷ over 2 4 (deletingCluster 1 farGap)
@@ -60,6 +60,8 @@ orders =
     ∷ over 2 3 (writing 8 high room)
     ∷ over 2 4 (weakeningBy 0 farGap)
     ∷ over 2 17 (weakeningBy 239 (shown 4 2 3 spent))
+    ∷ over 2 21 (weakeningBy 0 far)
+    ∷ over 2 21 (weakeningBy 255 (shown 1 8 3 bare))
     ∷ over 2 3 (reducing 3 far)
     ∷ over 2 3 (renewing 3 high (sixteen 8))
     ∷ over 2 3 (validating 3 far)
@@ -80,6 +82,9 @@ orders =
     ∷ over 4 8 (reducing 1 idleGap)
     ∷ over 4 8 (renewing 1 idleGap (sixteen 8))
     ∷ over 4 8 (validating 1 idleGap)
+    -- 4 above 21: the last of these references nothing, whatever the mask
+    ∷ over 4 21 (weakeningBy 0 gap)
+    ∷ over 4 21 (weakeningBy 255 (shown 1 2 3 (240 ∷ 255 ∷ 15 ∷ 255 ∷ [])))
     -- 5 above 8
     ∷ over 5 8 (deletingCluster 0 idle)
     ∷ over 5 8 (makingSegment 0 6 2 idle)
@@ -113,6 +118,9 @@ orders =
     ∷ over 11 14 (writing 6 (weak 4) room)
     ∷ over 11 15 (reading 5 (other 3) tight)
     ∷ over 11 15 (writing 5 (other 4) tight)
+    -- 21 above 17
+    ∷ over 21 17 (weakeningBy 0 (shown 1 2 3 spent))
+    ∷ over 21 17 (weakeningBy 15 (shown 1 2 3 spent))
     -- 13 above 16
     ∷ over 13 16 (makingSegment 1 5 4094 (primary 4))
     ∷ []

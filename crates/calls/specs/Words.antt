@@ -1,5 +1,5 @@
--- Document 01, "Numbers a call may be turned down with", row by row in the table's own words and numbers; nothing here is
--- a test, and `number` (Numbers) is held to it both ways. The calls that a row names are listed by kind, in the order of
+-- Document 01, "Numbers a call may be turned down with", row by row in the table's own words and numbers, with document 02's
+-- 21; nothing here is a test, and `number` (Numbers) is held to it both ways. The calls that a row names are listed by kind, in the order of
 -- their codes; validation stands with call 8, whose number it gives. The cluster of node v and local number l is record
 -- v * 8 + l.
 --     Named ks x           the call x is of one of the kinds ks
@@ -18,7 +18,7 @@
 --     Chain g p x          the chain from the primary password p, by subselector 0 first, ends as the handle's password
 --     ReadMode, WriteMode  the mode needed: read for 5, write for 2, 3, 4 and 6, the one named for 8 and 9
 --     Valid f x s          the handle validates in the mode needed
---     Unsound .. Spent     the seventeen rows
+--     Unsound .. Spent     the eighteen rows
 --     Entry, table         a number and its words; the table, nearest the top first
 --     Nothing ls           no words of ls hold
 --     Told ls n            the words of the entry with number n hold, and none above it
@@ -200,6 +200,10 @@ Short x s =
 abbrev pub NoRoom : Call → Store → Type 0
 NoRoom x s = Named (newSegment ∷ []) x × ((base : ℕ) → ¬ Room s (nodeOf (handleOf x)) (x .args .size) base)
 
+-- 21, for 7: nothing would be left, no segment that is referenced and whose mask bit is set
+abbrev pub Empty : Call → Type 0
+Empty x = Named (weaken ∷ []) x × ((i : ℕ) → i < 8 → ¬ (References x i × Bit i (x .args .mask)))
+
 -- 17, for 7: something would be excluded, a referenced segment whose mask bit is clear, and no subselector is flat
 abbrev pub Spent : Call → Type 0
 Spent x =
@@ -243,6 +247,7 @@ module _ (f : Name → List ℕ → ℕ → List ℕ) (x : Call) (s : Store) (si
       ∷ entry 14 (SegmentAbsent x s)
       ∷ entry 15 (Short x s)
       ∷ entry 16 (NoRoom x s)
+      ∷ entry 21 (Empty x)
       ∷ entry 17 (Spent x)
       ∷ []
 

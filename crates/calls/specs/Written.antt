@@ -35,9 +35,14 @@ answered =
     ∷ tells (weakeningBy 48 (primary 1 2 3)) (told 0 (handle 1 2 51 (48 ∷ 255 ∷ 255 ∷ 255 ∷ [])) none 2 0 [])
     ∷ tells (reducing 1 (handle 1 2 67 (48 ∷ 16 ∷ 255 ∷ 255 ∷ [])))
     (told 0 (handle 1 2 19 (16 ∷ 255 ∷ 255 ∷ 255 ∷ [])) none 0 0 [])
+    ∷ tells (reducing 1 (handle 1 2 51 (16 ∷ 32 ∷ 255 ∷ 255 ∷ [])))
+    (told 0 (handle 1 2 3 (0 ∷ 255 ∷ 255 ∷ 255 ∷ [])) none 0 0 [])
     ∷ tells (renewing 2 (primary 1 2 4) (sixteen 5)) (told 0 (primary 1 2 5) none 0 0 [])
     ∷ tells (validating 2 (primary 1 2 4)) (told 0 none none 0 0 [])
     ∷ tells (reading 5 (primary 1 2 4) (1 ∷ 2 ∷ 3 ∷ 4 ∷ [])) (told 9 none none 0 0 (1 ∷ 2 ∷ 3 ∷ 4 ∷ []))
+    ∷ tells (weakeningBy 32 (primary 1 2 3)) (told 0 (handle 1 2 35 (32 ∷ 255 ∷ 255 ∷ 255 ∷ [])) none 1 0 [])
+    ∷ tells (weakeningBy 0 (primary 1 2 3)) (told 21 none none 0 0 [])
+    ∷ tells (weakeningBy 255 (handle 1 2 51 (16 ∷ 32 ∷ 255 ∷ 255 ∷ []))) (told 21 none none 0 0 [])
     ∷ []
 
 abbrev pub EachAnswered : Type 0

@@ -15,9 +15,9 @@ use Rattle.loops.proofs.BelowLaws.{and-left, and-right}
 use Rattle.handle.specs.declared.Handle.{Handle}
 use Rattle.handle.specs.Sizes.{subselectors}
 use Rattle.handle.specs.Selectors.{references, flat, allFlat, anyFlat, gapped, firstFlat, common}
-use Rattle.handle.specs.Selectors.{keepsAll, parameter, replaced, spent, inFirst}
+use Rattle.handle.specs.Selectors.{keepsAll, keepsNone, parameter, replaced, spent, inFirst}
 use Rattle.handle.specs.Handles.{nameOf, renewed, through, weakened, made, reduced}
-use Rattle.numbers.specs.Numbers.{placeNumber, gappedNumber, spentNumber}
+use Rattle.numbers.specs.Numbers.{placeNumber, gappedNumber, emptyNumber, spentNumber}
 use Rattle.handle.specs.Handles.{noSuchPlace, weakenNumber}
 use Rattle.handle.specs.Opens.{Whole}
 use Rattle.handle.proofs.SelectorLaws.{replaced-here, replaced-past}
@@ -26,16 +26,28 @@ use Rattle.handle.proofs.SelectorLaws.{rest-flat, rest-ungapped, common
 use Rattle.handle.proofs.SelectorLaws.{has-parameter, parameter-not-flat, parameter-lt, keeps-each, kept}
 use Rattle.handle.proofs.SelectorLaws.{references-inFirst, gapped-inFirst}
 
--- a weakening that is not turned down is not spent
-pub unspent : (w : ℕ) (h : Handle) (mask : ℕ) → weakenNumber w h mask ≡ 0 → spent w mask (h .selector) ≡ false
-unfolding weakenNumber
-unspent w h mask e = go (noSuchPlace h) (gapped w (h .selector)) (spent w mask (h .selector)) e
-  where
-    go : (a b c : Bool) → cond a placeNumber (cond b gappedNumber (cond c spentNumber 0)) ≡ 0 → c ≡ false
-    go true b c e = absurd (omega arith)
-    go false true c e = absurd (omega arith)
-    go false false true e = absurd (omega arith)
-    go false false false e = refl
+-- a weakening that is not turned down keeps something and is not spent
+module _ (w : ℕ) (h : Handle) (mask : ℕ) (e : weakenNumber w h mask ≡ 0) where
+  abbrev none : Bool
+  none = keepsNone w mask (h .selector)
+
+  clear : (none ≡ false) × (spent w mask (h .selector) ≡ false)
+  unfolding weakenNumber
+  clear = go (noSuchPlace h) (gapped w (h .selector)) none (spent w mask (h .selector)) e
+    where
+      go : (a b c d : Bool) → cond a placeNumber (cond b gappedNumber (cond c emptyNumber (cond d spentNumber 0))) ≡ 0
+          → (c ≡ false) × (d ≡ false)
+      go true b c d e = absurd (omega arith)
+      go false true c d e = absurd (omega arith)
+      go false false true d e = absurd (omega arith)
+      go false false false true e = absurd (omega arith)
+      go false false false false e = (refl, refl)
+
+  pub some-kept : keepsNone w mask (h .selector) ≡ false
+  some-kept = clear .0
+
+  pub unspent : spent w mask (h .selector) ≡ false
+  unspent = clear .1
 
 module _ (w : ℕ) (f : List ℕ → ℕ → List ℕ) where
   -- ---- the chain of conversions

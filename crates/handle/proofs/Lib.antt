@@ -8,3 +8,4 @@ pub mod WeakenLaws
 pub mod ExamplesHold
 pub mod LiteralLaws
 pub mod WordLaws
+pub mod EmptyLaws

@@ -8,19 +8,19 @@ use mathlib.Core.Bool.{Bool, true, false, not, _&&_, false≢true, cond}
 use mathlib.Core.List.{List}
 use lib.Bits.{bitAnd}
 use lib.ListN.{length, set}
-use lib.Dec.{leb}
+use lib.Dec.{eqb, leb}
 use borrow.Author.Tests.{eq-eqb, ne-eqb, le-leb, lt-leb}
 use Rattle.bits.specs.Sets.{full, setOf}
 use Rattle.bits.proofs.SetLaws.{count-none}
-use Rattle.bits.proofs.OperationLaws.{and-not}
+use Rattle.bits.proofs.OperationLaws.{and-has, and-not}
 use Rattle.handle.specs.declared.Handle.{Handle}
 use Rattle.handle.specs.declared.Weakened.{Weakened}
 use Rattle.sizes.specs.Sizes.{nodes, clusters}
 use Rattle.handle.specs.Sizes.{subselectors}
-use Rattle.handle.specs.Selectors.{references, excludes, anyFlat, gapped, firstFlat, common, referenced}
-use Rattle.handle.specs.Selectors.{keepsAll, parameter, spent}
+use Rattle.handle.specs.Selectors.{references, excludes, keeps, anyFlat, gapped, firstFlat, common, referenced}
+use Rattle.handle.specs.Selectors.{keepsAll, keepsNone, parameter, spent}
 use Rattle.handle.specs.Handles.{renewed, weakened, weakening}
-use Rattle.numbers.specs.Numbers.{placeNumber, gappedNumber, spentNumber}
+use Rattle.numbers.specs.Numbers.{placeNumber, gappedNumber, emptyNumber, spentNumber}
 use Rattle.handle.specs.Handles.{nodeOf, refusal, reply, weakenNumber}
 use Rattle.handle.proofs.SelectorLaws.{any-flat, none-flat}
 use Rattle.handle.proofs.HandleLaws.{weakened-cases}
@@ -64,18 +64,36 @@ module _ (w : ℕ) (f : List ℕ → ℕ → List ℕ) (h : Handle) (mask : ℕ)
             (simp (known, lt-leb clusters (h .local) l, sym eg ∙ t))
 
         module _ (u : g ≡ false) where
-          -- only the last row is left
-          last-row : (b : Bool) → spent w mask (h .selector) ≡ b → weakenNumber w h mask ≡ cond b spentNumber 0
+          -- only the last two rows are left
+          last-rows : (a b : Bool) → keepsNone w mask (h .selector) ≡ a → spent w mask (h .selector) ≡ b
+              → weakenNumber w h mask ≡ cond a emptyNumber (cond b spentNumber 0)
           unfolding weakenNumber
-          last-row b e = simp (known, lt-leb clusters (h .local) l, sym eg ∙ u, e)
+          last-rows a b n e = simp (known, lt-leb clusters (h .local) l, sym eg ∙ u, n, e)
 
-          module _ (m : mask < 2 ^ w) (x : ℕ) (ex : x ≡ common w (h .selector)) where
+          module _ (x : ℕ) (ex : x ≡ common w (h .selector)) where
+            -- the bits of the segments that the mask keeps
+            kept : bitAnd x mask ≡ setOf w (keeps mask (h .selector))
+            kept = ap (λ (n : ℕ). bitAnd n mask) ex ∙ and-has w (references (h .selector)) mask
+
+            none : (b : Bool) → eqb (bitAnd x mask) 0 ≡ b → keepsNone w mask (h .selector) ≡ b
+            none b e = count-none w (keeps mask (h .selector)) ∙ ap (λ (n : ℕ). eqb n 0) (sym kept) ∙ e
+
+            pub refused-empty : bitAnd x mask ≡ 0 → (r : Weakened) → r ≡ refusal emptyNumber → r ≡ weakening w f h mask
+            refused-empty t r a =
+                refused-with emptyNumber (omega arith) r a
+                (last-rows true (spent w mask (h .selector)) (none true (eq-eqb (bitAnd x mask) 0 t)) refl)
+
+          module _ (m : mask < 2 ^ w) (x : ℕ) (ex : x ≡ common w (h .selector)) (some : bitAnd x mask ≡ 0 → ⊥) where
+            -- only the last row is left
+            last-row : (b : Bool) → spent w mask (h .selector) ≡ b → weakenNumber w h mask ≡ cond b spentNumber 0
+            last-row b e = last-rows false b (none x ex false (ne-eqb (bitAnd x mask) 0 some)) e
+
             -- the bits of the excluded segments
             excluded : bitAnd x (full w - mask) ≡ setOf w (excludes mask (h .selector))
             excluded = ap (λ (n : ℕ). bitAnd n (full w - mask)) ex ∙ and-not w (references (h .selector)) mask m
 
-            keeps : bitAnd x (full w - mask) ≡ 0 → keepsAll w mask (h .selector) ≡ true
-            keeps t =
+            all-kept : bitAnd x (full w - mask) ≡ 0 → keepsAll w mask (h .selector) ≡ true
+            all-kept t =
                 count-none w (excludes mask (h .selector))
                 ∙ eq-eqb (setOf w (excludes mask (h .selector))) 0 (sym excluded ∙ t)
 
@@ -88,8 +106,8 @@ module _ (w : ℕ) (f : List ℕ → ℕ → List ℕ) (h : Handle) (mask : ℕ)
                 → r ≡ reply 0 h (referenced w (h .selector)) → r ≡ weakening w f h mask
             weaken-unchanged t r er =
                 done-with h r er
-                (weakened-cases w f h mask (λ k. k ≡ h) (λ e. refl) (λ e. absurd (false≢true (sym e ∙ keeps t))))
-                (last-row false (ap (λ (b : Bool). not b && not (anyFlat w (h .selector))) (keeps t)))
+                (weakened-cases w f h mask (λ k. k ≡ h) (λ e. refl) (λ e. absurd (false≢true (sym e ∙ all-kept t))))
+                (last-row false (ap (λ (b : Bool). not b && not (anyFlat w (h .selector))) (all-kept t)))
 
             module _ (t : bitAnd x (full w - mask) ≡ 0 → ⊥) (four : length (h .selector) ≡ subselectors)
                 (k : ℕ) (ek : k ≡ firstFlat w (h .selector)) where

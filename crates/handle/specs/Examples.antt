@@ -1,12 +1,13 @@
--- Document 01, "Selector and placement examples": P1 to P9, as one list of questions and whole answers, for any
--- conversion f, any password of the handle and primary password, and any mask where document 01 names none.
+-- Document 01, "Selector and placement examples": P1 to P9, with P5 as document 02, §1, has it, as one list of questions
+-- and whole answers, for any conversion f, any password of the handle and primary password, and any mask where document 01
+-- names none.
 --     Question           what is asked of a selector: which segments it references and how many; what weakening by a
 --                        mask gives; what it is reduced to
 --     Told               a set of segments and a count; the whole reply of a weakening; a whole handle
 --     Example            a question and its answer
 --     presented ss p     the handle that is asked about, with the selector ss and the password p
---     examples           the list; two rows more say that a primary handle is its own reduction and that a gap higher
---                        up is one too
+--     examples           the list; more rows say that a primary handle is its own reduction, that a gap higher up is one
+--                        too, and where 21 begins and ends
 --     tells q            what the definitions tell
 -- Assumes nothing.
 use Prim.Native.Nat.{ℕ}
@@ -15,7 +16,7 @@ use Rattle.sizes.specs.Sizes.{segments}
 use Rattle.handle.specs.declared.Handle.{Handle}
 use Rattle.handle.specs.declared.Weakened.{Weakened}
 use Rattle.handle.specs.Selectors.{common, referenced}
-use Rattle.numbers.specs.Numbers.{gappedNumber, spentNumber}
+use Rattle.numbers.specs.Numbers.{gappedNumber, emptyNumber, spentNumber}
 use Rattle.handle.specs.Handles.{refusal, reply, weakening, reduced}
 
 pub data Question : Type 0 where
@@ -44,6 +45,9 @@ twoCut = 0xfe ∷ 0x7d ∷ 0xff ∷ 0xff ∷ []
 abbrev fourCut : List ℕ
 fourCut = 0xfe ∷ 0xfd ∷ 0xfb ∷ 0xf7 ∷ []
 
+abbrev noneLeft : List ℕ
+noneLeft = 0xf0 ∷ 0x0f ∷ 0xff ∷ 0xff ∷ []
+
 abbrev presented : List ℕ → List ℕ → Handle
 presented ss p = record { node = 0; local = 2; password = p; selector = ss }
 
@@ -60,8 +64,7 @@ module _ (f : List ℕ → ℕ → List ℕ) (password first : List ℕ) (mask :
       (weaker (reply 0 (presented (0xfe ∷ 0x7d ∷ 0xf3 ∷ 0xff ∷ []) (f password 243)) 3))
       -- P4, P5
       ∷ asks (weakeningBy 124 twoCut) (weaker (reply 0 (presented twoCut password) 5))
-      ∷ asks (weakeningBy 0 twoCut)
-      (weaker (reply 0 (presented (0xfe ∷ 0x7d ∷ 0x83 ∷ 0xff ∷ []) (f password 0x83)) 0))
+      ∷ asks (weakeningBy 0 twoCut) (weaker (refusal emptyNumber))
       -- P6, and a gap higher up
       ∷ asks (weakeningBy mask (0xff ∷ 0xfe ∷ 0xff ∷ 0xff ∷ [])) (weaker (refusal gappedNumber))
       ∷ asks (weakeningBy mask (0xfe ∷ 0xff ∷ 0x7d ∷ 0xff ∷ [])) (weaker (refusal gappedNumber))
@@ -69,6 +72,15 @@ module _ (f : List ℕ → ℕ → List ℕ) (password first : List ℕ) (mask :
       ∷ asks (weakeningBy 240 fourCut) (weaker (reply 0 (presented fourCut password) 4))
       ∷ asks (weakeningBy 239 fourCut) (weaker (refusal spentNumber))
       ∷ asks (reducing fourCut) (handle (presented (0xf0 ∷ 0xff ∷ 0xff ∷ 0xff ∷ []) (f first 0xf0)))
+      -- document 02, §1: 21 before 17; every mask, where the handle references none; one segment kept; reduced as ever
+      ∷ asks (weakeningBy 0 fourCut) (weaker (refusal emptyNumber))
+      ∷ asks (weakeningBy 15 fourCut) (weaker (refusal emptyNumber))
+      ∷ asks (weakeningBy 255 noneLeft) (weaker (refusal emptyNumber))
+      ∷ asks (weakeningBy 0 noneLeft) (weaker (refusal emptyNumber))
+      ∷ asks (weakeningBy 131 twoCut) (weaker (refusal emptyNumber))
+      ∷ asks (weakeningBy 132 twoCut)
+      (weaker (reply 0 (presented (0xfe ∷ 0x7d ∷ 0x87 ∷ 0xff ∷ []) (f password 0x87)) 1))
+      ∷ asks (reducing noneLeft) (handle (presented (0x00 ∷ 0xff ∷ 0xff ∷ 0xff ∷ []) (f first 0x00)))
       -- a primary handle
       ∷ asks (reducing primary) (handle (presented primary password))
       ∷ []

@@ -1,4 +1,5 @@
--- Document 01, "The handle", "Validation", "Weakening", "Reduction", and what call 7 gives. A handle and its bytes:
+-- Document 01, "The handle", "Validation", "Weakening", "Reduction", and what call 7 gives; document 02, §1. A handle and
+-- its bytes:
 --     Name               what names a cluster: a node and a local number
 --     nodeOf, nameOf     the node and the name of a handle
 --     widthOf            how many segments the cluster of a handle has
@@ -35,11 +36,11 @@ use Rattle.loops.specs.Below.{every}
 use Rattle.handle.specs.declared.Handle.{Handle}
 use Rattle.handle.specs.declared.Weakened.{Weakened}
 use Rattle.sizes.specs.Sizes.{nodes, clusters, segments, passwordBytes}
-use Rattle.numbers.specs.Numbers.{placeNumber, gappedNumber, spentNumber}
+use Rattle.numbers.specs.Numbers.{placeNumber, gappedNumber, emptyNumber, spentNumber}
 use Rattle.handle.specs.Sizes.{subselectors}
 use Rattle.handle.specs.Sizes.{nodeBytes, localAt, passwordAt, selectorAt}
 use Rattle.handle.specs.Selectors.{flat, allFlat, gapped, common, referenced}
-use Rattle.handle.specs.Selectors.{keepsAll, parameter, replaced, spent, inFirst}
+use Rattle.handle.specs.Selectors.{keepsAll, keepsNone, parameter, replaced, spent, inFirst}
 
 -- ---- a handle and its bytes
 
@@ -107,6 +108,7 @@ module _ (w : ℕ) where
   rows h mask =
       record { number = placeNumber; applies = noSuchPlace h }
       ∷ record { number = gappedNumber; applies = gapped w (h .selector) }
+      ∷ record { number = emptyNumber; applies = keepsNone w mask (h .selector) }
       ∷ record { number = spentNumber; applies = spent w mask (h .selector) }
       ∷ []
 

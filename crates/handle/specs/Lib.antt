@@ -6,3 +6,4 @@ pub mod Opens
 pub mod Examples
 pub mod Literals
 pub mod Words
+pub mod Empty

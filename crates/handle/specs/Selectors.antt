@@ -1,7 +1,8 @@
--- Document 01, "The handle" and "Weakening": rows of subselectors, for every width w; clusters of eight segments have
--- width 8, and there full w is 255. Subselector 0 stands first, and bit i of each stands for segment i.
+-- Document 01, "The handle" and "Weakening", and document 02, §1: rows of subselectors, for every width w; clusters of
+-- eight segments have width 8, and there full w is 255. Subselector 0 stands first, and bit i of each stands for segment i.
 --     references ss i    bit i is set in every subselector
 --     excludes m ss i    segment i is referenced and its bit of the mask m is clear
+--     keeps m ss i       segment i is referenced and its bit of the mask m is set
 --     flat s             all bits of the width are set
 --     allFlat, anyFlat   every subselector is flat; some subselector is
 --     gapped             a flat subselector stands below one that is not flat
@@ -9,6 +10,7 @@
 --     common             the bits set in every subselector
 --     referenced         how many segments are referenced
 --     keepsAll m ss      the mask m excludes none
+--     keepsNone m ss     the mask m keeps none
 --     parameter m ss     all bits of the width less those of the excluded segments
 --     replaced v ss      the first flat subselector becomes v
 --     spent m ss         something would be excluded and no subselector is flat
@@ -30,6 +32,9 @@ references (s ∷ ss) i = has i s && references ss i
 
 abbrev pub excludes : ℕ → List ℕ → ℕ → Bool
 excludes mask ss i = references ss i && not (has i mask)
+
+abbrev pub keeps : ℕ → List ℕ → ℕ → Bool
+keeps mask ss i = references ss i && has i mask
 
 module _ (w : ℕ) where
   abbrev pub flat : ℕ → Bool
@@ -59,6 +64,9 @@ module _ (w : ℕ) where
 
   abbrev pub keepsAll : ℕ → List ℕ → Bool
   keepsAll mask ss = eqb (count w (excludes mask ss)) 0
+
+  abbrev pub keepsNone : ℕ → List ℕ → Bool
+  keepsNone mask ss = eqb (count w (keeps mask ss)) 0
 
   abbrev pub parameter : ℕ → List ℕ → ℕ
   parameter mask ss = full w - setOf w (excludes mask ss)

@@ -5,6 +5,7 @@ mod codec; // codec.rt: a handle from its bytes, and back
 use aes::Tables;
 pub use codec::bytes_in;
 pub use codec::primary_bytes;
+use numbers::EMPTY;
 use numbers::GAPPED;
 use numbers::NO_SUCH_PLACE;
 use numbers::SPENT;
@@ -216,7 +217,12 @@ impl Handle {
         if self.gapped() {
             return refused(GAPPED);
         }
-        let excluded = self.common() & !mask;
+        let common = self.common();
+        let kept = common & mask;
+        if kept == 0 {
+            return refused(EMPTY);
+        }
+        let excluded = common & !mask;
         if excluded == 0 {
             return done(self);
         }

@@ -64,6 +64,7 @@ module _ (f : Name → List ℕ → ℕ → List ℕ) (x : Call) (a b : Store) (
       looked 14 segmentAbsent ▸ λ e14.
       looked 15 short ▸ λ e15.
       looked 16 fullNode ▸ λ e16.
+      refl ▸ λ e21.
       refl ▸ λ e17. tt
 
   pub rows-number : number f x a size ≡ number f x b size

@@ -33,9 +33,7 @@ use Rattle.isolation.specs.Witness.{one, two, weakGiven, weakShown, befo
 use Rattle.isolation.specs.Witness.{holding, Still, Witnessed, Concluded, shown, Bites}
 use Rattle.calls.proofs.StepLaws.{numberBelow, number-below}
 use Rattle.isolation.proofs.RunLaws.{stepBelow, runBelow, run-below, last-below, someBelow, isKeyed, shut-below}
-use Rattle.calls.specs.Numbers.{noPlace, badMode, badSegment, badSize, badField, gappedHandle, elsewhere, inUse, twins}
-use Rattle.calls.specs.Numbers.{inactiveCluster, valid, violated, notPrimary, notReferenced, oldPassword}
-use Rattle.calls.specs.Numbers.{segmentPresent, segmentAbsent, short, fullNode, spentHandle, tests}
+use Rattle.calls.specs.Numbers.{valid, violated, tests, otherTests}
 use Rattle.calls.proofs.Computing.{computing}
 use Rattle.isolation.proofs.TwoCopies.{two-copies}
 
@@ -117,8 +115,7 @@ module _ (f : Name → List ℕ → ℕ → List ℕ) where
   not-violated = ap (λ (b : Bool). not b || false) valid-last
 
   number-last : (size : ℕ) → numberBelow f (last f) records size ≡ 0
-  unfolding noPlace badMode badSegment badSize badField gappedHandle elsewhere inUse twins inactiveCluster notPrimary
-      notReferenced oldPassword segmentPresent segmentAbsent short fullNode spentHandle computing tabulate
+  unfolding otherTests computing tabulate
   number-last size = ap (λ (b : Bool). cond {A = ℕ} b 9 0) not-violated
 
   step-last : stepBelow f (last f) left ≡ record { copy = left; reply = told 0 none none 0 2 (8 ∷ 9 ∷ 3 ∷ []) }

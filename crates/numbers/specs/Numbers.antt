@@ -1,5 +1,5 @@
--- Document 01, "Numbers a call may be turned down with": the numbers that definitions below or above the table of the
--- calls name by their words. The table itself is in `calls/specs/Numbers`, with the numbers written out.
+-- Document 01, "Numbers a call may be turned down with", and document 02, §1: the numbers that definitions below or above
+-- the table of the calls name by their words. The table itself is in `calls/specs/Numbers`, with the numbers written out.
 --     unsoundNumber    unsound
 --     placeNumber      no such place
 --     fieldNumber      field
@@ -9,6 +9,7 @@
 --     lengthNumber     list length
 --     linkNumber       link
 --     loopNumber       loop
+--     emptyNumber      empty
 -- Assumes nothing.
 use Prim.Native.Nat.{ℕ}
 
@@ -38,3 +39,6 @@ linkNumber = 19
 
 abbrev pub loopNumber : ℕ
 loopNumber = 20
+
+abbrev pub emptyNumber : ℕ
+emptyNumber = 21

@@ -1,4 +1,5 @@
-// The numbers of document 01's table by their words, named once for all code; `specs/` has those that definitions name.
+// The numbers of document 01's table and of document 02 by their words, named once for all code; `specs/` has those that
+// definitions name.
 pub const UNSOUND: u8 = 1;
 
 pub const NO_SUCH_PLACE: u8 = 2;
@@ -38,3 +39,5 @@ pub const LIST_LENGTH: u8 = 18;
 pub const LINK: u8 = 19;
 
 pub const LOOP: u8 = 20;
+
+pub const EMPTY: u8 = 21;
