@@ -134,9 +134,9 @@ uint8_t gelmuszta_write(const uint8_t image[GELMUSZTA_IMAGE], uint8_t *memory, s
                         const uint8_t handle[GELMUSZTA_HANDLE], const uint8_t *data, size_t data_length);
 
 /* 7, weaken: gives a handle that references those of the segments which the mask keeps, bit i for segment i, and how many
- * these are; where nothing is excluded, the handle itself. A handle given references at least one segment, so the count is
- * not 0: where none would be left, GELMUSZTA_EMPTY; so for every mask, 255 too, where the old handle references none. It
- * needs no store, and a damaged one does not matter. */
+ * these are; where nothing is excluded, the handle itself. A handle given references at least one segment, and the count
+ * is not 0: where none would be left, the call gets GELMUSZTA_EMPTY, and so for every mask, 255 too, where the old handle
+ * references none. It needs no store, and a damaged one does not matter. */
 uint8_t gelmuszta_weaken(const uint8_t handle[GELMUSZTA_HANDLE], uint8_t mask, uint8_t given[GELMUSZTA_HANDLE],
                          uint8_t *count);
 

@@ -31,7 +31,7 @@ pub type Record = [u8; RECORD_BYTES];
 
 /// For each number, the calls that a list can bring to it. A list starts from a sound store and has
 /// a buffer that any segment fits in, so 1 is not among them, nor 15 for a read.
-pub const REACHABLE: [(u8, &[u8]); 18] = [
+const REACHABLE: [(u8, &[u8]); 18] = [
     (0, &[1, 2, 3, 4, 5, 6, 7, 8, 9]),
     (2, &[1, 2, 3, 4, 5, 6, 7, 8, 9]),
     (3, &[3, 4, 5, 6, 8, 9]),
@@ -52,7 +52,7 @@ pub const REACHABLE: [(u8, &[u8]); 18] = [
     (21, &[7]),
 ];
 
-/// The same, each call's code with a number.
+/// The pairs that a list can reach: the code of a call and a number.
 pub fn reachable() -> impl Iterator<Item = (u8, u8)> {
     let pairs =
         |(number, codes): (u8, &'static [u8])| codes.iter().map(move |code| (*code, number));
