@@ -70,8 +70,8 @@ extern "C" {
 #define GELMUSZTA_MODE_READ 1
 #define GELMUSZTA_MODE_WRITE 2
 
-/* The numbers that a call may give, and which calls may give them. 18 to 20 belong to lists of calls; no function here gives
- * them. */
+/* The numbers that a call may give, in the order in which they are looked at, and which calls may give them. 18 to 20 belong
+ * to lists of calls; no function here gives them. */
 enum gelmuszta_number {
     GELMUSZTA_DONE = 0,
     GELMUSZTA_UNSOUND = 1,         /* unsound, all but 7: the image is damaged, or the store is not sound */
@@ -90,6 +90,7 @@ enum gelmuszta_number {
     GELMUSZTA_ABSENT = 14,         /* absent, 4, 5, 6: the segment is absent */
     GELMUSZTA_SHORT = 15,          /* short, 5, 6: buffer or data shorter than the segment */
     GELMUSZTA_NO_ROOM = 16,        /* no room, 3: no base exists */
+    GELMUSZTA_EMPTY = 21,          /* empty, 7: no segment is both referenced by the handle and kept by the mask */
     GELMUSZTA_SPENT = 17           /* spent, 7: something would be excluded and no subselector is flat */
 };
 
@@ -133,7 +134,9 @@ uint8_t gelmuszta_write(const uint8_t image[GELMUSZTA_IMAGE], uint8_t *memory, s
                         const uint8_t handle[GELMUSZTA_HANDLE], const uint8_t *data, size_t data_length);
 
 /* 7, weaken: gives a handle that references those of the segments which the mask keeps, bit i for segment i, and how many
- * these are; where nothing is excluded, the handle itself. It needs no store, and a damaged one does not matter. */
+ * these are; where nothing is excluded, the handle itself. A handle given references at least one segment, and the count
+ * is not 0: where none would be left, the call gets GELMUSZTA_EMPTY, and so for every mask, 255 too, where the old handle
+ * references none. It needs no store, and a damaged one does not matter. */
 uint8_t gelmuszta_weaken(const uint8_t handle[GELMUSZTA_HANDLE], uint8_t mask, uint8_t given[GELMUSZTA_HANDLE],
                          uint8_t *count);
 

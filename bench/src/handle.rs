@@ -11,6 +11,7 @@ const PARAMETER_AT: usize = 15;
 const NO_SUCH_PLACE: u8 = 2;
 const GAPPED: u8 = 4;
 const SPENT: u8 = 17;
+const EMPTY: u8 = 21;
 const BYTE: u16 = 256;
 
 #[derive(Clone, Copy)]
@@ -167,7 +168,11 @@ impl Handle {
         if self.gapped() {
             return refused(GAPPED);
         }
-        let excluded = self.common() & !mask;
+        let common = self.common();
+        if common & mask == 0 {
+            return refused(EMPTY);
+        }
+        let excluded = common & !mask;
         if excluded == 0 {
             return done(self);
         }

@@ -130,8 +130,37 @@ fn validation() {
     }
 }
 
+/// The refusals of weakening, with the places of the numbers: 2, 4, 21, 17.
+fn refusals(cut: &[[u8; 23]]) {
+    let with = |local: u8, selector: [u8; 4]| {
+        let mut bytes = cut[0];
+        bytes[2] = local;
+        bytes[19..].copy_from_slice(&selector);
+        bytes
+    };
+    for (bytes, mask, number) in [
+        (with(8, [0, 255, 0, 255]), 0, 2),
+        (with(2, [0, 255, 0, 255]), 0, 4),
+        (cut[0], 0, 21),
+        (with(2, [0, 255, 255, 255]), 255, 21),
+        (with(2, [0x3f, 0xcf, 0xf3, 0xfc]), 255, 21),
+        (cut[4], 0x0f, 21),
+        (cut[4], 0x1f, 17),
+    ] {
+        let mut out = ([1u8; 23], [1u8; 23]);
+        let proved = unsafe { measured_weaken(&bytes, mask, &mut out.0) };
+        assert_eq!(
+            (proved, rust_weaken(&bytes, mask, &mut out.1)),
+            (number, number),
+            "the two give the same number"
+        );
+        assert_eq!(out, ([0; 23], [0; 23]), "a refusal gives no handle");
+    }
+}
+
 fn weakening() {
     let handles = cut_handles([0x22; 16]);
+    refusals(&handles);
     for (name, bytes, mask) in [
         ("weakening, nothing excluded", handles[4], 0xf0),
         ("weakening, the last subselector", handles[3], 0xf0),

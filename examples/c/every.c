@@ -48,6 +48,8 @@ int main(void) {
     expect("write", gelmuszta_write(image, memory, all, segment, writer, (const uint8_t *)"guards", 6) == GELMUSZTA_DONE);
     expect("memory", memcmp(memory + 4096, "guards", 6) == 0);
     expect("weaken", gelmuszta_weaken(reader, mask, weaker, &count) == GELMUSZTA_DONE && count == 1);
+    expect("weaken to nothing", gelmuszta_weaken(weaker, (uint8_t)~mask, given, &count) == GELMUSZTA_EMPTY && count == 0
+                                    && memcmp(given, none, sizeof given) == 0);
     gelmuszta_convert(first_password, mask, converted);
     expect("convert", memcmp(converted, weaker + 3, sizeof converted) == 0 && weaker[19] == mask);
     expect("read", gelmuszta_read(image, memory, all, segment, weaker, buffer, sizeof buffer, &length) == GELMUSZTA_DONE);

@@ -88,6 +88,17 @@ impl Handle {
         }
     }
 
+    /// The handle with `selector` that validates where `primary` is the primary password: one that
+    /// references nothing, too, which no weakening gives.
+    pub fn converted(node: u16, local: u8, primary: &Password, selector: Selector) -> Handle {
+        Handle {
+            node,
+            local,
+            password: derive(primary, &selector),
+            selector,
+        }
+    }
+
     pub fn from_bytes(bytes: &HandleBytes) -> Handle {
         let mut password = [0; PASSWORD_BYTES];
         password.copy_from_slice(&bytes[PASSWORD_AT..SELECTOR_AT]);
@@ -120,8 +131,17 @@ impl Handle {
         self.selector.referenced() & !mask
     }
 
-    /// The handle without the excluded segments; `None` where no subselector is left to note them.
+    /// The referenced segments that `mask` would leave.
+    pub fn kept(&self, mask: u8) -> u8 {
+        self.selector.referenced() & mask
+    }
+
+    /// The handle without the excluded segments; `None` where none would be left, or where no
+    /// subselector is left to note the excluded ones.
     pub fn weaken(self, mask: u8) -> Option<Handle> {
+        if self.kept(mask) == 0 {
+            return None;
+        }
         let excluded = self.excluded(mask);
         if excluded == 0 {
             return Some(self);

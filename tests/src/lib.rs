@@ -11,6 +11,7 @@
 //! - [`model`]: the calls carried out.
 //! - [`list`]: records of 64 bytes, the chain, and the text that a list comes out as.
 //! - [`vectors`]: the published handles.
+//! - [`nothing`]: the ways to a handle that would reference nothing, for those who count what was met.
 //! - [`random`], [`generate`]: lists made by chance from a seed.
 //! - [`program`], [`streams`]: a program run, with its input and output in every way that they can come.
 
@@ -21,6 +22,7 @@ pub mod handle;
 pub mod hexadecimal;
 pub mod list;
 pub mod model;
+pub mod nothing;
 pub mod program;
 pub mod random;
 pub mod sizes;

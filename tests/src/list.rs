@@ -29,6 +29,36 @@ pub const DATA_AT: usize = 32;
 
 pub type Record = [u8; RECORD_BYTES];
 
+/// For each number, the calls that a list can bring to it. A list starts from a sound store and has
+/// a buffer that any segment fits in, so 1 is not among them, nor 15 for a read.
+const REACHABLE: [(u8, &[u8]); 18] = [
+    (0, &[1, 2, 3, 4, 5, 6, 7, 8, 9]),
+    (2, &[1, 2, 3, 4, 5, 6, 7, 8, 9]),
+    (3, &[3, 4, 5, 6, 8, 9]),
+    (4, &[2, 3, 4, 5, 6, 7, 8, 9]),
+    (5, &[2, 3, 4]),
+    (6, &[1]),
+    (7, &[1]),
+    (8, &[2, 3, 4, 5, 6, 8, 9]),
+    (9, &[2, 3, 4, 5, 6, 8, 9]),
+    (10, &[2, 3, 4, 9]),
+    (11, &[5, 6]),
+    (12, &[9]),
+    (13, &[3]),
+    (14, &[4, 5, 6]),
+    (15, &[6]),
+    (16, &[3]),
+    (17, &[7]),
+    (21, &[7]),
+];
+
+/// The pairs that a list can reach: the code of a call and a number.
+pub fn reachable() -> impl Iterator<Item = (u8, u8)> {
+    let pairs =
+        |(number, codes): (u8, &'static [u8])| codes.iter().map(move |code| (*code, number));
+    REACHABLE.into_iter().flat_map(pairs)
+}
+
 /// What a record asks for.
 #[derive(Clone, Copy, Debug, PartialEq, Eq)]
 pub enum Request {
@@ -211,7 +241,7 @@ fn push_last(text: &mut Vec<u8>, word: &[u8], number: u32) {
 
 /// Runs a list from the starting store and tells `each` of every record that the chain meets.
 /// Gives the whole text that `benchrun` prints for these bytes.
-pub fn run(list: &[u8], mut each: impl FnMut(u8, &Reply)) -> Vec<u8> {
+pub fn run(list: &[u8], mut each: impl FnMut(&Record, &Reply)) -> Vec<u8> {
     let mut text = Vec::new();
     let checked = records(list).ok_or(LIST_LENGTH);
     match checked.and_then(|records| Ok((chain(&records)?, records))) {
@@ -221,7 +251,7 @@ pub fn run(list: &[u8], mut each: impl FnMut(u8, &Reply)) -> Vec<u8> {
             for &number in &order {
                 let record = records[usize::from(number) - 1];
                 let reply = session.run(record);
-                each(record[CODE_AT], &reply);
+                each(record, &reply);
                 session.push_line(&mut text, number, record[CODE_AT], &reply);
             }
             push_last(&mut text, b"end", order.len() as u32);

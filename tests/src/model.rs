@@ -3,7 +3,7 @@
 use crate::call::{Call, Reply};
 use crate::handle::{Handle, Password};
 use crate::store::{Cluster, Mode, Segment, Store};
-use crate::table::{refusal, Found, SPENT};
+use crate::table::{refusal, Found};
 use std::ops::Range;
 
 /// Runs one call. `buffer` is a read's buffer or a write's data, and is not looked at otherwise.
@@ -132,12 +132,12 @@ fn write(part: &mut [u8], data: &[u8]) -> Reply {
 }
 
 fn weaken(handle: Handle, mask: u8) -> Reply {
-    match handle.weaken(mask) {
-        Some(weaker) => Reply {
-            count: weaker.selector.count(),
-            ..Reply::with_handle(&weaker)
-        },
-        None => Reply::refused(SPENT),
+    let weaker = handle
+        .weaken(mask)
+        .expect("rows 21 and 17 refuse what cannot be weakened");
+    Reply {
+        count: weaker.selector.count(),
+        ..Reply::with_handle(&weaker)
     }
 }
 

@@ -26,8 +26,9 @@ pub const SPENT: u8 = 17;
 pub const LIST_LENGTH: u8 = 18;
 pub const LINK: u8 = 19;
 pub const LOOP: u8 = 20;
+pub const EMPTY: u8 = 21;
 
-const WORDS: [&str; 21] = [
+const WORDS: [&str; 22] = [
     "done",
     "unsound",
     "no such place",
@@ -49,6 +50,7 @@ const WORDS: [&str; 21] = [
     "list length",
     "link",
     "loop",
+    "empty",
 ];
 
 /// The word that stands beside `number` in the table.
@@ -86,9 +88,9 @@ impl Found<'_> {
 
 type Test = fn(&Call, &Found) -> bool;
 
-/// The rows that concern calls, in the table's order. A row's test may count on the rows above it
-/// not applying.
-const ROWS: [(u8, Test); 17] = [
+/// The rows that concern calls, in the table's order; a number added later stands at the place named
+/// for it. A row's test may count on the rows above it not applying.
+const ROWS: [(u8, Test); 18] = [
     (UNSOUND, unsound),
     (NO_SUCH_PLACE, no_such_place),
     (FIELD, field),
@@ -105,8 +107,14 @@ const ROWS: [(u8, Test); 17] = [
     (ABSENT, absent),
     (SHORT, short),
     (NO_ROOM, no_room),
+    (EMPTY, empty),
     (SPENT, spent),
 ];
+
+/// The numbers of the rows that concern calls, in the table's order.
+pub fn numbers_of_calls() -> impl Iterator<Item = u8> {
+    ROWS.iter().map(|(number, _)| *number)
+}
 
 /// The first number of the table that applies.
 pub fn refusal(call: &Call, found: &Found) -> Option<u8> {
@@ -241,6 +249,10 @@ fn no_room(call: &Call, found: &Found) -> bool {
         }
         _ => false,
     }
+}
+
+fn empty(call: &Call, _: &Found) -> bool {
+    matches!(call, Call::Weaken { mask, handle } if handle.kept(*mask) == 0)
 }
 
 fn spent(call: &Call, _: &Found) -> bool {

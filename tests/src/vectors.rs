@@ -4,7 +4,7 @@
 use crate::handle::{convert, Handle, Password, Selector, FLAT};
 use crate::hexadecimal::encode;
 use crate::sizes::{PASSWORD_BYTES, SUBSELECTORS};
-use crate::table::{DONE, GAPPED, SPENT, VIOLATED_PROTECTION};
+use crate::table::{word, DONE, EMPTY, GAPPED, SPENT, VIOLATED_PROTECTION};
 
 const HEADER: &str = "\
 # Handles for checking a program that weakens, reduces or validates them. README.md beside this
@@ -51,14 +51,14 @@ const CLUSTERS: [Cluster; 4] = [
     },
 ];
 
-/// Masks that a primary handle is weakened by, one after the other.
+/// Masks that a primary handle is weakened by, one after the other. One that is refused is the last.
 const PATHS: [&[u8]; 7] = [
     &[0x7f, 0x3f, 0x0f, 0x01, 0x00],
     &[0xfe, 0xfd, 0xfb, 0xf7, 0xef],
     &[0xfe, 0x7d, 0x70],
     &[0xfe, 0x7d, 0xf3],
-    &[0xff, 0x20, 0xff],
-    &[0x00, 0x00],
+    &[0xff, 0x20, 0xff, 0xdf],
+    &[0x00],
     &[0xaa, 0x0f, 0x08],
 ];
 
@@ -121,9 +121,8 @@ impl Family<'_> {
     fn weakenings(&self, mut handle: Handle, masks: &[u8]) -> String {
         let mut text = format!("# Masks {}.\n", encode(masks));
         for &mask in masks {
-            let old = encode(&handle.to_bytes());
             let Some(weaker) = handle.weaken(mask) else {
-                text.push_str(&format!("spent old={old} mask={mask:02x} number={SPENT}\n"));
+                text.push_str(&refused(&handle, mask));
                 break;
             };
             let weakened = format!("weakened {} mask={mask:02x}", self.secret());
@@ -134,6 +133,17 @@ impl Family<'_> {
         }
         text
     }
+}
+
+/// A weakening that is refused: its kind is the number's word.
+fn refused(old: &Handle, mask: u8) -> String {
+    let number = match old.kept(mask) {
+        0 => EMPTY,
+        _ => SPENT,
+    };
+    let kind = word(number).expect("the number is of the table");
+    let old = encode(&old.to_bytes());
+    format!("{kind} old={old} mask={mask:02x} number={number}\n")
 }
 
 fn outcome(what: &str, old: &Handle, new: &Handle) -> String {

@@ -1,7 +1,8 @@
 //! Lists made by chance: what holds of the model on all of them.
 
 use model::generate;
-use model::list::{chain, output, records, run, Session};
+use model::list::{chain, output, reachable, records, request, run, Request, Session, CODE_AT};
+use model::nothing::Way;
 use model::random::Random;
 use model::sizes::MEMORY_BYTES;
 use std::collections::BTreeSet;
@@ -22,16 +23,20 @@ fn a_seed_repeats_its_lists() {
 #[test]
 fn lists_reach_what_can_be_reached() {
     let mut pairs = BTreeSet::new();
+    let mut ways = BTreeSet::new();
     let mut refused = BTreeSet::new();
     for list in lists(1) {
-        let text = run(&list, |code, reply| {
-            if (1..=9).contains(&code) {
-                pairs.insert((code, reply.number));
+        let text = run(&list, |record, reply| match request(record) {
+            Request::BadCode => {}
+            Request::Overlong(call) | Request::Call(call) => {
+                pairs.insert((record[CODE_AT], reply.number));
+                ways.extend(Way::of(&call, reply.number));
             }
         });
         refused.extend(text.strip_prefix(b"list ").map(<[u8]>::to_vec));
     }
-    assert_eq!(pairs.len(), 65);
+    assert_eq!(pairs, reachable().collect());
+    assert_eq!(ways, Way::in_lists().collect());
     assert_eq!(refused.len(), 3);
 }
 

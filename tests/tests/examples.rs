@@ -1,32 +1,10 @@
 //! The lists of `examples/` come out as the files beside them say, and together they come to every
 //! number that a list can bring a call to.
 
-use model::list::run;
+use model::list::{reachable, run, CODE_AT};
 use std::collections::BTreeSet;
 use std::fs;
 use std::path::{Path, PathBuf};
-
-/// For each number, the calls that a list can bring to it. A list starts from a sound store and has
-/// a buffer that any segment fits in, so 1 is not among them, nor 15 for a read.
-const REACHABLE: [(u8, &[u8]); 17] = [
-    (0, &[1, 2, 3, 4, 5, 6, 7, 8, 9]),
-    (2, &[1, 2, 3, 4, 5, 6, 7, 8, 9]),
-    (3, &[3, 4, 5, 6, 8, 9]),
-    (4, &[2, 3, 4, 5, 6, 7, 8, 9]),
-    (5, &[2, 3, 4]),
-    (6, &[1]),
-    (7, &[1]),
-    (8, &[2, 3, 4, 5, 6, 8, 9]),
-    (9, &[2, 3, 4, 5, 6, 8, 9]),
-    (10, &[2, 3, 4, 9]),
-    (11, &[5, 6]),
-    (12, &[9]),
-    (13, &[3]),
-    (14, &[4, 5, 6]),
-    (15, &[6]),
-    (16, &[3]),
-    (17, &[7]),
-];
 
 fn examples() -> PathBuf {
     Path::new(env!("CARGO_MANIFEST_DIR")).join("../examples")
@@ -57,18 +35,15 @@ fn outputs_are_the_files() {
 fn every_pair_that_a_list_can_reach() {
     let mut reached = BTreeSet::new();
     for path in lists() {
-        run(&fs::read(path).unwrap(), |code, reply| {
-            reached.insert((reply.number, code));
+        run(&fs::read(path).unwrap(), |record, reply| {
+            reached.insert((record[CODE_AT], reply.number));
         });
     }
     let (calls, bad): (BTreeSet<_>, BTreeSet<_>) = reached
         .into_iter()
-        .partition(|(_, code)| (1..=9).contains(code));
-    let pairs = REACHABLE
-        .iter()
-        .flat_map(|(number, codes)| codes.iter().map(|&code| (*number, code)));
-    assert_eq!(calls, pairs.collect());
-    assert!(bad.len() > 3 && bad.iter().all(|(number, _)| *number == 3));
+        .partition(|(code, _)| (1..=9).contains(code));
+    assert_eq!(calls, reachable().collect());
+    assert!(bad.len() > 3 && bad.iter().all(|(_, number)| *number == 3));
 }
 
 #[test]

@@ -180,14 +180,33 @@ fn short_buffer_and_short_data() {
 }
 
 #[test]
+fn empty_before_spent() {
+    let mut bench = Bench::starting();
+    let spent = Handle {
+        selector: Selector([0xfe, 0xfd, 0xfb, 0xf7]),
+        ..writer()
+    };
+    for mask in 0..=255 {
+        let expected = match mask & 0xf0 {
+            0 => 21,
+            0xf0 => 0,
+            _ => 17,
+        };
+        assert_eq!(bench.number(weaken(mask, spent)), expected, "{mask}");
+    }
+}
+
+#[test]
 fn refused_weakening_gives_no_count() {
     let mut bench = Bench::starting();
     let spent = Handle {
         selector: Selector([0xfe, 0xfd, 0xfb, 0xf7]),
         ..writer()
     };
-    let reply = bench.reply(weaken(239, spent));
-    assert_eq!((reply.number, reply.count), (17, 0));
-    assert_eq!(reply.first, [0; HANDLE_BYTES]);
+    for (mask, number) in [(239, 17), (15, 21)] {
+        let reply = bench.reply(weaken(mask, spent));
+        assert_eq!((reply.number, reply.count), (number, 0));
+        assert_eq!(reply.first, [0; HANDLE_BYTES]);
+    }
     assert_eq!(bench.reply(weaken(240, spent)).count, 4);
 }

@@ -1,6 +1,10 @@
 //! Selector examples P1 to P9, and the points where weakening and reducing are easily got wrong.
 
+mod support;
+
+use model::call::{Call, Reply};
 use model::handle::{convert, derive, Handle, HandleBytes, Selector, FLAT};
+use support::Bench;
 
 const PASSWORD: [u8; 16] = *b"a primary secret";
 
@@ -17,11 +21,17 @@ fn handle(selector: u32) -> Handle {
 fn weakened(selector: u32, mask: u8) -> (u32, u32) {
     let weaker = handle(selector)
         .weaken(mask)
-        .expect("a subselector is flat");
+        .expect("something is left, and a subselector is flat");
     (
         u32::from_be_bytes(weaker.selector.0),
         weaker.selector.count(),
     )
+}
+
+/// What call 7 replies.
+fn reply(selector: u32, mask: u8) -> Reply {
+    let handle = handle(selector);
+    Bench::starting().reply(Call::Weaken { mask, handle })
 }
 
 #[test]
@@ -49,8 +59,9 @@ fn p4_nothing_excluded_changes_nothing() {
 }
 
 #[test]
-fn p5_everything_excluded() {
-    assert_eq!(weakened(0xfe7d_ffff, 0), (0xfe7d_83ff, 0));
+fn p5_everything_excluded_is_21() {
+    assert_eq!(reply(0xfe7d_ffff, 0), Reply::refused(21));
+    assert_eq!(handle(0xfe7d_ffff).weaken(0), None);
 }
 
 #[test]
@@ -67,6 +78,7 @@ fn p6_gapped() {
 fn p7_p8_no_subselector_left() {
     assert_eq!(handle(0xfefd_fbf7).weaken(240), Some(handle(0xfefd_fbf7)));
     assert_eq!(handle(0xfefd_fbf7).weaken(239), None);
+    assert_eq!(reply(0xfefd_fbf7, 239), Reply::refused(17));
 }
 
 #[test]
@@ -105,13 +117,13 @@ fn conversions_go_up_from_subselector_0() {
 #[test]
 fn each_weakening_validates() {
     let mut handle = Handle::primary(3, 7, PASSWORD);
-    for (mask, count) in [(0x7f, 7), (0x3f, 6), (0x0f, 4), (0x01, 1)] {
+    for (mask, count) in [(0x7f, 7), (0x3f, 6), (0x0f, 4), (0x03, 2)] {
         handle = handle.weaken(mask).unwrap();
         assert_eq!(handle.selector.count(), count);
         assert!(handle.validates(&PASSWORD));
         assert!(!handle.validates(&[0; 16]));
     }
-    assert_eq!(handle.weaken(0), None);
+    assert_eq!(handle.weaken(1), None);
 }
 
 #[test]

@@ -5,7 +5,7 @@ use model::handle::Handle;
 use model::model::run;
 use model::sizes::MEMORY_BYTES;
 use model::store::{Segment, Store};
-use model::table::{word, UNSOUND};
+use model::table::{word, EMPTY, UNSOUND};
 
 const READ: [u8; 16] = [0x11; 16];
 const WRITE: [u8; 16] = [0x22; 16];
@@ -159,12 +159,18 @@ fn damage_anywhere_refuses_all_but_weakening_and_changes_nothing() {
         assert_eq!(left, damaged);
         assert_eq!((memory, buffer), (vec![0xaa; MEMORY_BYTES], vec![0xbb; 64]));
     }
-    let weaken = Call::Weaken {
-        mask: 1,
-        handle: Handle::primary(1, 3, READ),
+    let handle = Handle::primary(1, 3, READ);
+    let mut weaken = |mask| {
+        run(
+            &mut damaged,
+            &mut [],
+            &mut [],
+            &Call::Weaken { mask, handle },
+        )
     };
-    let reply = run(&mut damaged, &mut [], &mut [], &weaken);
+    let reply = weaken(1);
     assert_eq!((reply.number, reply.count), (0, 1));
+    assert_eq!(weaken(0), Reply::refused(EMPTY));
     assert_eq!(word(UNSOUND), Some("unsound"));
 }
 

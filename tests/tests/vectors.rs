@@ -24,6 +24,19 @@ fn handle(text: &str) -> Handle {
     Handle::from_bytes(&bytes)
 }
 
+/// What a line about a weakening has to say: counted segment by segment.
+fn weakening(old: &Handle, mask: u8) -> (&'static str, Option<&'static str>) {
+    let segments = || (0..8).filter(|&segment| old.selector.references(segment));
+    let kept = |segment: &usize| mask >> segment & 1 == 1;
+    let left = segments().filter(kept).count();
+    match left {
+        0 => ("empty", Some("21")),
+        _ if left == segments().count() => ("weakened", None),
+        _ if old.selector.0.contains(&255) => ("weakened", None),
+        _ => ("spent", Some("17")),
+    }
+}
+
 #[test]
 fn every_handle_validates_and_every_count_is_right() {
     let lines = PUBLISHED
@@ -36,15 +49,22 @@ fn every_handle_validates_and_every_count_is_right() {
             let new = handle(new);
             assert!(new.validates(&decode(primary).unwrap().try_into().unwrap()));
             assert_eq!(new.selector.count().to_string(), values["count"]);
+            assert_ne!(values["count"], "0");
             assert!(!new.selector.is_gapped());
+        }
+        if let (Some(old), Some(mask)) = (values.get("old"), values.get("mask")) {
+            let mask = u8::from_str_radix(mask, 16).unwrap();
+            let number = values.get("number").copied();
+            assert_eq!((kind, number), weakening(&handle(old), mask));
         }
     }
     let expected = [
         ("conversion", 32),
         ("primary", 8),
-        ("weakened", 176),
-        ("reduced", 176),
-        ("spent", 16),
+        ("weakened", 160),
+        ("reduced", 160),
+        ("empty", 24),
+        ("spent", 8),
         ("validation", 24),
     ];
     assert_eq!(kinds, HashMap::from(expected));

@@ -76,6 +76,15 @@ end: 3 records
 }
 
 #[test]
+fn a_handle_to_nothing_in_words() {
+    let answers = fs::read_to_string(examples().join("laboratory.out")).unwrap();
+    let shown = shown("laboratory.list", &answers);
+    let refused = shown.lines().find(|line| line.starts_with("15 ")).unwrap();
+    assert!(refused.contains("weaken the handle of record 6 by mask 0xdf"));
+    assert!(refused.ends_with("21 empty"), "{refused}");
+}
+
+#[test]
 fn answers_that_do_not_belong() {
     assert_eq!(shown("sample.list", "list 19\n"), "list refused: 19 link\n");
     assert_eq!(

@@ -93,6 +93,11 @@ fn numbers_that_calls_come_to() {
         mistake(refused),
         "1: expected a call that is done, found 2 (no such place)"
     );
+    let nothing = "let primary = password 11*16\nweaken handle primary mask 0 -> nothing";
+    assert_eq!(
+        mistake(nothing),
+        "2: expected a call that is done, found 21 (empty)"
+    );
 }
 
 #[test]

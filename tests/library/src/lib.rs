@@ -6,7 +6,7 @@
 //! - [`compare`]: one question put to both, and everything that has to be equal afterwards.
 //! - [`chance`]: stores, damage, handles and questions made by chance from a seed.
 //! - [`single`], [`runs`], [`edges`], [`batch`], [`copies`], [`published`]: what is compared.
-//! - [`tally`], [`damages`]: which answers, fills, selectors, modes and damages were met.
+//! - [`tally`], [`damages`]: which answers, fills, selectors, modes, damages and ways to nothing were met.
 
 pub mod batch;
 pub mod chance;

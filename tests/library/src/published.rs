@@ -8,7 +8,7 @@ use model::handle::{Handle, HandleBytes, Password, FLAT};
 use model::hexadecimal::decode;
 use model::sizes::MEMORY_BYTES;
 use model::store::{Cluster, Store};
-use model::table::DONE;
+use model::table::{DONE, EMPTY, SPENT};
 use std::collections::HashMap;
 
 /// What `docs/vectors/README.md` explains.
@@ -51,7 +51,8 @@ impl<'a> Line<'a> {
             "primary" => self.primary(),
             "weakened" => self.weakened(),
             "reduced" => self.reduced(),
-            "spent" => self.spent(),
+            "empty" => self.refused(EMPTY),
+            "spent" => self.refused(SPENT),
             "validation" => self.validation(),
             _ => None,
         }
@@ -113,13 +114,14 @@ impl<'a> Line<'a> {
         )
     }
 
-    fn spent(&self) -> Option<bool> {
+    /// A weakening that is refused, with the number that goes with the line's kind.
+    fn refused(&self, number: u8) -> Option<bool> {
         let call = Call::Weaken {
             mask: self.byte("mask")?,
             handle: self.handle("old")?,
         };
         let reply = ask(&mut held(&Store::starting()), call);
-        Some(reply == Reply::refused(self.number("number")?))
+        Some(reply == Reply::refused(number) && self.number("number")? == number)
     }
 
     fn validation(&self) -> Option<bool> {

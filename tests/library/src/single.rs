@@ -29,7 +29,8 @@ fn one(guard: Guard, random: &mut Random, tally: &mut Tally) -> Result<(), Strin
         given: &[],
     };
     let question = maker.question(&EVENLY);
-    if random.one_in(4) {
+    let damaged = random.one_in(4);
+    if damaged {
         let (damage, place) = damage(random, &mut held, &question);
         tally.note_damage(question.code(), damage, place);
         if is_sound(&held) {
@@ -40,6 +41,9 @@ fn one(guard: Guard, random: &mut Random, tally: &mut Tally) -> Result<(), Strin
     same_conversion(random)?;
     let answer = ask(guard, &mut Sides::both(held), &question)?;
     tally.note(&question, &answer);
+    if damaged {
+        tally.note_beside_damage(&question, &answer);
+    }
     Ok(())
 }
 

@@ -1,4 +1,4 @@
-//! Which answers, fills, damages and selectors were met, and which still have to be.
+//! Which answers, fills, damages, selectors and ways to nothing were met, and which still have to be.
 
 use crate::chance::damage::Damage;
 use crate::chance::stores::Fill;
@@ -6,10 +6,11 @@ use crate::damages::{Damages, Where};
 use crate::question::{name, Answer, Question, BATCH, BEYOND, VALIDATION};
 use model::call::{self, Call};
 use model::handle::FLAT;
+use model::nothing::Way;
 use model::sizes::SUBSELECTORS;
 use model::table::{
-    word, ABSENT, DONE, ELSEWHERE, FIELD, GAPPED, INACTIVE, IN_USE, NOT_PRIMARY, NOT_REFERENCED,
-    NO_ROOM, NO_SUCH_PLACE, OLD_PASSWORD, PRESENT, SHORT, SPENT, TWINS, UNSOUND,
+    word, ABSENT, DONE, ELSEWHERE, EMPTY, FIELD, GAPPED, INACTIVE, IN_USE, NOT_PRIMARY,
+    NOT_REFERENCED, NO_ROOM, NO_SUCH_PLACE, OLD_PASSWORD, PRESENT, SHORT, SPENT, TWINS, UNSOUND,
     VIOLATED_PROTECTION,
 };
 use std::collections::{BTreeMap, BTreeSet};
@@ -32,7 +33,7 @@ const ALLOWED: [(u8, &[u8]); 10] = [
     ]),
     (call::READ, MOVING_BYTES),
     (call::WRITE, MOVING_BYTES),
-    (call::WEAKEN, &[DONE, NO_SUCH_PLACE, GAPPED, SPENT]),
+    (call::WEAKEN, WEAKENING),
     (call::REDUCE, VALIDATING),
     (call::NEW_PASSWORD, &[
         DONE, UNSOUND, NO_SUCH_PLACE, FIELD, GAPPED, INACTIVE, VIOLATED_PROTECTION, NOT_PRIMARY,
@@ -46,6 +47,9 @@ const MOVING_BYTES: &[u8] = &[
     DONE, UNSOUND, NO_SUCH_PLACE, FIELD, GAPPED, INACTIVE, VIOLATED_PROTECTION, NOT_REFERENCED,
     ABSENT, SHORT,
 ];
+
+/// Weakening looks at no store: it has to come to each of these on damaged ones, too.
+const WEAKENING: &[u8] = &[DONE, NO_SUCH_PLACE, GAPPED, EMPTY, SPENT];
 
 #[rustfmt::skip]
 const VALIDATING: &[u8] = &[
@@ -67,6 +71,9 @@ pub struct Tally {
     /// Calls done, by how many subselectors of their handle are not flat.
     weakened: [u64; SUBSELECTORS + 1],
     masks: BTreeSet<u8>,
+    ways: BTreeMap<Way, u64>,
+    /// The numbers of weakenings beside a damaged store.
+    beside_damage: BTreeMap<u8, u64>,
 }
 
 impl Tally {
@@ -80,6 +87,9 @@ impl Tally {
         }
         if let Call::Weaken { mask, .. } = question.call {
             self.masks.insert(mask);
+        }
+        if let Some(way) = Way::of(&question.call, answer.reply.number) {
+            *self.ways.entry(way).or_default() += 1;
         }
         if let Some(mode) = question.call.named_mode() {
             self.note_mode(question.code(), mode);
@@ -98,6 +108,13 @@ impl Tally {
 
     pub fn note_damage(&mut self, code: u8, damage: Damage, place: Where) {
         self.damages.note(code, damage, place);
+    }
+
+    /// A call on a store that was damaged before.
+    pub fn note_beside_damage(&mut self, question: &Question, answer: &Answer) {
+        if let Call::Weaken { .. } = question.call {
+            *self.beside_damage.entry(answer.reply.number).or_default() += 1;
+        }
     }
 
     /// Everything that was to be met and was not, and pairs that were met and may not be.
@@ -135,11 +152,21 @@ impl Tally {
         let masks = (0..=u8::MAX)
             .filter(|mask| !self.masks.contains(mask))
             .map(|mask| format!("not tried: mask {mask}"));
+        let ways = Way::ALL
+            .into_iter()
+            .filter(|way| !self.ways.contains_key(way))
+            .map(|way| format!("not tried: way to nothing {way:?}"));
+        let beside_damage = WEAKENING
+            .iter()
+            .filter(|number| !self.beside_damage.contains_key(number))
+            .map(|&number| format!("not tried: {}, damaged", in_words(&(call::WEAKEN, number))));
         fills
             .chain(modes)
             .chain(self.damages.missing())
             .chain(weakened)
             .chain(masks)
+            .chain(ways)
+            .chain(beside_damage)
     }
 }
 
@@ -150,14 +177,15 @@ fn in_words(&(code, number): &(u8, u8)) -> String {
 
 impl fmt::Display for Tally {
     fn fmt(&self, to: &mut fmt::Formatter) -> fmt::Result {
-        let heads: String = (0..=SPENT).map(|number| format!("{number:>7}")).collect();
+        let numbers = || (0..=SPENT).chain([EMPTY]);
+        let heads: String = numbers().map(|number| format!("{number:>7}")).collect();
         writeln!(to, "{:<15}{heads}", "call \\ number")?;
         for (code, _) in ALLOWED {
             let cell = |number| match self.pairs.get(&(code, number)) {
                 Some(count) => format!("{count:>7}"),
                 None => format!("{:>7}", "."),
             };
-            let cells: String = (0..=SPENT).map(cell).collect();
+            let cells: String = numbers().map(cell).collect();
             writeln!(to, "{:<15}{cells}", name(code))?;
         }
         writeln!(to, "stores: {:?}", self.fills)?;
@@ -165,6 +193,12 @@ impl fmt::Display for Tally {
         let modes = self.modes.len();
         writeln!(to, "wide modes, each in a call that names one: {modes}")?;
         writeln!(to, "masks: {}", self.masks.len())?;
+        writeln!(to, "ways to nothing: {:?}", self.ways)?;
+        let beside = &self.beside_damage;
+        writeln!(
+            to,
+            "weakenings beside a damaged store, by number: {beside:?}"
+        )?;
         let weakened = &self.weakened;
         write!(
             to,

@@ -89,7 +89,7 @@ fn what_is_not_reached_is_told() {
             .iter()
             .filter(|fault| fault.starts_with("not reached"))
             .count(),
-        81
+        82
     );
     for fault in [
         "not reached: new segment with 16 (no room)",
@@ -98,6 +98,10 @@ fn what_is_not_reached_is_told() {
         "not tried: damage ActiveByteTwo, batch",
         "not tried: damage LastRecord, new cluster",
         "not tried: damage OverlapAtAWord, ItsRecord",
+        "not reached: weaken with 21 (empty)",
+        "not tried: way to nothing AllTakenNoneFlat",
+        "not tried: way to nothing Validated",
+        "not tried: weaken with 21 (empty), damaged",
     ] {
         assert!(faults.contains(&fault.to_string()), "{fault}");
     }

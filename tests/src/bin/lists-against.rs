@@ -1,12 +1,13 @@
 //! Runs a program on lists made by chance and compares what it prints with what the model prints. A program that tells a
-//! fault, or ends by a signal or with another status than 0, differs too.
+//! fault, or ends by a signal or with another status than 0, differs too. The lists have to reach all that lists can.
 
 use model::call::CALLS;
 use model::generate;
-use model::list::run;
+use model::list::{reachable, request, run, Request, CODE_AT};
+use model::nothing::Way;
 use model::program::{Outcome, Program};
 use model::random::Random;
-use model::table::{word, LIST_LENGTH, LOOP, SPENT};
+use model::table::{word, EMPTY, LIST_LENGTH, LOOP, SPENT};
 use std::collections::BTreeMap;
 use std::ffi::OsString;
 use std::io;
@@ -17,6 +18,8 @@ const USAGE: &str = "usage: lists-against PROGRAM [SEED] [COUNT]";
 const BAD_USAGE: u8 = 2;
 const USUAL_SEED: u64 = 1;
 const USUAL_COUNT: u64 = 1000;
+/// Stands for every code that belongs to no call.
+const NO_CALL: u8 = 0;
 
 struct Task {
     program: OsString,
@@ -24,12 +27,34 @@ struct Task {
     count: u64,
 }
 
-/// How often each call came to each number, and each number that lists were refused with.
+/// How often each call came to each number, how often one went each way to nothing, and each number
+/// that lists were refused with.
 #[derive(Default)]
 struct Tally {
     calls: u64,
     pairs: BTreeMap<(u8, u8), u64>,
+    ways: BTreeMap<Way, u64>,
     refused: BTreeMap<u8, u64>,
+}
+
+impl Tally {
+    /// Everything that lists can reach and these did not.
+    fn missing(&self) -> Vec<String> {
+        let pairs = reachable()
+            .filter(|pair| !self.pairs.contains_key(pair))
+            .map(|(code, number)| format!("call {code} with {}", in_words(number)));
+        let ways = Way::in_lists()
+            .filter(|way| !self.ways.contains_key(way))
+            .map(|way| format!("{way:?}"));
+        let refused = (LIST_LENGTH..=LOOP)
+            .filter(|number| !self.refused.contains_key(number))
+            .map(|number| format!("a list refused with {}", in_words(number)));
+        pairs.chain(ways).chain(refused).collect()
+    }
+}
+
+fn in_words(number: u8) -> String {
+    format!("{number} ({})", word(number).unwrap_or(""))
 }
 
 fn task() -> Option<Task> {
@@ -48,12 +73,16 @@ fn task() -> Option<Task> {
 }
 
 fn expected(list: &[u8], tally: &mut Tally) -> Vec<u8> {
-    let text = run(list, |code, reply| {
+    let text = run(list, |record, reply| {
         tally.calls += 1;
-        let code = if usize::from(code) <= CALLS.len() {
-            code
-        } else {
-            0
+        let code = match request(record) {
+            Request::BadCode => NO_CALL,
+            Request::Overlong(call) | Request::Call(call) => {
+                if let Some(way) = Way::of(&call, reply.number) {
+                    *tally.ways.entry(way).or_default() += 1;
+                }
+                record[CODE_AT]
+            }
         };
         *tally.pairs.entry((code, reply.number)).or_default() += 1;
     });
@@ -99,7 +128,7 @@ fn compare(task: &Task, tally: &mut Tally) -> io::Result<bool> {
 }
 
 fn print_tally(tally: &Tally) {
-    let numbers: Vec<u8> = (0..=SPENT).collect();
+    let numbers: Vec<u8> = (0..=SPENT).chain([EMPTY]).collect();
     let row = |name: &str, code: u8| {
         let count = |number: &u8| tally.pairs.get(&(code, *number)).copied();
         let cells = numbers.iter().map(|number| match count(number) {
@@ -113,12 +142,10 @@ fn print_tally(tally: &Tally) {
     for (code, name) in CALLS {
         row(name, code);
     }
-    row("no call", 0);
+    row("no call", NO_CALL);
+    println!("ways to nothing: {:?}", tally.ways);
     for (number, count) in &tally.refused {
-        println!(
-            "lists refused with {number} ({}): {count}",
-            word(*number).unwrap_or("")
-        );
+        println!("lists refused with {}: {count}", in_words(*number));
     }
 }
 
@@ -135,7 +162,14 @@ fn main() -> ExitCode {
                 task.seed, task.count, tally.calls
             );
             print_tally(&tally);
-            ExitCode::SUCCESS
+            let missing = tally.missing();
+            for what in &missing {
+                println!("not reached: {what}");
+            }
+            match missing.is_empty() {
+                true => ExitCode::SUCCESS,
+                false => ExitCode::FAILURE,
+            }
         }
         Ok(false) => ExitCode::FAILURE,
         Err(mistake) => {

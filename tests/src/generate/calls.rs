@@ -2,7 +2,7 @@
 
 use super::handles::{self, is_inactive, Wish};
 use crate::call::{self, Reply};
-use crate::handle::{Handle, Password};
+use crate::handle::{Handle, Password, FLAT};
 use crate::list::{
     Record, Session, CODE_AT, DATA_AT, DATA_LENGTH_AT, FIRST_PASSWORD_AT, HANDLE_AT, MODE_AT,
     MOST_DATA_BYTES, NODE_AT, RECORD_BYTES, SECOND_PASSWORD_AT, SEGMENT_AT, SIZE_AT,
@@ -194,10 +194,14 @@ impl Maker {
             primary: false,
             segments: true,
         };
-        self.put_handle(record, wish);
-        record[SEGMENT_AT] = match self.random.below(4) {
-            0 => self.random.byte(),
-            1 => !(1 << self.random.below(8)),
+        let handle = self.put_handle(record, wish);
+        record[SEGMENT_AT] = match (self.random.below(8), handle.selector.referenced()) {
+            (0, _) => self.random.byte(),
+            (1 | 2, _) => !(1 << self.random.below(8)),
+            (3, _) => 1 << self.random.below(8),
+            // Keeps nothing; not even 255 does where nothing is referenced.
+            (4 | 5, 0) => FLAT,
+            (4, referenced) => self.random.byte() & !referenced,
             _ => self.random.byte() | self.random.byte(),
         };
     }

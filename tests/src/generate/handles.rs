@@ -76,6 +76,9 @@ fn right(random: &mut Random, store: &Store, wish: Wish) -> Handle {
     } else {
         random.below(6)
     };
+    if times > 0 && random.one_in(8) {
+        return Handle::converted(node, local, &primary, to_nothing(random));
+    }
     for _ in 0..times {
         let mask = random.byte() | random.byte() | random.byte();
         handle = handle.weaken(mask).unwrap_or(handle);
@@ -105,6 +108,17 @@ fn wrong(random: &mut Random, store: &Store, mut handle: Handle) -> Handle {
         }
     }
     handle
+}
+
+/// A selector without gaps that references nothing; one to four subselectors are not flat.
+pub fn to_nothing(random: &mut Random) -> Selector {
+    let mut selector = [FLAT; SUBSELECTORS];
+    let last = random.below(SUBSELECTORS as u64) as usize;
+    for subselector in &mut selector[..=last] {
+        *subselector = (random.byte() | random.byte()) & !(1 << random.below(8));
+    }
+    selector[last] &= !Selector(selector).referenced();
+    Selector(selector)
 }
 
 fn gapped(random: &mut Random) -> Selector {

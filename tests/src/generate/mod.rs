@@ -6,6 +6,7 @@ mod handles;
 use crate::list::{Record, MOST_LIST_BYTES, MOST_RECORDS, NEXT_AT, RECORD_BYTES};
 use crate::random::Random;
 use calls::Maker;
+pub use handles::to_nothing;
 
 /// One list. Equal states of `random` make equal lists.
 pub fn list(random: &mut Random) -> Vec<u8> {

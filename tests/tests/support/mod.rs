@@ -7,6 +7,8 @@ use model::model::run;
 use model::sizes::{MEMORY_BYTES, NODE_BYTES};
 use model::store::Store;
 
+pub mod naive;
+
 pub const READ_SECRET: Password = [0x11; 16];
 pub const WRITE_SECRET: Password = [0x22; 16];
 pub const READ_MODE: u32 = 1;

@@ -1,6 +1,7 @@
 //! Handles by chance: right ones for the store as it is, old ones, and ones with something wrong.
 
 use super::{below, password};
+use model::generate::to_nothing;
 use model::handle::{Handle, Selector, FLAT};
 use model::random::Random;
 use model::sizes::{CLUSTERS, NODES, PASSWORD_BYTES, SUBSELECTORS};
@@ -78,8 +79,13 @@ fn nowhere_active(random: &mut Random) -> Handle {
     }
 }
 
-/// The handle weakened up to four times; mostly one segment at a time, so that some are left.
+/// A primary handle weakened up to four times; mostly one segment at a time, so that some are left.
+/// Or one that references nothing, which no weakening gives, and whose password is right.
 fn weakened(random: &mut Random, mut handle: Handle) -> Handle {
+    if random.one_in(8) {
+        let (node, local, primary) = (handle.node, handle.local, handle.password);
+        return Handle::converted(node, local, &primary, to_nothing(random));
+    }
     for _ in 0..below(random, SUBSELECTORS + 1) {
         let mask = match random.below(4) {
             0 => random.byte() | random.byte(),

@@ -230,11 +230,15 @@ impl Maker<'_> {
     fn weaken(&mut self) -> Call {
         let (mode, _) = self.mode();
         let handle = self.handle(mode, false, true);
-        let mask = match self.random.below(6) {
+        let referenced = handle.selector.referenced();
+        let mask = match self.random.below(8) {
             0 => FLAT,
             1 => 0,
             2 => !(1 << self.random.below(8)),
-            3 => handle.selector.referenced(),
+            3 => 1 << self.random.below(8),
+            4 => referenced,
+            // Keeps nothing that the handle references.
+            5 => self.random.byte() & !referenced,
             _ => self.random.byte(),
         };
         Call::Weaken { mask, handle }

@@ -4,3 +4,4 @@ mod calls;
 mod copies;
 mod damage;
 mod modes;
+mod nothing;

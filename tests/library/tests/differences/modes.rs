@@ -10,7 +10,7 @@ use model::call::{Call, NEW_PASSWORD, REDUCE};
 
 const SEED: u64 = 7;
 const CALLS: u64 = 20_000;
-const RUNS: u64 = 20;
+const RUNS: u64 = 200;
 const BATCHES: u64 = 200;
 
 fn found_out(guard: Guard, code: u8) {

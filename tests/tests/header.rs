@@ -1,0 +1,43 @@
+//! The header's numbers are those of the table, in its order and with its words.
+
+use model::table::{numbers_of_calls, word, DONE};
+
+const HEADER: &str = include_str!("../../include/gelmuszta.h");
+
+/// The lines of the enumeration: name, number, and what its comment says.
+fn lines() -> impl Iterator<Item = (&'static str, u8, Option<&'static str>)> {
+    let numbers = HEADER.split_once("enum gelmuszta_number {").unwrap().1;
+    let numbers = numbers.split_once("};").unwrap().0;
+    let lines = numbers.lines().filter_map(|line| line.split_once(" = "));
+    lines.map(|(name, rest)| {
+        let digits = rest.split(|c: char| !c.is_ascii_digit()).next().unwrap();
+        let comment = rest.split_once("/* ").map(|(_, comment)| comment);
+        (name.trim(), digits.parse().unwrap(), comment)
+    })
+}
+
+#[test]
+fn numbers_in_the_table_s_order() {
+    let numbers: Vec<u8> = lines().map(|(_, number, _)| number).collect();
+    let expected: Vec<u8> = [DONE].into_iter().chain(numbers_of_calls()).collect();
+    assert_eq!(numbers, expected);
+    assert_eq!(numbers[numbers.len() - 3..], [16, 21, 17]);
+}
+
+#[test]
+fn words_and_names() {
+    for (name, number, comment) in lines() {
+        let word = word(number).unwrap();
+        let spelled = word.to_uppercase().replace(' ', "_");
+        let name = name.strip_prefix("GELMUSZTA_").unwrap();
+        assert!(spelled.starts_with(name), "{name} {spelled}");
+        if number != DONE {
+            let said = comment.unwrap().split([',', ':']).next();
+            assert_eq!(said, Some(word));
+        }
+    }
+    let empty = lines().find(|(name, ..)| *name == "GELMUSZTA_EMPTY");
+    assert!(empty.is_some_and(|(_, number, comment)| {
+        number == 21 && comment.is_some_and(|comment| comment.starts_with("empty, 7: "))
+    }));
+}
