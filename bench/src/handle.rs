@@ -169,7 +169,8 @@ impl Handle {
             return refused(GAPPED);
         }
         let common = self.common();
-        if common & mask == 0 {
+        let kept = common & mask;
+        if kept == 0 {
             return refused(EMPTY);
         }
         let excluded = common & !mask;
