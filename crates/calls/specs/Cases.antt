@@ -7,7 +7,7 @@
 --     other b, gap, far, high, idle    handles that reference segment 6 alone, are gapped, name a node above 3, a local
 --                               number above 7, an inactive cluster
 --     spent                     a selector with no flat subselector
---     bare                      a selector of bytes that have no bit in common
+--     nothing                   a selector that references nothing
 --     room, tight               buffers of three bytes and of two
 --     sample                    a store with that cluster: passwords of sixteen 3 and sixteen 4, and three bytes at 0
 --     Case, gives               a number and a call that gets it
@@ -72,9 +72,8 @@ idle = shown 1 3 0 (flats segments)
 abbrev pub spent : List ℕ
 spent = 254 ∷ 253 ∷ 251 ∷ 247 ∷ []
 
--- a selector that references nothing
-abbrev pub bare : List ℕ
-bare = 240 ∷ 15 ∷ 255 ∷ 255 ∷ []
+abbrev pub nothing : List ℕ
+nothing = 240 ∷ 15 ∷ 255 ∷ 255 ∷ []
 
 abbrev pub sample : Store
 sample = putRecord startingStore (recordOf 1 2) (withPlace (started (sixteen 3) (sixteen 4)) 5 (Present 0 3))
@@ -195,7 +194,8 @@ refusals =
     ∷ gives 17 (weakeningBy 239 (shown 1 2 3 spent))
     ∷ gives 21 (weakeningBy 0 (primary 3))
     ∷ gives 21 (weakeningBy 223 (weak 3))
-    ∷ gives 21 (weakeningBy 255 (shown 1 2 3 bare))
+    ∷ gives 21 (weakeningBy 255 (shown 1 2 3 nothing))
+    ∷ gives 21 (weakeningBy 255 (shown 1 2 3 (240 ∷ 15 ∷ 254 ∷ 253 ∷ [])))
     ∷ []
 
 abbrev pub calls : List Case → List Call

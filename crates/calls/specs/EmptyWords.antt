@@ -6,8 +6,8 @@
 --     SixteenGiven         the conversion gives sixteen bytes
 --     SomeGiven r          the reply r has a segment whose bit is set in all four subselectors of the handle given, its bytes
 --                          19 to 22, and a count that is not 0
---     NeverToNothing       so it is whenever a handle of 23 bytes is weakened and the call is done, by a conversion that is
---                          SixteenGiven
+--     NeverToNothing       so it is whenever a handle of 23 bytes is weakened and the call is done; it is proved of each
+--                          conversion that is SixteenGiven
 -- Assumes nothing.
 use mathlib.Core.Path.{_≡_}
 use mathlib.Core.Logic.{_≢_, _↔_}

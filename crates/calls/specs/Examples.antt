@@ -1,4 +1,4 @@
--- Document 01, "Selector and placement examples": P1 to P14 as one list, for any conversion f, any passwords, and any
+-- Document 01, "Selector and placement examples": P1 to P14, with P5 as document 02, §1, has it, as one list, for any conversion f, any passwords, and any
 -- mask where document 01 names none. The rows on selectors and on placement are those of the handle and the store
 -- crate; P5, P6, P8 and P13 stand there as answers, and here once more as the numbers that whole calls get.
 --     Question            what is asked of a selector, of placement, or the number of a call on a store
@@ -17,7 +17,6 @@ use Rattle.handle.specs.Selectors.{flats}
 use Rattle.handle.specs.Handles.{Name, encoded}
 use Rattle.handle.specs.Examples as S
 use Rattle.store.specs.declared.Store.{Store}
-use Rattle.numbers.specs.Numbers.{noRoomNumber, gappedNumber, emptyNumber, spentNumber}
 use Rattle.store.specs.Placement.{Placed}
 use Rattle.store.specs.Examples as P
 use Rattle.calls.specs.Calls.{Call, makingSegment, weakeningBy}
@@ -63,10 +62,10 @@ module _ (f : Name → List ℕ → ℕ → List ℕ) (password first : List ℕ
   -- P5, P6 and P8, whatever the store; P13
   abbrev pub refusals : List Example
   refusals =
-      asks (numbering (weakening 0 (0xfe ∷ 0x7d ∷ 0xff ∷ 0xff ∷ [])) s size) (refused emptyNumber)
-      ∷ asks (numbering (weakening mask (0xff ∷ 0xfe ∷ 0xff ∷ 0xff ∷ [])) s size) (refused gappedNumber)
-      ∷ asks (numbering (weakening 239 (0xfe ∷ 0xfd ∷ 0xfb ∷ 0xf7 ∷ [])) s size) (refused spentNumber)
-      ∷ asks (numbering (making 3937) P.twoSegments memory) (refused noRoomNumber)
+      asks (numbering (weakening 0 (0xfe ∷ 0x7d ∷ 0xff ∷ 0xff ∷ [])) s size) (refused 21)
+      ∷ asks (numbering (weakening mask (0xff ∷ 0xfe ∷ 0xff ∷ 0xff ∷ [])) s size) (refused 4)
+      ∷ asks (numbering (weakening 239 (0xfe ∷ 0xfd ∷ 0xfb ∷ 0xf7 ∷ [])) s size) (refused 17)
+      ∷ asks (numbering (making 3937) P.twoSegments memory) (refused 16)
       ∷ []
 
   unfoldable pub examples : List Example

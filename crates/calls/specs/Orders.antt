@@ -18,7 +18,7 @@ use Rattle.handle.specs.Handles.{Row}
 use Rattle.calls.specs.Calls.{Call, makingCluster, deletingCluster, makingSegment, deletingSegment, reading}
 use Rattle.calls.specs.Calls.{writing, weakeningBy, reducing, renewing, validating}
 use Rattle.calls.specs.Numbers.{at, rows, number}
-use Rattle.calls.specs.Cases.{added, sixteen, shown, primary, weak, other, gap, far, high, idle, spent, bare, room, tight}
+use Rattle.calls.specs.Cases.{added, sixteen, shown, primary, weak, other, gap, far, high, idle, spent, nothing, room, tight}
 use Rattle.calls.specs.Cases.{sample}
 
 abbrev farGap : List ℕ
@@ -61,7 +61,7 @@ orders =
     ∷ over 2 4 (weakeningBy 0 farGap)
     ∷ over 2 17 (weakeningBy 239 (shown 4 2 3 spent))
     ∷ over 2 21 (weakeningBy 0 far)
-    ∷ over 2 21 (weakeningBy 255 (shown 1 8 3 bare))
+    ∷ over 2 21 (weakeningBy 255 (shown 1 8 3 nothing))
     ∷ over 2 3 (reducing 3 far)
     ∷ over 2 3 (renewing 3 high (sixteen 8))
     ∷ over 2 3 (validating 3 far)
@@ -82,7 +82,7 @@ orders =
     ∷ over 4 8 (reducing 1 idleGap)
     ∷ over 4 8 (renewing 1 idleGap (sixteen 8))
     ∷ over 4 8 (validating 1 idleGap)
-    -- 4 above 21: the last of these references nothing, whatever the mask
+    -- 4 above 21; the second handle references nothing, whatever the mask
     ∷ over 4 21 (weakeningBy 0 gap)
     ∷ over 4 21 (weakeningBy 255 (shown 1 2 3 (240 ∷ 255 ∷ 15 ∷ 255 ∷ [])))
     -- 5 above 8

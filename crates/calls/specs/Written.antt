@@ -1,5 +1,5 @@
 -- Document 01, "The calls", the column "Done, it gives and leaves": the whole reply of a call of every kind, done, and of
--- one refused, written out. The conversion and the store are those of the numbers' lists.
+-- some refused, written out. The conversion and the store are those of the numbers' lists.
 --     held               a copy of that store: its segment of three bytes, the first of node 1, has 7, 8, 9
 --     Answered, tells    a call and its whole reply
 --     answered           the calls and their replies
@@ -39,6 +39,7 @@ answered =
     (told 0 (handle 1 2 3 (0 ∷ 255 ∷ 255 ∷ 255 ∷ [])) none 0 0 [])
     ∷ tells (renewing 2 (primary 1 2 4) (sixteen 5)) (told 0 (primary 1 2 5) none 0 0 [])
     ∷ tells (validating 2 (primary 1 2 4)) (told 0 none none 0 0 [])
+    ∷ tells (validating 1 (handle 1 2 51 (16 ∷ 32 ∷ 255 ∷ 255 ∷ []))) (told 0 none none 0 0 [])
     ∷ tells (reading 5 (primary 1 2 4) (1 ∷ 2 ∷ 3 ∷ 4 ∷ [])) (told 9 none none 0 0 (1 ∷ 2 ∷ 3 ∷ 4 ∷ []))
     ∷ tells (weakeningBy 32 (primary 1 2 3)) (told 0 (handle 1 2 35 (32 ∷ 255 ∷ 255 ∷ 255 ∷ [])) none 1 0 [])
     ∷ tells (weakeningBy 0 (primary 1 2 3)) (told 21 none none 0 0 [])

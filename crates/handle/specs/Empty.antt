@@ -1,6 +1,7 @@
 -- Document 02, §1, "No handles to nothing": what 21 means of the handle that weakening would make, for every width w and
--- every conversion f. The handle h has a flat subselector or loses nothing: otherwise weakening makes no handle of it.
---     NoneLeft           the mask keeps none just where that handle would reference no segment
+-- every conversion f.
+--     NoneLeft           where h has a flat subselector or nothing is excluded, so that weakening makes a handle: the mask
+--                        keeps none just where that handle would reference no segment
 --     SomeLeft           the handle given references some segment, and the count told is not 0
 --     DoneReferences     so it is whenever the weakening is done
 -- Assumes nothing.

@@ -20,7 +20,7 @@
 --     converted p s      p through f with the subselector s; a flat one is skipped
 --     through ss p       p through f with each subselector that is not flat, 0 first
 --     validates p h      the primary password p ends as the password of h
---     weakened h m       what weakening by the mask m makes of h, where h is not spent
+--     weakened h m       what weakening by the mask m makes of h, where it is not refused
 --     made h p s         the set s of segments in subselector 0, its password made from the primary password p
 --     reduced h p        what reduction makes of h, from the primary password p of its mode
 --     weakening h m      the reply of call 7

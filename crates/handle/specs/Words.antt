@@ -11,8 +11,8 @@
 --                           says
 --     Cut f m h j r         r is h but for subselector j, a byte: 255 less the bits of the excluded segments; its password
 --                           is that of h through f with this byte
---     WeakenedInWords       where none is excluded the handle comes back unchanged; otherwise it is cut at the first
---                           subselector that is 255
+--     WeakenedInWords       what weakening makes, where it is not refused: if none is excluded the handle as it came;
+--                           otherwise it is cut at the first subselector that is 255
 --     CountInWords          the count has 1 for each segment that is referenced, and nothing for the others
 -- Assumes nothing.
 use mathlib.Core.Path.{_≡_}

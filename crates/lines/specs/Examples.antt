@@ -49,6 +49,7 @@ examples =
     -- refused calls, a bad code among them
     ∷ prints (callLine 100 1 (answered 7 noHandle noHandle 0) []) "100 1 7\n"
     ∷ prints (callLine 99 255 (answered 3 noHandle noHandle 0) []) "99 255 3\n"
+    ∷ prints (callLine 20 7 (answered 21 noHandle noHandle 0) []) "20 7 21\n"
     -- an empty list, and a refused one
     ∷ prints (endLine 0) "end 0\n"
     ∷ prints (refusedLine 18) "list 18\n"

@@ -6,10 +6,13 @@
 --                            count (7); the count is decimal, the others are hexadecimal
 --     told code a s          what stands after the number: of a call done what it gives, of a refused call nothing
 --     callLine k code a s    the line of record k: record number, code and number in decimal, and what is told
+--     RefusedStops           the line of a refused call stops at its number
 --     wordLine w n           the line of a word and a number
 --     endLine n              the last line, where the chain has n records
 --     refusedLine n          the single line of a list that is refused with n
 -- Assumes nothing.
+use mathlib.Core.Path.{_≡_}
+use mathlib.Core.Logic.{_≢_}
 use Prim.Native.Nat.{ℕ}
 use mathlib.Core.Bool.{cond, _||_}
 use mathlib.Core.List.{List, [], _∷_, _++_}
@@ -36,6 +39,11 @@ told code a s = cond (eqb (a .number) 0) (gives code a s) []
 
 unfoldable pub callLine : ℕ → ℕ → Answer → List ℕ → List ℕ
 callLine k code a s = line (decimal k) (decimal code ∷ decimal (a .number) ∷ told code a s)
+
+abbrev pub RefusedStops : Type 0
+RefusedStops =
+    (k code : ℕ) (a : Answer) (s : List ℕ) → a .number ≢ 0
+    → callLine k code a s ≡ line (decimal k) (decimal code ∷ decimal (a .number) ∷ [])
 
 unfoldable pub wordLine : List ℕ → ℕ → List ℕ
 wordLine w n = line w (decimal n ∷ [])

@@ -148,7 +148,8 @@ codesList =
     ++ handled (10 ∷ 4 ∷ 1 ∷ 0 ∷ 6 ∷ 0 ∷ 0 ∷ 0 ∷ []) 0x22 (replicate 32 0)
     ++ handled (11 ∷ 2 ∷ 1 ∷ 0 ∷ 0 ∷ 0 ∷ 0 ∷ 0 ∷ []) 0x22 (replicate 32 0)
     ++ handled (12 ∷ 10 ∷ 0 ∷ 0 ∷ 0 ∷ 0 ∷ 0 ∷ 0 ∷ []) 0x22 (replicate 32 0)
-    ++ handled (0 ∷ 6 ∷ 0 ∷ 0 ∷ 6 ∷ 33 ∷ 0 ∷ 0 ∷ []) 0x22 (replicate 32 0)
+    ++ handled (13 ∷ 6 ∷ 0 ∷ 0 ∷ 6 ∷ 33 ∷ 0 ∷ 0 ∷ []) 0x22 (replicate 32 0)
+    ++ handled (0 ∷ 7 ∷ 0 ∷ 0 ∷ 0 ∷ 0 ∷ 0 ∷ 0 ∷ []) 0x22 (replicate 32 0)
 
 abbrev codesText : List ℕ
 codesText =
@@ -164,7 +165,8 @@ codesText =
     ++ ascii "10 2 0\n"
     ++ ascii "11 10 3\n"
     ++ ascii "12 6 3\n"
-    ++ ascii "end 12\n"
+    ++ ascii "13 7 21\n"
+    ++ ascii "end 13\n"
 
 abbrev fullList : List ℕ
 fullList =
