@@ -5,7 +5,7 @@
 --                        mask gives; what it is reduced to
 --     Told               a set of segments and a count; the whole reply of a weakening; a whole handle
 --     Example            a question and its answer
---     refused n          the whole reply of a weakening that is refused with n, written out
+--     given h c, refused n    the whole reply of a weakening that is done, and of one that is refused with n, written out
 --     presented ss p     the handle that is asked about, with the selector ss and the password p
 --     examples           the list; more rows say that a primary handle is its own reduction, that a gap higher up is one
 --                        too, and where 21 begins and ends
@@ -18,7 +18,7 @@ use Rattle.sizes.specs.Sizes.{segments}
 use Rattle.handle.specs.declared.Handle.{Handle}
 use Rattle.handle.specs.declared.Weakened.{Weakened}
 use Rattle.handle.specs.Selectors.{common, referenced}
-use Rattle.handle.specs.Handles.{reply, weakening, reduced}
+use Rattle.handle.specs.Handles.{weakening, reduced}
 
 pub data Question : Type 0 where
   referencing : List ℕ → Question
@@ -52,6 +52,9 @@ noneLeft = 0xf0 ∷ 0x0f ∷ 0xff ∷ 0xff ∷ []
 abbrev presented : List ℕ → List ℕ → Handle
 presented ss p = record { node = 0; local = 2; password = p; selector = ss }
 
+abbrev given : Handle → ℕ → Told
+given h c = weaker (record { number = 0; handle = h; count = c })
+
 abbrev refused : ℕ → Told
 refused n =
     weaker (record {
@@ -68,17 +71,17 @@ module _ (f : List ℕ → ℕ → List ℕ) (password first : List ℕ) (mask :
       -- P2, P3: the parameter is 243 for either mask
       ∷ asks (referencing twoCut) (segmentSet 124 5)
       ∷ asks (weakeningBy 112 twoCut)
-      (weaker (reply 0 (presented (0xfe ∷ 0x7d ∷ 0xf3 ∷ 0xff ∷ []) (f password 243)) 3))
+      (given (presented (0xfe ∷ 0x7d ∷ 0xf3 ∷ 0xff ∷ []) (f password 243)) 3)
       ∷ asks (weakeningBy 243 twoCut)
-      (weaker (reply 0 (presented (0xfe ∷ 0x7d ∷ 0xf3 ∷ 0xff ∷ []) (f password 243)) 3))
+      (given (presented (0xfe ∷ 0x7d ∷ 0xf3 ∷ 0xff ∷ []) (f password 243)) 3)
       -- P4, P5
-      ∷ asks (weakeningBy 124 twoCut) (weaker (reply 0 (presented twoCut password) 5))
+      ∷ asks (weakeningBy 124 twoCut) (given (presented twoCut password) 5)
       ∷ asks (weakeningBy 0 twoCut) (refused 21)
       -- P6, and a gap higher up
       ∷ asks (weakeningBy mask (0xff ∷ 0xfe ∷ 0xff ∷ 0xff ∷ [])) (refused 4)
       ∷ asks (weakeningBy mask (0xfe ∷ 0xff ∷ 0x7d ∷ 0xff ∷ [])) (refused 4)
       -- P7, P8, P9
-      ∷ asks (weakeningBy 240 fourCut) (weaker (reply 0 (presented fourCut password) 4))
+      ∷ asks (weakeningBy 240 fourCut) (given (presented fourCut password) 4)
       ∷ asks (weakeningBy 239 fourCut) (refused 17)
       ∷ asks (reducing fourCut) (handle (presented (0xf0 ∷ 0xff ∷ 0xff ∷ 0xff ∷ []) (f first 0xf0)))
       -- document 02, §1: 21 before 17; whatever the mask, where the handle references none, and with no flat subselector too;
@@ -89,9 +92,9 @@ module _ (f : List ℕ → ℕ → List ℕ) (password first : List ℕ) (mask :
       ∷ asks (weakeningBy mask (0xf0 ∷ 0x0f ∷ 0xfe ∷ 0xfd ∷ [])) (refused 21)
       ∷ asks (weakeningBy 131 twoCut) (refused 21)
       ∷ asks (weakeningBy 128 primary)
-      (weaker (reply 0 (presented (0x80 ∷ 0xff ∷ 0xff ∷ 0xff ∷ []) (f password 0x80)) 1))
+      (given (presented (0x80 ∷ 0xff ∷ 0xff ∷ 0xff ∷ []) (f password 0x80)) 1)
       ∷ asks (weakeningBy 132 twoCut)
-      (weaker (reply 0 (presented (0xfe ∷ 0x7d ∷ 0x87 ∷ 0xff ∷ []) (f password 0x87)) 1))
+      (given (presented (0xfe ∷ 0x7d ∷ 0x87 ∷ 0xff ∷ []) (f password 0x87)) 1)
       ∷ asks (reducing noneLeft) (handle (presented (0x00 ∷ 0xff ∷ 0xff ∷ 0xff ∷ []) (f first 0x00)))
       -- a primary handle
       ∷ asks (reducing primary) (handle (presented primary password))
