@@ -15,6 +15,7 @@ use Rattle.handle.specs.declared.Handle.{Handle}
 use Rattle.handle.specs.declared.Weakened.{Weakened}
 use Rattle.handle.specs.Selectors.{firstFlat, parameter}
 use Rattle.handle.specs.Handles.{Name, nameOf, nodeOf, encoded, decoded, noSuchPlace, weakenNumber, weakening}
+use Rattle.handle.specs.Conversion.{SixteenBytes}
 use Rattle.handle.specs.Empty.{SomeLeft}
 use Rattle.handle.proofs.HandleLaws.{weakened-cases}
 use Rattle.handle.proofs.EmptyLaws.{empty-out, empty-in, handle-done, done-references}
@@ -23,7 +24,7 @@ use Rattle.calls.specs.Calls.{Call, Kind, weaken, call, handleOf}
 use Rattle.calls.specs.Numbers.{emptyHandle, at, rows, number}
 use Rattle.calls.specs.Words.{Named, Handled, Taken, Bit}
 use Rattle.calls.specs.Steps.{Outcome, weakenReply}
-use Rattle.calls.specs.EmptyWords.{Emptied, EmptyInWords, SixteenGiven, SomeGiven, NeverToNothing}
+use Rattle.calls.specs.EmptyWords.{Emptied, EmptyInWords, SomeGiven, NeverToNothing}
 use Rattle.calls.proofs.FirstLaws.{first-holding}
 use Rattle.calls.proofs.TestLaws.{Is, off-is, or-is, le-is}
 use Rattle.calls.proofs.KindLaws.{other-kind}
@@ -104,7 +105,7 @@ module _ (f : Name → List ℕ → ℕ → List ℕ) where
       at : 19 + k ≡ suc (suc (suc (length (h .password) + k)))
       at = omega arith
 
-  pub never-to-nothing : SixteenGiven f → NeverToNothing f
+  pub never-to-nothing : SixteenBytes f → NeverToNothing f
   unfolding decoded
   never-to-nothing sixteen g c l d = subst (λ (o : Outcome). SomeGiven (o .reply)) (sym (step-weaken f g c)) left
     where

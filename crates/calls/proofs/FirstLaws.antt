@@ -12,7 +12,7 @@ use Rattle.handle.specs.Handles.{Row, firstOf}
 use Rattle.store.specs.declared.Store.{Store}
 use Rattle.calls.specs.Calls.{Call}
 use Rattle.calls.specs.Numbers.{Line, at}
-use Rattle.calls.specs.Clear.{Clear}
+use Rattle.calls.specs.Clear.{Clear, holding}
 
 module _ (x : Call) (a b : Store) where
   abbrev pub Agree : List Line → Type 0
@@ -30,12 +30,7 @@ module _ (x : Call) (a b : Store) where
       go true e ih = refl
       go false e ih = ih (h .1 (ap (λ (r : Row). r .applies) (h .0) ∙ e))
 
--- some row with the number n applies
-abbrev pub holding : ℕ → List Row → Bool
-holding n [] = false
-holding n (r ∷ rs) = eqb (r .number) n && r .applies || holding n rs
-
--- the number that is told is that of such a row
+-- the number that is told is that of a row which applies
 pub first-holding : (rs : List Row) (n : ℕ) → 0 < n → firstOf rs ≡ n → holding n rs ≡ true
 first-holding [] n h e = absurd (omega arith)
 first-holding (r ∷ rs) n h e = go (r .applies) (first-holding rs n h) e

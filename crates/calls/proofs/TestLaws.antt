@@ -8,7 +8,7 @@ use mathlib.Core.Bool.{Bool, true, false, not, _&&_, _||_, false≢true}
 use lib.Dec.{eqb, leb, ltb}
 use borrow.Author.Tests.{not-true, eqb-true, eq-eqb, leb-true, le-leb, ltb-true, lt-ltb}
 use Rattle.loops.specs.Below.{every}
-use Rattle.loops.proofs.BelowLaws.{every-in, every-at}
+use Rattle.loops.proofs.BelowLaws.{every-in, every-at, test-off}
 
 pub record Is (b : Bool) (A : Type 0) : Type 0 where
   pub out : b ≡ true → A
@@ -21,11 +21,7 @@ pub same-is : {a b : Bool} {A : Type 0} → a ≡ b → Is b A → Is a A
 same-is e h = record { out = λ q. h .out (sym e ∙ q); into = λ x. e ∙ h .into x }
 
 pub off-is : {b : Bool} {A : Type 0} → Is b A → (¬ A) → b ≡ false
-off-is {b} h n = go b (λ e. n (h .out e))
-  where
-    go : (t : Bool) → (t ≡ true → ⊥) → t ≡ false
-    go true f = absurd (f refl)
-    go false f = refl
+off-is {b} h n = test-off b (λ e. n (h .out e))
 
 pub not-is : {b : Bool} {A : Type 0} → Is b A → Is (not b) (¬ A)
 not-is {b} {A} h = go b h

@@ -1,6 +1,6 @@
 -- Document 01, calls done at their bounds, as computed lists: node 3, local number 7, segment 7, size 4,096, a buffer or
--- data exactly as long as the segment, one segment left by a mask, both modes, for every kind that has such an argument. The shorthands are those of
--- the numbers' lists.
+-- data exactly as long as the segment, one segment left by a mask, both modes, for every kind that has such an
+-- argument. The shorthands are those of the numbers' lists.
 --     corner b             the primary handle, with sixteen bytes b, of node 3 and local number 7
 --     bare, edge           stores with that cluster: no segment; segment 7, the last three bytes of the node's memory
 --     free, empty, full    calls done on the starting store, on the bare one, and on the one with the segment

@@ -1,5 +1,5 @@
--- Document 01, "Numbers a call may be turned down with", with document 02's 21, as computed lists. The conversion adds its parameter to the
--- first byte, and gives sixteen such bytes.
+-- Document 01, "Numbers a call may be turned down with", with document 02's 21, as computed lists. The conversion adds
+-- its parameter to the first byte, and gives sixteen such bytes.
 --     added                     that conversion
 --     sixteen b                 sixteen bytes b
 --     shown v l b ss            the bytes of the handle of node v and local number l: sixteen bytes b, the selector ss

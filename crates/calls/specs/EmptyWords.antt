@@ -3,11 +3,10 @@
 --     Emptied x            the call is a weakening, its handle's node is at most 3 and its local number at most 7, the
 --                          selector is not gapped, and no segment would be left
 --     EmptyInWords         21 is given just to such calls: of every call that is Taken, every store and size
---     SixteenGiven         the conversion gives sixteen bytes
---     SomeGiven r          the reply r has a segment whose bit is set in all four subselectors of the handle given, its bytes
---                          19 to 22, and a count that is not 0
---     NeverToNothing       so it is whenever a handle of 23 bytes is weakened and the call is done; it is proved of each
---                          conversion that is SixteenGiven
+--     SomeGiven r          the reply r has a segment whose bit is set in all four subselectors of the handle given, its
+--                          bytes 19 to 22, and a count that is not 0
+--     NeverToNothing       so it is whenever a handle of 23 bytes is weakened and the call is done; it is proved of
+--                          each conversion that gives sixteen bytes
 -- Assumes nothing.
 use mathlib.Core.Path.{_≡_}
 use mathlib.Core.Logic.{_≢_, _↔_}
@@ -40,9 +39,6 @@ pub record SomeGiven (r : Reply) : Type 0 where
 module _ (f : Name → List ℕ → ℕ → List ℕ) where
   abbrev pub EmptyInWords : Type 0
   EmptyInWords = (x : Call) (s : Store) (size : ℕ) → Taken x → (number f x s size ≡ 21) ↔ Emptied x
-
-  abbrev pub SixteenGiven : Type 0
-  SixteenGiven = (n : Name) (p : List ℕ) (s : ℕ) → length (f n p s) ≡ 16
 
   abbrev pub NeverToNothing : Type 0
   NeverToNothing =

@@ -1,6 +1,7 @@
--- Document 01, "Selector and placement examples": P1 to P14, with P5 as document 02, §1, has it, as one list, for any conversion f, any passwords, and any
--- mask where document 01 names none. The rows on selectors and on placement are those of the handle and the store
--- crate; P5, P6, P8 and P13 stand there as answers, and here once more as the numbers that whole calls get.
+-- Document 01, "Selector and placement examples": P1 to P14, with P5 as document 02, §1, has it, as one list, for any
+-- conversion f, any passwords, and any mask where document 01 names none. The rows on selectors and on placement are
+-- those of the handle and the store crate; P5, P6, P8 and P13 stand there as answers, and here once more as the numbers
+-- that whole calls get.
 --     Question            what is asked of a selector, of placement, or the number of a call on a store
 --     Told                what is told
 --     Example, tells      a question and what is told; what the definitions tell

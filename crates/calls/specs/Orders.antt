@@ -9,15 +9,14 @@
 -- Assumes nothing.
 use mathlib.Core.Path.{_≡_}
 use Prim.Native.Nat.{ℕ}
-use mathlib.Core.Bool.{Bool, true, false, _&&_, _||_}
+use mathlib.Core.Bool.{Bool, true}
 use mathlib.Core.List.{List, [], _∷_, map}
-use lib.Dec.{eqb}
 use Rattle.sizes.specs.Sizes.{segments, memory}
 use Rattle.handle.specs.Selectors.{flats}
-use Rattle.handle.specs.Handles.{Row}
 use Rattle.calls.specs.Calls.{Call, makingCluster, deletingCluster, makingSegment, deletingSegment, reading}
 use Rattle.calls.specs.Calls.{writing, weakeningBy, reducing, renewing, validating}
 use Rattle.calls.specs.Numbers.{at, rows, number}
+use Rattle.calls.specs.Clear.{holding}
 use Rattle.calls.specs.Cases.{added, sixteen, shown, primary, weak, other, gap, far, high, idle, spent, nothing, room, tight}
 use Rattle.calls.specs.Cases.{sample}
 
@@ -38,12 +37,8 @@ pub record Order : Type 0 where
 abbrev over : ℕ → ℕ → Call → Order
 over u l x = record { upper = u; lower = l; call = x }
 
-abbrev among : ℕ → List Row → Bool
-among n [] = false
-among n (r ∷ rs) = eqb (r .number) n && r .applies || among n rs
-
 abbrev pub applies : ℕ → Call → Bool
-applies n x = among n (at x sample (rows added memory))
+applies n x = holding n (at x sample (rows added memory))
 
 -- every two rows that stand next to each other for a call, where they can meet: a segment that is absent has no length,
 -- and a gapped handle has a flat subselector

@@ -1,7 +1,7 @@
 -- Document 01, "Numbers a call may be turned down with", row by row in the table's own words and numbers, with document 02's
--- 21; nothing here is a test, and `number` (Numbers) is held to it both ways. The calls that a row names are listed by kind, in the order of
--- their codes; validation stands with call 8, whose number it gives. The cluster of node v and local number l is record
--- v * 8 + l.
+-- 21; nothing here is a test, and `number` (Numbers) is held to it both ways. The calls that a row names are listed by
+-- kind, in the order of their codes; validation stands with call 8, whose number it gives. The cluster of node v and
+-- local number l is record v * 8 + l.
 --     Named ks x           the call x is of one of the kinds ks
 --     Handled x            the call takes a handle: all but 1
 --     Taken x              it takes it as 23 bytes

@@ -4,29 +4,22 @@
 use mathlib.Core.Path.{_≡_, refl, sym, ap, _∙_}
 use Prim.Native.Nat.{ℕ, zero, suc, _<_}
 use native.Mathlib.Omega.{arith}
-use mathlib.Core.Bool.{Bool, true, false, cond, false≢true}
+use mathlib.Core.Bool.{Bool, true, false, false≢true}
 use mathlib.Core.List.{List}
 use borrow.Author.Tests.{eqb-false}
 use Rattle.bits.proofs.SetLaws.{count-out, count-in}
+use Rattle.loops.proofs.BelowLaws.{test-off}
 use Rattle.handle.specs.declared.Handle.{Handle}
 use Rattle.handle.specs.declared.Weakened.{Weakened}
-use Rattle.numbers.specs.Numbers.{placeNumber, gappedNumber, emptyNumber, spentNumber}
+use Rattle.numbers.specs.Numbers.{emptyNumber}
 use Rattle.handle.specs.Selectors.{references, keeps, gapped, keepsNone, spent, referenced}
 use Rattle.handle.specs.Handles.{noSuchPlace, reply, weakenNumber, weakened, weakening}
 use Rattle.handle.specs.Empty.{NoneLeft, SomeLeft, DoneReferences}
-use Rattle.handle.proofs.HandleLaws.{some-kept, unspent, references-weakened}
+use Rattle.handle.proofs.HandleLaws.{telling, some-kept, unspent, references-weakened}
 
 module _ (w : ℕ) (f : List ℕ → ℕ → List ℕ) (h : Handle) (mask : ℕ) where
   abbrev kept : ℕ → Bool
   kept = keeps mask (h .selector)
-
-  off : (b : Bool) → (b ≡ true → ⊥) → b ≡ false
-  off true n = absurd (n refl)
-  off false n = refl
-
-  on : (b : Bool) → (b ≡ false → ⊥) → b ≡ true
-  on true n = refl
-  on false n = absurd (n refl)
 
   pub none-left : NoneLeft w f h mask
   none-left u = (out, into)
@@ -34,19 +27,20 @@ module _ (w : ℕ) (f : List ℕ → ℕ → List ℕ) (h : Handle) (mask : ℕ)
       out : keepsNone w mask (h .selector) ≡ true → (i : ℕ) → i < w → references (weakened w f h mask .selector) i ≡ false
       out e i l =
           references-weakened w f h mask u i l
-          ∙ off (kept i) (λ q. false≢true (sym (count-in w kept i l q) ∙ e))
+          ∙ test-off (kept i) (λ q. false≢true (sym (count-in w kept i l q) ∙ e))
 
       into : ((i : ℕ) → i < w → references (weakened w f h mask .selector) i ≡ false)
           → keepsNone w mask (h .selector) ≡ true
-      into n = on (keepsNone w mask (h .selector)) (λ e. found (count-out w kept e))
+      into n = go (keepsNone w mask (h .selector)) refl
         where
           found : (i : ℕ) × (i < w) × (kept i ≡ true) → ⊥
           found s = false≢true (sym (n (s .0) (s .1)) ∙ references-weakened w f h mask u (s .0) (s .1) ∙ s .2)
 
-  -- ---- 21, among the four rows
+          go : (b : Bool) → keepsNone w mask (h .selector) ≡ b → b ≡ true
+          go true e = refl
+          go false e = absurd (found (count-out w kept e))
 
-  abbrev telling : Bool → Bool → Bool → Bool → ℕ
-  telling a b c d = cond a placeNumber (cond b gappedNumber (cond c emptyNumber (cond d spentNumber 0)))
+  -- ---- 21, among the four rows
 
   pub empty-out : weakenNumber w h mask ≡ emptyNumber
       → (noSuchPlace h ≡ false) × (gapped w (h .selector) ≡ false) × (keepsNone w mask (h .selector) ≡ true)

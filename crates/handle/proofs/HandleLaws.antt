@@ -26,17 +26,17 @@ use Rattle.handle.proofs.SelectorLaws.{rest-flat, rest-ungapped, common
 use Rattle.handle.proofs.SelectorLaws.{has-parameter, parameter-not-flat, parameter-lt, keeps-each, kept}
 use Rattle.handle.proofs.SelectorLaws.{references-inFirst, gapped-inFirst}
 
+-- the number by the tests of the four rows
+abbrev pub telling : Bool → Bool → Bool → Bool → ℕ
+telling a b c d = cond a placeNumber (cond b gappedNumber (cond c emptyNumber (cond d spentNumber 0)))
+
 -- a weakening that is not turned down keeps something and is not spent
 module _ (w : ℕ) (h : Handle) (mask : ℕ) (e : weakenNumber w h mask ≡ 0) where
-  abbrev none : Bool
-  none = keepsNone w mask (h .selector)
-
-  clear : (none ≡ false) × (spent w mask (h .selector) ≡ false)
+  clear : (keepsNone w mask (h .selector) ≡ false) × (spent w mask (h .selector) ≡ false)
   unfolding weakenNumber
-  clear = go (noSuchPlace h) (gapped w (h .selector)) none (spent w mask (h .selector)) e
+  clear = go (noSuchPlace h) (gapped w (h .selector)) (keepsNone w mask (h .selector)) (spent w mask (h .selector)) e
     where
-      go : (a b c d : Bool) → cond a placeNumber (cond b gappedNumber (cond c emptyNumber (cond d spentNumber 0))) ≡ 0
-          → (c ≡ false) × (d ≡ false)
+      go : (a b c d : Bool) → telling a b c d ≡ 0 → (c ≡ false) × (d ≡ false)
       go true b c d e = absurd (omega arith)
       go false true c d e = absurd (omega arith)
       go false false true d e = absurd (omega arith)

@@ -3,7 +3,7 @@
 -- Assumes nothing.
 use mathlib.Core.Path.{_≡_, refl, sym, ap, _∙_, subst}
 use mathlib.Core.Logic.{_≢_, _⊎_, inl, inr, _↔_}
-use Prim.Native.Nat.{ℕ, zero, suc, _+_, _<_}
+use Prim.Native.Nat.{ℕ, zero, suc, _<_}
 use native.Mathlib.Omega.{arith}
 use mathlib.Core.Bool.{Bool, true, false, not, _&&_, false≢true}
 use mathlib.Core.List.{List, [], _∷_}
@@ -12,10 +12,10 @@ use lib.Seq.{getD-set-same, getD-set-other}
 use borrow.Author.Tests.{eqb-true, eq-eqb, ne-eqb}
 use Rattle.bits.specs.Sets.{has, one, setOf, count}
 use Rattle.bits.proofs.SetLaws.{setOf-lt, has-setOf, setOf-same, count-none}
-use Rattle.loops.proofs.BelowLaws.{and-left, and-right, and-both}
+use Rattle.loops.proofs.BelowLaws.{and-left, and-right, and-both, test-off}
 use Rattle.handle.specs.declared.Handle.{Handle}
 use Rattle.handle.specs.Selectors.{references, excludes, flat, allFlat, firstFlat, common, keepsAll, parameter}
-use Rattle.handle.specs.Handles.{renewed, weakened, reduced}
+use Rattle.handle.specs.Handles.{renewed, reduced}
 use Rattle.handle.specs.Words.{Bit, subselector, Four, References, Excluded, Common, ReducedInWords}
 use Rattle.handle.specs.Words.{Cut, WeakenedInWords, CountInWords}
 use Rattle.handle.proofs.SelectorLaws.{first-here, first-past, has-parameter, parameter-lt, keeps-each}
@@ -147,15 +147,11 @@ module _ (h : Handle) (e : Four h) where
         clear true n = absurd (n refl)
         clear false n = refl
 
-    off : (b : Bool) → (b ≡ true → ⊥) → b ≡ false
-    off true n = absurd (n refl)
-    off false n = refl
-
     none-excluded : ((i : ℕ) → i < 8 → ¬ Excluded h mask i) → keepsAll 8 mask ss ≡ true
     none-excluded n =
         count-none 8 (excludes mask ss)
         ∙ eq-eqb (setOf 8 (excludes mask ss)) 0
-        (setOf-same 8 (excludes mask ss) (λ i. false) (λ i l. off (excludes mask ss i) (λ q. n i l (excluded-out i q)))
+        (setOf-same 8 (excludes mask ss) (λ i. false) (λ i l. test-off (excludes mask ss i) (λ q. n i l (excluded-out i q)))
         ∙ no-bits)
 
     some-excluded : (i : ℕ) → i < 8 → Excluded h mask i → keepsAll 8 mask ss ≡ true → ⊥
@@ -188,7 +184,7 @@ module _ (h : Handle) (e : Four h) where
         of-bit i b = (
           λ q x. go (excludes mask ss i) (excluded-in i x) (sym (has-parameter 8 mask ss i b) ∙ bit-in i v q),
           λ n. bit-out i v
-              (has-parameter 8 mask ss i b ∙ ap not (off (excludes mask ss i) (λ q. n (excluded-out i q)))),
+              (has-parameter 8 mask ss i b ∙ ap not (test-off (excludes mask ss i) (λ q. n (excluded-out i q)))),
         )
           where
             go : (t : Bool) → t ≡ true → not t ≡ true → ⊥

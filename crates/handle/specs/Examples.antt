@@ -84,8 +84,8 @@ module _ (f : List ℕ → ℕ → List ℕ) (password first : List ℕ) (mask :
       ∷ asks (weakeningBy 240 fourCut) (given (presented fourCut password) 4)
       ∷ asks (weakeningBy 239 fourCut) (refused 17)
       ∷ asks (reducing fourCut) (handle (presented (0xf0 ∷ 0xff ∷ 0xff ∷ 0xff ∷ []) (f first 0xf0)))
-      -- document 02, §1: 21 before 17; whatever the mask, where the handle references none, and with no flat subselector too;
-      -- one segment kept, and none; reduced as ever
+      -- document 02, §1: 21 before 17; whatever the mask, where the handle references none, and with no flat subselector
+      -- too; one segment kept, and none; reduced as ever
       ∷ asks (weakeningBy 0 fourCut) (refused 21)
       ∷ asks (weakeningBy 15 fourCut) (refused 21)
       ∷ asks (weakeningBy mask noneLeft) (refused 21)

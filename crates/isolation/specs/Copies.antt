@@ -25,10 +25,11 @@ use mathlib.Core.Bool.{Bool, true, false, not, _&&_}
 use mathlib.Core.List.{List, [], _∷_}
 use lib.Dec.{eqb}
 use lib.ListN.{length, getD}
-use Rattle.sizes.specs.Sizes.{segments, passwordBytes}
+use Rattle.sizes.specs.Sizes.{segments}
 use Rattle.handle.specs.declared.Handle.{Handle}
 use Rattle.handle.specs.Selectors.{gapped}
 use Rattle.handle.specs.Handles.{Name, nodeOf, widthOf}
+pub use Rattle.handle.specs.Conversion.{SixteenBytes}
 use Rattle.store.specs.declared.Place.{Place}
 use Rattle.store.specs.declared.Place.the-variants.{Absent, Present}
 use Rattle.store.specs.declared.Store.{Store}
@@ -47,9 +48,6 @@ InPlace v (Present base size) a = (address v base ≤ a) × (a < address v base 
 
 abbrev pub Done : (Name → List ℕ → ℕ → List ℕ) → Call → Copy → Type 0
 Done f x c = number f x (c .store) (length (c .memory)) ≡ 0
-
-abbrev pub SixteenBytes : (Name → List ℕ → ℕ → List ℕ) → Type 0
-SixteenBytes f = (n : Name) (p : List ℕ) (c : ℕ) → length (f n p c) ≡ passwordBytes
 
 module _ (node local : ℕ) where
   abbrev pub setApart : ℕ
