@@ -36,7 +36,7 @@ module _ (f : Name → List ℕ → ℕ → List ℕ) (g : Arguments) where
       w = weakened (widthOf h) (f (nameOf h)) h (g .mask)
 
       bare : ℕ → List ℕ → Reply
-      bare n b = record { number = n; first = b; second = zeroHandle; count = 0; length = 0; buffer = [] }
+      bare n b = record { number = n; first = b; second = zeroHandle; count = 0; length = 0; buffer = []; shown = [] }
 
       go : (n : ℕ) → outcome f n x c
           ≡ record { copy = c; reply = weakenReply (reply n w (referenced (widthOf h) (w .selector))) }

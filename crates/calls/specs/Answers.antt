@@ -1,6 +1,6 @@
 -- How the code's answers are replies.
 --     copyOf s m             the copy of these records and this memory
---     replied a b            the reply that the code's answer a and the buffer b make
+--     replied a b            the reply that the code's answer a and the buffer b make; no bytes are shown
 --     ended s m a b          what is left and given: the records s, the memory m, the answer a, the buffer b
 --     numberAlone n          the answer that gives the number n and nothing else
 --     handlesAlone a b       the answer of a call done that gives the handles a and b
@@ -9,7 +9,7 @@
 --     recordAlone c n        the record c, and the number n alone
 -- Assumes nothing.
 use Prim.Native.Nat.{ℕ}
-use mathlib.Core.List.{List}
+use mathlib.Core.List.{List, []}
 use Rattle.store.specs.declared.Cluster.{Cluster}
 use Rattle.store.specs.declared.Store.{Store}
 use Rattle.calls.specs.declared.Answer.{Answer}
@@ -30,6 +30,7 @@ replied a b =
       count = a .count;
       length = a .length;
       buffer = b;
+      shown = [];
     }
 
 abbrev pub ended : Store → List ℕ → Answer → List ℕ → Outcome

@@ -4,7 +4,8 @@
 --                           four bytes s
 --     primary v l b         with all four bytes of the selector 255
 --     none                  23 zero bytes
---     told n a b c l bs     a reply: the number, the first handle, the second, the count, the length and the buffer
+--     told n a b c l bs     a reply: the number, the first handle, the second, the count, the length and the buffer; no bytes
+--                           are shown
 -- Assumes nothing.
 use Prim.Native.Nat.{ℕ}
 use mathlib.Core.List.{List, [], _∷_, _++_}
@@ -24,4 +25,4 @@ abbrev pub none : List ℕ
 none = replicate 23 0
 
 abbrev pub told : ℕ → List ℕ → List ℕ → ℕ → ℕ → List ℕ → Reply
-told n a b c l bs = record { number = n; first = a; second = b; count = c; length = l; buffer = bs }
+told n a b c l bs = record { number = n; first = a; second = b; count = c; length = l; buffer = bs; shown = [] }

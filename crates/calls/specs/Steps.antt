@@ -1,7 +1,8 @@
 -- Document 01, "The calls": what a call done gives and leaves; what a refusal gives; and "Two copies": a list of calls,
 -- each working on what the one before it left.
---     Reply               the number, two handles as 23 bytes, a count, a length, and the buffer afterwards; a handle
---                         that is not given is 23 zero bytes, a count or length that is not told is zero
+--     Reply               the number, two handles as 23 bytes, a count, a length, the buffer afterwards, and the bytes
+--                         shown; a handle that is not given is 23 zero bytes, a count or length that is not told is
+--                         zero, and where nothing is shown there are no bytes
 --     Outcome, Ran        the copy that a call leaves, and its reply; the copy that a list leaves, and its replies
 --     zeroHandle          23 zero bytes
 --     plain n b           the reply with the number n and the buffer b alone
@@ -67,6 +68,7 @@ pub record Reply : Type 0 where
   pub count : ℕ
   pub length : ℕ
   pub buffer : List ℕ
+  pub shown : List ℕ
 
 pub record Outcome : Type 0 where
   pub copy : Copy
@@ -83,13 +85,13 @@ abbrev pub zeroHandle : List ℕ
 zeroHandle = replicate handleBytes 0
 
 abbrev pub plain : ℕ → List ℕ → Reply
-plain n b = record { number = n; first = zeroHandle; second = zeroHandle; count = 0; length = 0; buffer = b }
+plain n b = record { number = n; first = zeroHandle; second = zeroHandle; count = 0; length = 0; buffer = b; shown = [] }
 
 abbrev pub handles : List ℕ → List ℕ → ℕ → Reply
-handles a b n = record { number = 0; first = a; second = b; count = n; length = 0; buffer = [] }
+handles a b n = record { number = 0; first = a; second = b; count = n; length = 0; buffer = []; shown = [] }
 
 abbrev pub readReply : ℕ → List ℕ → Reply
-readReply n b = record { number = 0; first = zeroHandle; second = zeroHandle; count = 0; length = n; buffer = b }
+readReply n b = record { number = 0; first = zeroHandle; second = zeroHandle; count = 0; length = n; buffer = b; shown = [] }
 
 abbrev pub weakenReply : Weakened → Reply
 weakenReply w =
@@ -100,6 +102,7 @@ weakenReply w =
       count = w .count;
       length = 0;
       buffer = [];
+      shown = [];
     }
 
 -- ---- changes

@@ -1,7 +1,7 @@
 -- What the replies of a kind leave zero, whatever the number: a refusal gives nothing, and a call done only its own.
 -- Assumes nothing.
 use mathlib.Core.Path.{_≡_, refl, sym, ap}
-use mathlib.Core.List.{List}
+use mathlib.Core.List.{List, []}
 use Prim.Native.Nat.{ℕ, zero, suc}
 use lib.ListN.{length}
 use Rattle.handle.specs.Conversion.{product}
@@ -35,6 +35,9 @@ module _ (x : Call) (c : Copy) (r : Reply) (e : given product (x .kind) x c ≡ 
 
   none-length : r .length ≡ 0 → 0 ≡ aesStep x c .reply .length
   none-length h = sym (always (λ (q : Reply). q .length) 0 (λ n b. refl) x c (rw e h))
+
+  none-shown : r .shown ≡ [] → [] ≡ aesStep x c .reply .shown
+  none-shown h = sym (always (λ (q : Reply). q .shown) [] (λ n b. refl) x c (rw e h))
 
 -- ---- what the calls give, once done
 
@@ -117,13 +120,26 @@ done-number validate x c = refl
 
 -- ---- the reply from the fields that the code gives
 
+abbrev whole : ℕ → List ℕ → List ℕ → ℕ → ℕ → List ℕ → List ℕ → Reply
+whole number first second count length buffer shown =
+    record {
+      number = number;
+      first = first;
+      second = second;
+      count = count;
+      length = length;
+      buffer = buffer;
+      shown = shown;
+    }
+
 -- a silent call's reply from its number
 pub silent-known : (x : Call) (c : Copy) → Silent x
     → replyOf (aesStep x c .reply .number) zeroHandle zeroHandle 0 0 (buffer x) ≡ aesStep x c .reply
 unfolding step
 silent-known x c s =
-    λ j. replyOf (aesStep x c .reply .number) (none-first x c _ (s .gives c) refl j) (none-second x c _ (s .gives c) refl j)
+    λ j. whole (aesStep x c .reply .number) (none-first x c _ (s .gives c) refl j) (none-second x c _ (s .gives c) refl j)
     (none-count x c _ (s .gives c) refl j) (none-length x c _ (s .gives c) refl j) (same j)
+    (none-shown x c _ (s .gives c) refl j)
   where
     same : buffer x ≡ aesStep x c .reply .buffer
     same = go (number product x (c .store) (length (c .memory)))
@@ -135,25 +151,25 @@ silent-known x c s =
 module _ (x : Call) (c : Copy) (a : Answer) (b : List ℕ) (e : replied a b ≡ aesStep x c .reply) where
   pub silent-reply : Silent x → replyOf (a .number) zeroHandle zeroHandle 0 0 b ≡ aesStep x c .reply
   silent-reply s =
-      λ j. replyOf (e j .number) (none-first x c _ (s .gives c) refl j) (none-second x c _ (s .gives c) refl j)
-      (none-count x c _ (s .gives c) refl j) (none-length x c _ (s .gives c) refl j) (e j .buffer)
+      λ j. whole (e j .number) (none-first x c _ (s .gives c) refl j) (none-second x c _ (s .gives c) refl j)
+      (none-count x c _ (s .gives c) refl j) (none-length x c _ (s .gives c) refl j) (e j .buffer) (e j .shown)
 
   pub handle-reply : OneHandle x → replyOf (a .number) (a .first) zeroHandle 0 0 b ≡ aesStep x c .reply
   handle-reply s =
-      λ j. replyOf (e j .number) (e j .first) (none-second x c _ (s .gives c) refl j)
-      (none-count x c _ (s .gives c) refl j) (none-length x c _ (s .gives c) refl j) (e j .buffer)
+      λ j. whole (e j .number) (e j .first) (none-second x c _ (s .gives c) refl j)
+      (none-count x c _ (s .gives c) refl j) (none-length x c _ (s .gives c) refl j) (e j .buffer) (e j .shown)
 
   pub handles-reply : TwoHandles x → replyOf (a .number) (a .first) (a .second) 0 0 b ≡ aesStep x c .reply
   handles-reply s =
-      λ j. replyOf (e j .number) (e j .first) (e j .second)
-      (none-count x c _ (s .gives c) refl j) (none-length x c _ (s .gives c) refl j) (e j .buffer)
+      λ j. whole (e j .number) (e j .first) (e j .second)
+      (none-count x c _ (s .gives c) refl j) (none-length x c _ (s .gives c) refl j) (e j .buffer) (e j .shown)
 
   pub count-reply : HandleAndCount x → replyOf (a .number) (a .first) zeroHandle (a .count) 0 b ≡ aesStep x c .reply
   count-reply s =
-      λ j. replyOf (e j .number) (e j .first) (none-second x c _ (s .gives c) refl j) (e j .count)
-      (none-length x c _ (s .gives c) refl j) (e j .buffer)
+      λ j. whole (e j .number) (e j .first) (none-second x c _ (s .gives c) refl j) (e j .count)
+      (none-length x c _ (s .gives c) refl j) (e j .buffer) (e j .shown)
 
   pub length-reply : Length x → replyOf (a .number) zeroHandle zeroHandle 0 (a .length) b ≡ aesStep x c .reply
   length-reply s =
-      λ j. replyOf (e j .number) (none-first x c _ (s .gives c) refl j) (none-second x c _ (s .gives c) refl j)
-      (none-count x c _ (s .gives c) refl j) (e j .length) (e j .buffer)
+      λ j. whole (e j .number) (none-first x c _ (s .gives c) refl j) (none-second x c _ (s .gives c) refl j)
+      (none-count x c _ (s .gives c) refl j) (e j .length) (e j .buffer) (e j .shown)

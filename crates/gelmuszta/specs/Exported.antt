@@ -1,5 +1,5 @@
 -- What an exported call gives and leaves: the store comes and goes as its image, the rest as document 01 has it.
---     replyOf ..            the reply of these values, in the order of the record's fields
+--     replyOf ..            the reply of these values, in the order of the record's fields, which shows no bytes
 --     Exported              the reply, and the image and the memory that are left
 --     returned ..           what an exported function gave and left: its number, two handles, count, length, buffer, image
 --                           and memory; where it gives no such value, zeros stand for it, as in every reply
@@ -22,7 +22,15 @@ use Rattle.numbers.specs.Numbers.{unsoundNumber}
 
 abbrev pub replyOf : ℕ → List ℕ → List ℕ → ℕ → ℕ → List ℕ → Reply
 replyOf number first second count length buffer =
-    record { number = number; first = first; second = second; count = count; length = length; buffer = buffer }
+    record {
+      number = number;
+      first = first;
+      second = second;
+      count = count;
+      length = length;
+      buffer = buffer;
+      shown = [];
+    }
 
 pub record Exported : Type 0 where
   pub reply : Reply
