@@ -24,7 +24,7 @@ bare-sound : sound bare memory ≡ true
 unfolding sounding
 bare-sound = refl
 
-edge-sound : sound edge memory ≡ true
+pub edge-sound : sound edge memory ≡ true
 unfolding sounding
 edge-sound = refl
 

@@ -14,7 +14,9 @@ pub mod WordLaws
 pub mod ValidWords
 pub mod TableLaws
 pub mod BoundLaws
+pub mod InsideLaws
 pub mod ReadWordLaws
+pub mod LookLaws
 pub mod MadeWordLaws
 pub mod WrittenLaws
 pub mod EmptyWordLaws

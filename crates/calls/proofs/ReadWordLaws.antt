@@ -8,21 +8,20 @@ use mathlib.Core.Bool.{false, true≢false}
 use mathlib.Core.List.{List, _++_}
 use lib.ListN.{length, getD, take, drop, length-drop, length-append, List·getD-append}
 use lib.Seq.{length-take-le, getD-take, getD-drop, getD-append-add}
-use borrow.Author.Tests.{ltb-false, leb-false, not-false}
+use borrow.Author.Tests.{ltb-false}
 use Rattle.handle.specs.Handles.{Name, nodeOf}
 use Rattle.store.specs.declared.Place.{Place}
 use Rattle.store.specs.declared.Place.the-variants.{Absent, Present}
 use Rattle.store.specs.Records.{baseOf, lengthOf, address}
-use Rattle.store.specs.Sound.{isAbsent, sound}
-use Rattle.store.specs.SoundWords.{SoundInWords}
-use Rattle.store.proofs.SoundWordLaws.{sound-in-words}
+use Rattle.store.specs.Sound.{isAbsent}
 use Rattle.calls.specs.Calls.{Copy, Call, Arguments, call, read, handleOf}
-use Rattle.calls.specs.Numbers.{unsound, badSegment, segmentAbsent, short, number}
+use Rattle.calls.specs.Numbers.{segmentAbsent, short, number}
 use Rattle.calls.specs.Words.{place}
 use Rattle.calls.specs.Steps.{Outcome, readReply, left, segmentRead, given, step}
 use Rattle.calls.specs.ReadWords.{ReadInWords}
-use Rattle.calls.proofs.DoneLaws.{NoRow, no-row, done-range, done-segment}
+use Rattle.calls.proofs.DoneLaws.{NoRow, no-row}
 use Rattle.calls.proofs.StepLaws.{step-done}
+use Rattle.calls.proofs.InsideLaws.{done-inside}
 
 -- ---- n bytes of m from a on, and then what stands after the first n of b
 
@@ -70,14 +69,6 @@ module _ (f : Name → List ℕ → ℕ → List ℕ) (g : Arguments) (c : Copy)
     abbrev r : NoRow f x (c .store) (length (c .memory))
     r = no-row f x (c .store) (length (c .memory)) e
 
-    whole : SoundInWords (c .store) (length (c .memory))
-    unfolding unsound
-    whole = sound-in-words (c .store) (length (c .memory)) .0 (not-false (sound (c .store) (length (c .memory))) (r .unsound))
-
-    low : g .segment < 8
-    unfolding badSegment
-    low = leb-false 8 (g .segment) (done-segment f x (c .store) (length (c .memory)) e)
-
     fits : lengthOf (place x (c .store)) ≤ length (g .bytes)
     unfolding short
     fits = ltb-false (length (g .bytes)) (lengthOf (place x (c .store))) (r .short)
@@ -114,11 +105,7 @@ module _ (f : Name → List ℕ → ℕ → List ℕ) (g : Arguments) (c : Copy)
         s = step-seen ∙ ap seen q
 
         inside : node * 4096 + base + size ≤ length (c .memory)
-        inside =
-            let d = done-range f x (c .store) (length (c .memory)) e in
-            let n = whole .ends (node * 8 + handleOf x .local) (g .segment) base size (omega arith) low q in
-            let w = whole .slice in
-            omega arith
+        inside = done-inside f x c e refl refl base size q
 
         room : size ≤ length (g .bytes)
         room = subst (λ (p : Place). lengthOf p ≤ length (g .bytes)) q fits

@@ -6,7 +6,7 @@ use mathlib.Core.Path.{_≡_, refl, sym, ap, _∙_, subst}
 use mathlib.Core.Logic.{_≢_, _⊎_, inl, inr}
 use Prim.Native.Nat.{ℕ, _*_, _+_, _<_}
 use native.Mathlib.Omega.{arith}
-use mathlib.Core.Bool.{Bool, true, false, not, _&&_, false≢true, or-false}
+use mathlib.Core.Bool.{Bool, true, false, not, _&&_, _||_, false≢true, or-false}
 use mathlib.Core.List.{[], _∷_}
 use lib.Dec.{eqb, ltb}
 use lib.ListN.{length}
@@ -25,7 +25,7 @@ use Rattle.store.specs.PlacementWords.{Room}
 use Rattle.store.proofs.SoundWordLaws.{sound-in-words}
 use Rattle.store.proofs.PlacementWordLaws.{placement-in-words}
 use Rattle.calls.specs.Calls.{Call, newCluster, newSegment, read, write, weaken}
-use Rattle.calls.specs.Calls.{among, opens, uses, handleOf, presented, anyOf}
+use Rattle.calls.specs.Calls.{among, isLook, opens, uses, handleOf, presented, anyOf}
 use Rattle.calls.specs.Calls.{buffer, nodeFor, recordFor, recordNamed, placeFor}
 use Rattle.calls.specs.Numbers.{unsound, noPlace, badMode, badSegment, badSize, badField, gappedHandle, elsewhere}
 use Rattle.calls.specs.Numbers.{inUse, twins, inactiveCluster, notPrimary, notReferenced, isOld, oldPassword}
@@ -121,7 +121,7 @@ module _ (x : Call) where
   pub elsewhere-is : Is (elsewhere x) (Elsewhere x)
   unfolding elsewhere
   elsewhere-is =
-      then-is (kind-is (among (2 ∷ 3 ∷ 4 ∷ [])) _ refl x) (λ n.
+      then-is (kind-is (λ k. among (2 ∷ 3 ∷ 4 ∷ []) k || isLook k) _ refl x) (λ n.
       same-is (ap (λ (v : ℕ). not (eqb (x .args .current) v)) (handle-node (other-kind _ refl x n)))
       (not-is (eq-is (x .args .current) (nodeOf (handleOf x)))))
 
@@ -212,7 +212,7 @@ module _ (x : Call) where
     pub short-is : Is (short x (tableAt s)) (Short x s)
     unfolding short
     short-is =
-        then-is (kind-is (among (5 ∷ 6 ∷ [])) _ refl x) (λ n.
+        then-is (kind-is (λ k. among (5 ∷ 6 ∷ []) k && not (isLook k)) _ refl x) (λ n.
         same-is
         (λ j. ltb (length (its n j)) (lengthOf (handle-place s (other-kind _ refl x n) j)))
         (go (length (x .args .bytes)) (place x s)))

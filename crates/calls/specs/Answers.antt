@@ -5,6 +5,7 @@
 --     numberAlone n          the answer that gives the number n and nothing else
 --     handlesAlone a b       the answer of a call done that gives the handles a and b
 --     lengthAlone n          the answer of a read done: the length n
+--     hiddenWith n           what a look tells that is refused with the number n: a part of no bytes
 --     leftAlone s n          the records s, and the number n alone
 --     recordAlone c n        the record c, and the number n alone
 -- Assumes nothing.
@@ -15,8 +16,10 @@ use Rattle.store.specs.declared.Store.{Store}
 use Rattle.calls.specs.declared.Answer.{Answer}
 use Rattle.calls.specs.declared.Left.{Left}
 use Rattle.calls.specs.declared.RecordLeft.{RecordLeft}
+use Rattle.calls.specs.declared.Looked.{Looked}
 use Rattle.calls.specs.Calls.{Copy}
 use Rattle.calls.specs.Steps.{Reply, Outcome, zeroHandle}
+use Rattle.calls.specs.Looks.{nowhere}
 
 abbrev pub copyOf : Store → List ℕ → Copy
 copyOf s m = record { store = s; memory = m }
@@ -44,6 +47,9 @@ handlesAlone a b = record { number = 0; first = a; second = b; count = 0; length
 
 abbrev pub lengthAlone : ℕ → Answer
 lengthAlone n = record { number = 0; first = zeroHandle; second = zeroHandle; count = 0; length = n }
+
+abbrev pub hiddenWith : ℕ → Looked
+hiddenWith n = record { number = n; part = nowhere }
 
 abbrev pub leftAlone : Store → ℕ → Left
 leftAlone s n = record { store = s; answer = numberAlone n }

@@ -16,7 +16,7 @@ use Rattle.store.specs.declared.Cluster.{Cluster}
 use Rattle.store.specs.declared.Store.{Store}
 use Rattle.store.specs.Records.{startingStore, started, putRecord, withPlace}
 use Rattle.calls.specs.Calls.{makingCluster, deletingCluster, makingSegment, deletingSegment, reading}
-use Rattle.calls.specs.Calls.{writing, weakeningBy, reducing, renewing, validating}
+use Rattle.calls.specs.Calls.{writing, weakeningBy, reducing, renewing, validating, looking}
 use Rattle.calls.specs.Cases.{sixteen, shown, room, Case, gives, toldOn, named}
 
 abbrev corner : ℕ → List ℕ
@@ -57,6 +57,7 @@ full =
     ∷ gives 0 (renewing 2 (corner 4) (sixteen 8))
     ∷ gives 0 (validating 1 (corner 3))
     ∷ gives 0 (validating 2 (corner 4))
+    ∷ gives 0 (looking 3 7 (corner 3))
     ∷ []
 
 pub record BoundsDone : Type 0 where

@@ -1,12 +1,15 @@
--- Document 01, "The calls" and the first sentences of "Two copies": what a call carries and what it looks at.
+-- Document 01, "The calls" and the first sentences of "Two copies", with the look of document 02, §2: what a call carries
+-- and what it looks at.
 --     Copy                    the records of all clusters and the bytes of the slice
 --     start                   the starting store, with a memory of zeros
---     Kind                    the nine calls and validation
+--     Kind                    the nine calls, validation and the look
 --     Arguments               what a call may carry: handles as 23 bytes, passwords as sixteen; `bytes` are a read's
 --                             buffer or a write's data
 --     Call, call              a kind and its arguments
---     makingCluster .. validating    each call by name, with what it uses; its other arguments are zero or empty
---     code                    the code by which the tables name a kind; validation has the numbers of call 8
+--     makingCluster .. looking    each call by name, with what it uses; its other arguments are zero or empty
+--     code                    the code by which the tables name a kind; validation has the numbers of call 8, a look those
+--                             of call 5 but 15, and 5
+--     isLook                  the kind is the look, which has no code of its own
 --     among cs k              the code of k is one of cs
 --     opens                   the kinds that open a cluster by a handle
 --     Uses, uses              which arguments a kind looks at; no other argument counts
@@ -19,9 +22,10 @@
 --     recordFor, recordNamed  its record's number; that of the cluster that a handle names
 --     placeFor                the place of the segment that a call is about
 --     startFor                where the segment that a call is about begins in the slice
+--     partFor                 where it begins and ends there: decided by the call and the tables, never by a byte
 --     anyOf                   some handle of a list passes
 -- Assumes nothing.
-use Prim.Native.Nat.{ℕ}
+use Prim.Native.Nat.{ℕ, _+_}
 use mathlib.Core.Bool.{Bool, true, false, _||_}
 use mathlib.Core.List.{List, [], _∷_}
 use lib.Dec.{eqb}
@@ -31,7 +35,8 @@ use Rattle.handle.specs.declared.Handle.{Handle}
 use Rattle.handle.specs.Handles.{nodeOf, decoded}
 use Rattle.store.specs.declared.Place.{Place}
 use Rattle.store.specs.declared.Store.{Store}
-use Rattle.store.specs.Records.{Tables, startingStore, recordOf, placeAt, baseOf, address, readMode, writeMode}
+use Rattle.store.specs.Records.{Tables, startingStore, recordOf, placeAt, baseOf, lengthOf, address, readMode, writeMode}
+use Rattle.calls.specs.declared.Part.{Part}
 
 pub record Copy : Type 0 where
   pub store : Store
@@ -43,7 +48,7 @@ start = record { store = startingStore; memory = replicate memory 0 }
 -- ---- calls
 
 pub data Kind : Type 0 where
-  newCluster deleteCluster newSegment deleteSegment read write weaken reduce newPassword validate : Kind
+  newCluster deleteCluster newSegment deleteSegment read write weaken reduce newPassword validate look : Kind
 
 pub record Arguments : Type 0 where
   pub current : ℕ
@@ -110,6 +115,9 @@ renewing mode handle password = call newPassword (arguments 0 0 mode 0 0 0 handl
 abbrev pub validating : ℕ → List ℕ → Call
 validating mode handle = call validate (arguments 0 0 mode 0 0 0 handle [] [] [])
 
+abbrev pub looking : ℕ → ℕ → List ℕ → Call
+looking current segment handle = call look (arguments current 0 0 segment 0 0 handle [] [] [])
+
 abbrev pub code : Kind → ℕ
 code newCluster = 1
 code deleteCluster = 2
@@ -121,10 +129,24 @@ code weaken = 7
 code reduce = 8
 code newPassword = 9
 code validate = 8
+code look = 5
 
 abbrev pub among : List ℕ → Kind → Bool
 among [] k = false
 among (c ∷ cs) k = eqb (code k) c || among cs k
+
+abbrev pub isLook : Kind → Bool
+isLook newCluster = false
+isLook deleteCluster = false
+isLook newSegment = false
+isLook deleteSegment = false
+isLook read = false
+isLook write = false
+isLook weaken = false
+isLook reduce = false
+isLook newPassword = false
+isLook validate = false
+isLook look = true
 
 abbrev pub opens : Kind → Bool
 opens k = among (2 ∷ 3 ∷ 4 ∷ 5 ∷ 6 ∷ 8 ∷ 9 ∷ []) k
@@ -177,6 +199,7 @@ uses weaken = looks o o o o o x x o o o
 uses reduce = looks o o x o o o x o o o
 uses newPassword = looks o o x o o o x x o o
 uses validate = looks o o x o o o x o o o
+uses look = looks x o o x o o x o o o
 
 abbrev pub needed : Call → ℕ
 needed x =
@@ -217,3 +240,6 @@ placeFor x ts = placeAt ts (recordFor x) (x .args .segment)
 
 abbrev pub startFor : Call → Tables → ℕ
 startFor x ts = address (nodeFor x) (baseOf (placeFor x ts))
+
+abbrev pub partFor : Call → Tables → Part
+partFor x ts = record { from = startFor x ts; to = startFor x ts + lengthOf (placeFor x ts) }

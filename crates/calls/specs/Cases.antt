@@ -12,7 +12,7 @@
 --     sample                    a store with that cluster: passwords of sixteen 3 and sixteen 4, and three bytes at 0
 --     Case, gives               a number and a call that gets it
 --     damaged                   a call of every kind on a slice that lacks a byte: weakening alone does not get 1
---     refusals                  for each number from 2 on, a call of each kind that its row names
+--     refusals                  for each number from 2 on, a call of each kind that its row names; and a look done
 --     toldOn s size cs          the numbers that the calls of the cases cs get on a store
 --     calls cs, named cs        the calls of the cases, and the numbers that they name
 --     NumbersGiven              all these numbers are given, on that store
@@ -28,7 +28,7 @@ use Rattle.store.specs.declared.Place.the-variants.{Present}
 use Rattle.store.specs.declared.Store.{Store}
 use Rattle.store.specs.Records.{startingStore, started, recordOf, putRecord, withPlace}
 use Rattle.calls.specs.Calls.{Call, makingCluster, deletingCluster, makingSegment, deletingSegment, reading}
-use Rattle.calls.specs.Calls.{writing, weakeningBy, reducing, renewing, validating}
+use Rattle.calls.specs.Calls.{writing, weakeningBy, reducing, renewing, validating, looking}
 use Rattle.calls.specs.Numbers.{number}
 
 abbrev pub added : Name → List ℕ → ℕ → List ℕ
@@ -104,6 +104,7 @@ damaged =
     ∷ gives 1 (reducing 1 (primary 3))
     ∷ gives 1 (renewing 1 (primary 3) (sixteen 8))
     ∷ gives 1 (validating 1 (primary 3))
+    ∷ gives 1 (looking 1 5 (primary 3))
     -- 1 above 2, and above 3 and 9
     ∷ gives 1 (makingCluster 4 3 (sixteen 1) (sixteen 1))
     ∷ gives 1 (deletingCluster 1 far)
@@ -114,6 +115,7 @@ damaged =
     ∷ gives 1 (reducing 1 far)
     ∷ gives 1 (renewing 1 high (sixteen 8))
     ∷ gives 1 (validating 1 far)
+    ∷ gives 1 (looking 4 5 far)
     ∷ gives 1 (reducing 3 (primary 9))
     ∷ []
 
@@ -134,6 +136,9 @@ refusals =
     ∷ gives 2 (reducing 1 far)
     ∷ gives 2 (renewing 1 high (sixteen 8))
     ∷ gives 2 (validating 1 far)
+    ∷ gives 2 (looking 4 5 (primary 3))
+    ∷ gives 2 (looking 1 5 far)
+    ∷ gives 2 (looking 1 5 high)
     ∷ gives 3 (makingSegment 1 8 2 (primary 4))
     ∷ gives 3 (makingSegment 1 6 0 (primary 4))
     ∷ gives 3 (makingSegment 1 6 4097 (primary 4))
@@ -144,6 +149,7 @@ refusals =
     ∷ gives 3 (reducing 3 (primary 3))
     ∷ gives 3 (renewing 3 (primary 3) (sixteen 8))
     ∷ gives 3 (validating 3 (primary 3))
+    ∷ gives 3 (looking 1 8 (primary 3))
     ∷ gives 4 (deletingCluster 1 gap)
     ∷ gives 4 (makingSegment 1 6 2 gap)
     ∷ gives 4 (deletingSegment 1 5 gap)
@@ -153,9 +159,11 @@ refusals =
     ∷ gives 4 (reducing 1 gap)
     ∷ gives 4 (renewing 1 gap (sixteen 8))
     ∷ gives 4 (validating 1 gap)
+    ∷ gives 4 (looking 1 5 gap)
     ∷ gives 5 (deletingCluster 0 (primary 4))
     ∷ gives 5 (makingSegment 0 6 2 (primary 4))
     ∷ gives 5 (deletingSegment 0 5 (primary 4))
+    ∷ gives 5 (looking 0 5 (primary 3))
     ∷ gives 6 (makingCluster 1 2 (sixteen 1) (sixteen 2))
     ∷ gives 7 (makingCluster 1 3 (sixteen 1) (sixteen 1))
     ∷ gives 8 (deletingCluster 1 idle)
@@ -166,6 +174,7 @@ refusals =
     ∷ gives 8 (reducing 1 idle)
     ∷ gives 8 (renewing 1 idle (sixteen 8))
     ∷ gives 8 (validating 1 idle)
+    ∷ gives 8 (looking 1 5 idle)
     ∷ gives 9 (deletingCluster 1 (primary 3))
     ∷ gives 9 (makingSegment 1 6 2 (primary 3))
     ∷ gives 9 (deletingSegment 1 5 (primary 3))
@@ -174,12 +183,15 @@ refusals =
     ∷ gives 9 (reducing 1 (primary 4))
     ∷ gives 9 (renewing 2 (primary 3) (sixteen 8))
     ∷ gives 9 (validating 1 (weak 4))
+    ∷ gives 9 (looking 1 5 (primary 4))
+    ∷ gives 9 (looking 1 5 (weak 4))
     ∷ gives 10 (deletingCluster 1 (weak 4))
     ∷ gives 10 (makingSegment 1 6 2 (weak 4))
     ∷ gives 10 (deletingSegment 1 5 (weak 4))
     ∷ gives 10 (renewing 1 (weak 3) (sixteen 8))
     ∷ gives 11 (reading 5 (other 3) room)
     ∷ gives 11 (writing 5 (other 4) room)
+    ∷ gives 11 (looking 1 5 (other 3))
     ∷ gives 12 (renewing 1 (primary 3) (sixteen 3))
     ∷ gives 12 (renewing 1 (primary 3) (sixteen 4))
     ∷ gives 12 (renewing 2 (primary 4) (sixteen 3))
@@ -188,8 +200,11 @@ refusals =
     ∷ gives 14 (deletingSegment 1 6 (primary 4))
     ∷ gives 14 (reading 6 (primary 3) room)
     ∷ gives 14 (writing 6 (primary 4) room)
+    ∷ gives 14 (looking 1 6 (primary 3))
     ∷ gives 15 (reading 5 (weak 3) tight)
     ∷ gives 15 (writing 5 (weak 4) tight)
+    -- a look brings no buffer that could be short
+    ∷ gives 0 (looking 1 5 (weak 3))
     ∷ gives 16 (makingSegment 1 6 4094 (primary 4))
     ∷ gives 17 (weakeningBy 239 (shown 1 2 3 spent))
     ∷ gives 21 (weakeningBy 0 (primary 3))

@@ -3,13 +3,15 @@ pub mod Numbers
 pub mod Clear
 pub mod Words
 pub mod Steps
+pub mod Looks
+pub mod Literals
 pub mod ReadWords
 pub mod MadeWords
+pub mod LookWords
 pub mod EmptyWords
 pub mod Examples
 pub mod Cases
 pub mod Orders
 pub mod Bounds
-pub mod Literals
 pub mod Written
 pub mod Answers

@@ -6,6 +6,7 @@
 --     none                  23 zero bytes
 --     told n a b c l bs     a reply: the number, the first handle, the second, the count, the length and the buffer; no bytes
 --                           are shown
+--     shows n bs            the reply of a look: the number and the bytes shown
 -- Assumes nothing.
 use Prim.Native.Nat.{ℕ}
 use mathlib.Core.List.{List, [], _∷_, _++_}
@@ -26,3 +27,6 @@ none = replicate 23 0
 
 abbrev pub told : ℕ → List ℕ → List ℕ → ℕ → ℕ → List ℕ → Reply
 told n a b c l bs = record { number = n; first = a; second = b; count = c; length = l; buffer = bs; shown = [] }
+
+abbrev pub shows : ℕ → List ℕ → Reply
+shows n bs = record { number = n; first = none; second = none; count = 0; length = 0; buffer = []; shown = bs }

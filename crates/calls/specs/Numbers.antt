@@ -1,10 +1,10 @@
 -- Document 01, "Numbers a call may be turned down with": the rows 1 to 17, and document 02's 21, a test for each, in the
--- order in which they are looked at.
+-- order in which they are looked at. Where a row names 5, a look is meant too, but for 15; and it has 5.
 --     unsound              1, all but 7: the store is not sound
 --     noPlace              2: a node above 3 or a local number above 7, in a handle or in the call
 --     badField             3: badMode, not 1 or 2; badSegment, above 7; badSize, 0 or above 4,096
 --     gappedHandle         4: a handle's selector is gapped
---     elsewhere            5, for 2, 3, 4: the current node is not the handle's
+--     elsewhere            5, for 2, 3, 4 and a look: the current node is not the handle's
 --     inUse                6, for 1: the cluster is active
 --     twins                7, for 1: the two passwords are equal
 --     inactiveCluster      8, for 2 to 6, 8, 9: a handle's cluster is inactive
@@ -14,7 +14,7 @@
 --     oldPassword          12, for 9: the new password isOld: it equals either current primary password
 --     segmentPresent       13, for 3: the segment is present
 --     segmentAbsent        14, for 4, 5, 6: the segment is absent
---     short                15, for 5, 6: the buffer or the data is shorter than the segment
+--     short                15, for 5, 6: the buffer or the data is shorter than the segment; a look brings neither
 --     fullNode             16, for 3: no base exists
 --     emptyHandle          21, for 7: no segment is both referenced and kept by the mask
 --     spentHandle          17, for 7: something would be excluded and no subselector is flat
@@ -43,7 +43,7 @@ use Rattle.store.specs.Records.{Tables, clusterAt, tableAt, readMode, writeMode
 use Rattle.store.specs.Sound.{isAbsent, sound}
 use Rattle.numbers.specs.Numbers.{noRoomNumber}
 use Rattle.store.specs.Placement.{placement}
-use Rattle.calls.specs.Calls.{Call, among, opens, uses, needed}
+use Rattle.calls.specs.Calls.{Call, among, isLook, opens, uses, needed}
 use Rattle.calls.specs.Calls.{handleOf, presented, anyOf, buffer, nodeFor, recordFor, recordNamed}
 use Rattle.calls.specs.Calls.{placeFor}
 
@@ -71,7 +71,8 @@ unfoldable pub gappedHandle : Call → Bool
 gappedHandle x = anyOf (λ h. gapped (widthOf h) (h .selector)) (presented x)
 
 unfoldable pub elsewhere : Call → Bool
-elsewhere x = among (2 ∷ 3 ∷ 4 ∷ []) (x .kind) && not (eqb (x .args .current) (nodeFor x))
+elsewhere x =
+    (among (2 ∷ 3 ∷ 4 ∷ []) (x .kind) || isLook (x .kind)) && not (eqb (x .args .current) (nodeFor x))
 
 unfoldable pub twins : Call → Bool
 twins x = among (1 ∷ []) (x .kind) && samePassword (x .args .first) (x .args .second)
@@ -106,7 +107,8 @@ unfoldable pub segmentAbsent : Call → Tables → Bool
 segmentAbsent x ts = among (4 ∷ 5 ∷ 6 ∷ []) (x .kind) && isAbsent (placeFor x ts)
 
 unfoldable pub short : Call → Tables → Bool
-short x ts = among (5 ∷ 6 ∷ []) (x .kind) && ltb (length (buffer x)) (lengthOf (placeFor x ts))
+short x ts =
+    (among (5 ∷ 6 ∷ []) (x .kind) && not (isLook (x .kind))) && ltb (length (buffer x)) (lengthOf (placeFor x ts))
 
 unfoldable pub fullNode : Call → Tables → Bool
 fullNode x ts = among (3 ∷ []) (x .kind) && eqb (placement ts (nodeFor x) (x .args .size) .number) noRoomNumber

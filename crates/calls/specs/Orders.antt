@@ -14,7 +14,7 @@ use mathlib.Core.List.{List, [], _∷_, map}
 use Rattle.sizes.specs.Sizes.{segments, memory}
 use Rattle.handle.specs.Selectors.{flats}
 use Rattle.calls.specs.Calls.{Call, makingCluster, deletingCluster, makingSegment, deletingSegment, reading}
-use Rattle.calls.specs.Calls.{writing, weakeningBy, reducing, renewing, validating}
+use Rattle.calls.specs.Calls.{writing, weakeningBy, reducing, renewing, validating, looking}
 use Rattle.calls.specs.Numbers.{at, rows, number}
 use Rattle.calls.specs.Clear.{holding}
 use Rattle.calls.specs.Cases.{added, sixteen, shown, primary, weak, other, gap, far, high, idle, spent, nothing, room, tight}
@@ -44,7 +44,7 @@ applies n x = holding n (at x sample (rows added memory))
 -- and a gapped handle has a flat subselector
 abbrev pub orders : List Order
 orders =
-    -- 2 above 3, 4, 6, 7, 17 and 21
+    -- 2 above 3, 4, 5, 6, 7, 17 and 21
     over 2 6 (makingCluster 0 10 (sixteen 1) (sixteen 2))
     ∷ over 2 7 (makingCluster 4 3 (sixteen 1) (sixteen 1))
     ∷ over 2 4 (deletingCluster 1 farGap)
@@ -60,6 +60,9 @@ orders =
     ∷ over 2 3 (reducing 3 far)
     ∷ over 2 3 (renewing 3 high (sixteen 8))
     ∷ over 2 3 (validating 3 far)
+    ∷ over 2 3 (looking 1 8 far)
+    ∷ over 2 3 (looking 4 8 (primary 3))
+    ∷ over 2 5 (looking 4 5 (primary 3))
     -- 3 above 4
     ∷ over 3 4 (makingSegment 1 6 4097 gap)
     ∷ over 3 4 (deletingSegment 1 8 gap)
@@ -68,10 +71,12 @@ orders =
     ∷ over 3 4 (reducing 3 gap)
     ∷ over 3 4 (renewing 0 gap (sixteen 8))
     ∷ over 3 4 (validating 3 gap)
+    ∷ over 3 4 (looking 1 8 gap)
     -- 4 above 5, and above 8
     ∷ over 4 5 (deletingCluster 0 gap)
     ∷ over 4 5 (makingSegment 0 6 2 gap)
     ∷ over 4 5 (deletingSegment 0 5 gap)
+    ∷ over 4 5 (looking 0 5 gap)
     ∷ over 4 8 (reading 5 idleGap room)
     ∷ over 4 8 (writing 5 idleGap room)
     ∷ over 4 8 (reducing 1 idleGap)
@@ -80,10 +85,14 @@ orders =
     -- 4 above 21; the second handle references nothing, whatever the mask
     ∷ over 4 21 (weakeningBy 0 gap)
     ∷ over 4 21 (weakeningBy 255 (shown 1 2 3 (240 ∷ 255 ∷ 15 ∷ 255 ∷ [])))
-    -- 5 above 8
+    -- 5 above 8, and for a look above all that needs the handle to be judged
     ∷ over 5 8 (deletingCluster 0 idle)
     ∷ over 5 8 (makingSegment 0 6 2 idle)
     ∷ over 5 8 (deletingSegment 0 5 idle)
+    ∷ over 5 8 (looking 0 5 idle)
+    ∷ over 5 9 (looking 0 5 (primary 4))
+    ∷ over 5 11 (looking 0 5 (other 3))
+    ∷ over 5 14 (looking 0 6 (primary 3))
     -- 6 above 7
     ∷ over 6 7 (makingCluster 1 2 (sixteen 1) (sixteen 1))
     -- 8 above 9
@@ -95,6 +104,7 @@ orders =
     ∷ over 8 9 (reducing 1 idleWrong)
     ∷ over 8 9 (renewing 1 idleWrong (sixteen 8))
     ∷ over 8 9 (validating 1 idleWrong)
+    ∷ over 8 9 (looking 1 5 idleWrong)
     -- 9 above 10, above 11, and above 13 and 14
     ∷ over 9 10 (deletingCluster 1 (weak 3))
     ∷ over 9 10 (makingSegment 1 6 2 (weak 3))
@@ -102,8 +112,10 @@ orders =
     ∷ over 9 10 (renewing 1 (weak 4) (sixteen 8))
     ∷ over 9 11 (reading 5 (other 4) room)
     ∷ over 9 11 (writing 5 (other 3) room)
+    ∷ over 9 11 (looking 1 5 (other 4))
     ∷ over 9 13 (makingSegment 1 5 2 (primary 3))
     ∷ over 9 14 (deletingSegment 1 6 (primary 3))
+    ∷ over 9 14 (looking 1 6 (primary 4))
     -- 10 above 12, 13 and 14
     ∷ over 10 12 (renewing 1 (weak 3) (sixteen 3))
     ∷ over 10 13 (makingSegment 1 5 2 (weak 4))
@@ -111,6 +123,7 @@ orders =
     -- 11 above 14, and above 15
     ∷ over 11 14 (reading 6 (weak 3) room)
     ∷ over 11 14 (writing 6 (weak 4) room)
+    ∷ over 11 14 (looking 1 6 (weak 3))
     ∷ over 11 15 (reading 5 (other 3) tight)
     ∷ over 11 15 (writing 5 (other 4) tight)
     -- 21 above 17

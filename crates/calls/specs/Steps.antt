@@ -1,5 +1,5 @@
 -- Document 01, "The calls": what a call done gives and leaves; what a refusal gives; and "Two copies": a list of calls,
--- each working on what the one before it left.
+-- each working on what the one before it left. With the look of document 02, §2, whose bytes shown are part of the reply.
 --     Reply               the number, two handles as 23 bytes, a count, a length, the buffer afterwards, and the bytes
 --                         shown; a handle that is not given is 23 zero bytes, a count or length that is not told is
 --                         zero, and where nothing is shown there are no bytes
@@ -8,8 +8,10 @@
 --     plain n b           the reply with the number n and the buffer b alone
 --     handles a b n       the reply of a call done with the handles a and b and the count n
 --     readReply n b       the reply of a read done: the length n and the buffer b
+--     lookReply n bs      the reply of a look: the number n and the bytes shown
 --     weakenReply w       the handle crate's reply to a weakening, as a reply
 --     overwritten m a bs  the bytes m with bs from place a on
+--     within p m          the part p of the bytes m
 --     putCluster          the copy with one record replaced
 --     putBytes            the copy with some bytes of its memory overwritten
 --     about               the record of the cluster that a call is about
@@ -24,6 +26,7 @@
 --     left k              the copy that a call of the kind k leaves, once done
 -- What each call gives:
 --     segmentRead         5: the first length bytes of the buffer hold the segment
+--     segmentShown        a look: the part of the memory that is the segment
 --     newPrimary          1: a primary handle of the cluster made
 --     weaker f            7: the handle weakened by the mask
 --     reducedFrom f       8: the handle reduced, from the primary password of the mode named
@@ -36,7 +39,7 @@
 --     aesStep             the step by the product's conversion
 --     effects             a name that opens what each call leaves and gives
 -- Assumes nothing.
-use Prim.Native.Nat.{ℕ, zero, suc, _+_}
+use Prim.Native.Nat.{ℕ, zero, suc, _+_, _-_}
 use mathlib.Core.List.{List, [], _∷_, _++_}
 use lib.ListN.{length, take, drop, replicate}
 use Rattle.sizes.specs.Sizes.{segments}
@@ -54,9 +57,10 @@ use Rattle.store.specs.Records.{Tables, inactive, started, clusterAt, tableAt, 
 use Rattle.store.specs.Placement.{placement}
 use Rattle.calls.specs.Calls.{Copy, Call, Kind, newCluster, deleteCluster, newSegment, deleteSegment}
 use Rattle.store.specs.Records.{lengthOf, address, primaryOf}
-use Rattle.calls.specs.Calls.{read, write, weaken, reduce, newPassword, validate}
+use Rattle.calls.specs.Calls.{read, write, weaken, reduce, newPassword, validate, look}
 use Rattle.calls.specs.Calls.{handleOf, buffer, nodeFor, localFor, recordFor, placeFor}
-use Rattle.calls.specs.Calls.{startFor}
+use Rattle.calls.specs.Calls.{startFor, partFor}
+use Rattle.calls.specs.declared.Part.{Part}
 use Rattle.calls.specs.Numbers.{number}
 
 -- ---- replies
@@ -93,6 +97,9 @@ handles a b n = record { number = 0; first = a; second = b; count = n; length = 
 abbrev pub readReply : ℕ → List ℕ → Reply
 readReply n b = record { number = 0; first = zeroHandle; second = zeroHandle; count = 0; length = n; buffer = b; shown = [] }
 
+abbrev pub lookReply : ℕ → List ℕ → Reply
+lookReply n bs = record { number = n; first = zeroHandle; second = zeroHandle; count = 0; length = 0; buffer = []; shown = bs }
+
 abbrev pub weakenReply : Weakened → Reply
 weakenReply w =
     record {
@@ -109,6 +116,9 @@ weakenReply w =
 
 abbrev pub overwritten : List ℕ → ℕ → List ℕ → List ℕ
 overwritten m a bs = take a m ++ (bs ++ drop (a + length bs) m)
+
+abbrev pub within : Part → List ℕ → List ℕ
+within p m = take (p .to - p .from) (drop (p .from) m)
 
 abbrev pub putCluster : Copy → ℕ → Cluster → Copy
 putCluster c n d = record { store = putRecord (c .store) n d; memory = c .memory }
@@ -162,6 +172,7 @@ left weaken x c = c
 left reduce x c = c
 left newPassword x c = passwordReplaced x c
 left validate x c = c
+left look x c = c
 
 -- ---- what a call done gives
 
@@ -170,6 +181,9 @@ segmentRead x c =
     let ts = tableAt (c .store) in
     let n = lengthOf (placeFor x ts) in
     readReply n (take n (drop (startFor x ts) (c .memory)) ++ drop n (buffer x))
+
+unfoldable pub segmentShown : Call → Copy → Reply
+segmentShown x c = lookReply 0 (within (partFor x (tableAt (c .store))) (c .memory))
 
 abbrev pub newPrimary : Call → List ℕ → List ℕ
 newPrimary x p = encoded (primaryHandle segments (record { node = nodeFor x; local = localFor x }) p)
@@ -195,6 +209,7 @@ module _ (f : Name → List ℕ → ℕ → List ℕ) where
   given newPassword x c =
       handles (encoded (primaryHandle (widthOf (handleOf x)) (nameOf (handleOf x)) (x .args .first))) zeroHandle 0
   given validate x c = plain 0 []
+  given look x c = segmentShown x c
 
   -- ---- a call, and a list of calls
 
@@ -214,4 +229,5 @@ aesStep = step product
 
 unfoldable pub effects : Unit {0}
 unfolding left given clusterMade clusterDeleted segmentMade segmentDeleted segmentWritten passwordReplaced segmentRead
+    segmentShown
 effects = tt

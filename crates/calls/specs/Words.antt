@@ -1,7 +1,7 @@
 -- Document 01, "Numbers a call may be turned down with", row by row in the table's own words and numbers, with document 02's
--- 21; nothing here is a test, and `number` (Numbers) is held to it both ways. The calls that a row names are listed by
--- kind, in the order of their codes; validation stands with call 8, whose number it gives. The cluster of node v and
--- local number l is record v * 8 + l.
+-- 21 and the look, which has the rows of call 5 but 15, and row 5; nothing here is a test, and `number` (Numbers) is held to
+-- it both ways. The calls that a row names are listed by kind, in the order of their codes, validation and the look last;
+-- validation stands with call 8, whose number it gives. The cluster of node v and local number l is record v * 8 + l.
 --     Named ks x           the call x is of one of the kinds ks
 --     Handled x            the call takes a handle: all but 1
 --     Taken x              it takes it as 23 bytes
@@ -16,7 +16,7 @@
 --     Converted g p s q    the step of validation by the subselector s: a flat one is skipped and q is p; by another p goes
 --                          through the conversion g with s and comes out as q
 --     Chain g p x          the chain from the primary password p, by subselector 0 first, ends as the handle's password
---     ReadMode, WriteMode  the mode needed: read for 5, write for 2, 3, 4 and 6, the one named for 8 and 9
+--     ReadMode, WriteMode  the mode needed: read for 5 and a look, write for 2, 3, 4 and 6, the one named for 8 and 9
 --     Valid f x s          the handle validates in the mode needed
 --     Unsound .. Spent     the eighteen rows
 --     Entry, table         a number and its words; the table, nearest the top first
@@ -40,7 +40,7 @@ use Rattle.store.specs.Records.{tableOf, clusterAt, placeOf}
 use Rattle.store.specs.SoundWords.{SoundInWords}
 use Rattle.store.specs.PlacementWords.{Room}
 use Rattle.calls.specs.Calls.{Call, Kind, newCluster, deleteCluster, newSegment, deleteSegment, read, write, weaken}
-use Rattle.calls.specs.Calls.{reduce, newPassword, validate, handleOf}
+use Rattle.calls.specs.Calls.{reduce, newPassword, validate, look, handleOf}
 use Rattle.calls.specs.Numbers.{number}
 
 -- ---- the calls that a row names
@@ -55,11 +55,11 @@ Handled x = x .kind ≢ newCluster
 abbrev pub Taken : Call → Type 0
 Taken x = Handled x → length (x .args .handle) ≡ 23
 
--- 2 to 6, 8, 9
+-- 2 to 6, 8, 9, and a look
 abbrev pub Opening : Call → Type 0
 Opening x =
     Named
-    (deleteCluster ∷ newSegment ∷ deleteSegment ∷ read ∷ write ∷ reduce ∷ newPassword ∷ validate ∷ []) x
+    (deleteCluster ∷ newSegment ∷ deleteSegment ∷ read ∷ write ∷ reduce ∷ newPassword ∷ validate ∷ look ∷ []) x
 
 -- ---- handles and clusters
 
@@ -107,7 +107,7 @@ pub record Chain (g : List ℕ → ℕ → List ℕ) (p : List ℕ) (x : Call) :
   pub ends : SamePassword after3 (handleOf x .password)
 
 abbrev pub ReadMode : Call → Type 0
-ReadMode x = Named (read ∷ []) x ⊎ (Named (reduce ∷ newPassword ∷ validate ∷ []) x × (x .args .mode ≡ 1))
+ReadMode x = Named (read ∷ look ∷ []) x ⊎ (Named (reduce ∷ newPassword ∷ validate ∷ []) x × (x .args .mode ≡ 1))
 
 abbrev pub WriteMode : Call → Type 0
 WriteMode x =
@@ -125,18 +125,20 @@ Valid f x s =
 abbrev pub Unsound : ℕ → Call → Store → Type 0
 Unsound size x s = (x .kind ≢ weaken) × ¬ SoundInWords s size
 
--- 2: node above 3 or local number above 7, in the handle or the call. Calls 1 to 4 name a current node, 1 a local number
+-- 2: node above 3 or local number above 7, in the handle or the call. Calls 1 to 4 and a look name a current node, 1 a local
+-- number
 abbrev pub NoSuchPlace : Call → Type 0
 NoSuchPlace x =
     (Handled x × ((3 < nodeOf (handleOf x)) ⊎ (7 < handleOf x .local)))
-    ⊎ (Named (newCluster ∷ deleteCluster ∷ newSegment ∷ deleteSegment ∷ []) x × (3 < x .args .current))
+    ⊎ (Named (newCluster ∷ deleteCluster ∷ newSegment ∷ deleteSegment ∷ look ∷ []) x × (3 < x .args .current))
     ⊎ (Named (newCluster ∷ []) x × (7 < x .args .local))
 
--- 3: mode not 1 or 2; segment above 7; size 0 or above 4,096. A mode is named by 8 and 9, a segment by 3 to 6, a size by 3
+-- 3: mode not 1 or 2; segment above 7; size 0 or above 4,096. A mode is named by 8 and 9, a segment by 3 to 6 and a look, a
+-- size by 3
 abbrev pub Field : Call → Type 0
 Field x =
     (Named (reduce ∷ newPassword ∷ validate ∷ []) x × (x .args .mode ≢ 1) × (x .args .mode ≢ 2))
-    ⊎ (Named (newSegment ∷ deleteSegment ∷ read ∷ write ∷ []) x × (7 < x .args .segment))
+    ⊎ (Named (newSegment ∷ deleteSegment ∷ read ∷ write ∷ look ∷ []) x × (7 < x .args .segment))
     ⊎ (Named (newSegment ∷ []) x × ((x .args .size ≡ 0) ⊎ (4096 < x .args .size)))
 
 -- 4: the handle's selector is gapped: a flat subselector j stands below one, k, that is not flat
@@ -145,10 +147,10 @@ Gapped x =
     Handled x
     × ((j : ℕ) × (k : ℕ) × (j < k) × (k < 4) × (subselector x j ≡ 255) × (subselector x k ≢ 255))
 
--- 5, for 2, 3, 4: the current node is not the handle's
+-- 5, for 2, 3, 4 and a look: the current node is not the handle's
 abbrev pub Elsewhere : Call → Type 0
 Elsewhere x =
-    Named (deleteCluster ∷ newSegment ∷ deleteSegment ∷ []) x × (x .args .current ≢ nodeOf (handleOf x))
+    Named (deleteCluster ∷ newSegment ∷ deleteSegment ∷ look ∷ []) x × (x .args .current ≢ nodeOf (handleOf x))
 
 -- 6, for 1: the cluster is active
 abbrev pub InUse : Call → Store → Type 0
@@ -158,11 +160,11 @@ InUse x s = Named (newCluster ∷ []) x × (cluster s (x .args .current) (x .arg
 abbrev pub Twins : Call → Type 0
 Twins x = Named (newCluster ∷ []) x × SamePassword (x .args .first) (x .args .second)
 
--- 8, for 2 to 6, 8, 9: the cluster is inactive
+-- 8, for 2 to 6, 8, 9 and a look: the cluster is inactive
 abbrev pub Inactive : Call → Store → Type 0
 Inactive x s = Opening x × (clusterOf x s .active ≡ false)
 
--- 9, for 2 to 6, 8, 9: the handle does not validate in the mode needed
+-- 9, for 2 to 6, 8, 9 and a look: the handle does not validate in the mode needed
 abbrev pub Violated : (Name → List ℕ → ℕ → List ℕ) → Call → Store → Type 0
 Violated f x s = Opening x × ¬ Valid f x s
 
@@ -172,9 +174,9 @@ NotPrimary x =
     Named (deleteCluster ∷ newSegment ∷ deleteSegment ∷ newPassword ∷ []) x
     × ((k : ℕ) × (k < 4) × (subselector x k ≢ 255))
 
--- 11, for 5, 6: the handle does not reference the segment
+-- 11, for 5, 6 and a look: the handle does not reference the segment
 abbrev pub NotReferenced : Call → Type 0
-NotReferenced x = Named (read ∷ write ∷ []) x × ¬ References x (x .args .segment)
+NotReferenced x = Named (read ∷ write ∷ look ∷ []) x × ¬ References x (x .args .segment)
 
 -- 12, for 9: the new password equals either current primary password
 abbrev pub OldPassword : Call → Store → Type 0
@@ -186,11 +188,11 @@ OldPassword x s =
 abbrev pub SegmentPresent : Call → Store → Type 0
 SegmentPresent x s = Named (newSegment ∷ []) x × ((base : ℕ) × (length : ℕ) × (place x s ≡ Present base length))
 
--- 14, for 4, 5, 6: the segment is absent
+-- 14, for 4, 5, 6 and a look: the segment is absent
 abbrev pub SegmentAbsent : Call → Store → Type 0
-SegmentAbsent x s = Named (deleteSegment ∷ read ∷ write ∷ []) x × (place x s ≡ Absent)
+SegmentAbsent x s = Named (deleteSegment ∷ read ∷ write ∷ look ∷ []) x × (place x s ≡ Absent)
 
--- 15, for 5, 6: the buffer or the data is shorter than the segment
+-- 15, for 5, 6, and not for a look: the buffer or the data is shorter than the segment
 abbrev pub Short : Call → Store → Type 0
 Short x s =
     Named (read ∷ write ∷ []) x

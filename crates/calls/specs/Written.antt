@@ -1,18 +1,25 @@
 -- Document 01, "The calls", the column "Done, it gives and leaves": the whole reply of a call of every kind, done, and of
--- some refused, written out. The conversion and the store are those of the numbers' lists.
+-- some refused, written out; and the parts that looks tell. The conversion and the store are those of the numbers' lists.
 --     held               a copy of that store: its segment of three bytes, the first of node 1, has 7, 8, 9
 --     Answered, tells    a call and its whole reply
 --     answered           the calls and their replies
 --     EachAnswered       they get these replies, each on that copy
+--     telling n a b      what a look tells: its number, and the part from a to b
+--     PartsTold          the parts of looks on that store, done and refused, and on that of the bounds, where the segment is
+--                        the last three bytes of the memory
 -- Assumes nothing.
 use mathlib.Core.Path.{_≡_}
+use Prim.Native.Nat.{ℕ}
 use mathlib.Core.List.{List, [], _∷_, _++_, map}
 use lib.ListN.{replicate}
+use Rattle.calls.specs.declared.Looked.{Looked}
 use Rattle.calls.specs.Calls.{Copy, Call, makingCluster, deletingCluster, makingSegment, deletingSegment, reading}
-use Rattle.calls.specs.Calls.{writing, weakeningBy, reducing, renewing, validating}
+use Rattle.calls.specs.Calls.{writing, weakeningBy, reducing, renewing, validating, looking}
 use Rattle.calls.specs.Steps.{Reply, step}
+use Rattle.calls.specs.Looks.{looked}
 use Rattle.calls.specs.Cases.{added, sample}
-use Rattle.calls.specs.Literals.{sixteen, handle, primary, none, told}
+use Rattle.calls.specs.Bounds.{edge}
+use Rattle.calls.specs.Literals.{sixteen, handle, primary, none, told, shows}
 
 abbrev pub held : Copy
 held = record { store = sample; memory = replicate 4096 0 ++ (7 ∷ 8 ∷ 9 ∷ replicate 12285 0) }
@@ -44,8 +51,24 @@ answered =
     ∷ tells (weakeningBy 32 (primary 1 2 3)) (told 0 (handle 1 2 35 (32 ∷ 255 ∷ 255 ∷ 255 ∷ [])) none 1 0 [])
     ∷ tells (weakeningBy 0 (primary 1 2 3)) (told 21 none none 0 0 [])
     ∷ tells (weakeningBy 255 (handle 1 2 51 (16 ∷ 32 ∷ 255 ∷ 255 ∷ []))) (told 21 none none 0 0 [])
+    -- looks, done and refused
+    ∷ tells (looking 1 5 (primary 1 2 3)) (shows 0 (7 ∷ 8 ∷ 9 ∷ []))
+    ∷ tells (looking 1 5 (handle 1 2 35 (32 ∷ 255 ∷ 255 ∷ 255 ∷ []))) (shows 0 (7 ∷ 8 ∷ 9 ∷ []))
+    ∷ tells (looking 4 5 (primary 1 2 3)) (shows 2 [])
+    ∷ tells (looking 0 5 (primary 1 2 3)) (shows 5 [])
+    ∷ tells (looking 1 5 (primary 1 2 4)) (shows 9 [])
+    ∷ tells (looking 1 6 (primary 1 2 3)) (shows 14 [])
     ∷ []
 
 abbrev pub EachAnswered : Type 0
 EachAnswered =
     map (λ (a : Answered). step added (a .call) held .reply) answered ≡ map (λ (a : Answered). a .reply) answered
+
+abbrev pub telling : ℕ → ℕ → ℕ → Looked
+telling n a b = record { number = n; part = record { from = a; to = b } }
+
+pub record PartsTold : Type 0 where
+  pub done : looked added (looking 1 5 (primary 1 2 3)) sample 16384 ≡ telling 0 4096 4099
+  pub elsewhere : looked added (looking 0 5 (primary 1 2 3)) sample 16384 ≡ telling 5 0 0
+  pub violated : looked added (looking 1 5 (primary 1 2 4)) sample 16384 ≡ telling 9 0 0
+  pub last : looked added (looking 3 7 (primary 3 7 3)) edge 16384 ≡ telling 0 16381 16384

@@ -42,6 +42,18 @@ pub struct Left {
     pub answer: Answer,
 }
 
+// A part of the memory: where it begins and where it ends, the first byte behind it. A part of no bytes goes from 0 to 0.
+pub struct Part {
+    pub from: usize,
+    pub to: usize,
+}
+
+// What a look tells: its number, and the part of the memory that is the segment; of a refused look a part of no bytes.
+pub struct Looked {
+    pub number: u8,
+    pub part: Part,
+}
+
 // The record that a call leaves of the cluster that it is about, and its answer.
 pub struct RecordLeft {
     pub cluster: Cluster,
@@ -89,6 +101,16 @@ pub fn length_told(length: usize) -> Answer
         second: [0; HANDLE_BYTES],
         count: 0,
         length,
+    }
+}
+
+// What a look tells that is refused: the number, and a part of no bytes.
+pub fn hidden(number: u8) -> Looked
+    ensures { λ r. ⌜ r ≡ spec.hiddenWith number ⌝ }
+{
+    Looked {
+        number,
+        part: Part { from: 0, to: 0 },
     }
 }
 

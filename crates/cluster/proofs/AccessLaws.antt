@@ -1,9 +1,9 @@
--- A read or a write: the rows of all calls that open a cluster, then 11, 14 and 15. A call that no row turns down moves a
--- part that lies inside the slice, since the store is sound.
+-- A read or a write: the rows of all calls that open a cluster, then 11 and 14, which a look has too, then 15. A call that
+-- no row turns down moves a part that lies inside the slice, since the store is sound.
 -- Assumes nothing.
 use mathlib.Core.Path.{_≡_, refl, sym, ap, _∙_}
 use mathlib.Core.Bool.{Bool, true, false, not, cond}
-use mathlib.Core.List.{List}
+use mathlib.Core.List.{List, [], _∷_}
 use Prim.Native.Nat.{ℕ, _+_, _*_, _-_, _≤_, _<_}
 use native.Mathlib.Omega.{arith}
 use lib.Dec.{leb, ltb}
@@ -23,45 +23,66 @@ use Rattle.store.proofs.PlaceLaws.{inside-out}
 use Rattle.store.proofs.SoundLaws.{Sound, sound-out}
 use Rattle.calls.specs.Calls.{recordNamed}
 use Rattle.calls.proofs.CallLaws.{or-left, or-right}
-use Rattle.refusals.specs.Rows.{sharedRows, after}
+use Rattle.refusals.specs.Rows.{row, sharedRows, after}
 use Rattle.refusals.specs.Given.{recordFound}
-use Rattle.refusals.proofs.AfterLaws.{after-told, after-zero}
+use Rattle.refusals.proofs.AfterLaws.{after-told, after-zero, after-after, first-append}
 use Rattle.refusals.proofs.GivenLaws.{judged, shown, found, Passed, found-is, shared-passed, shared-field}
-use Rattle.cluster.specs.inner.Access.{accessRows, accessed, Reaches}
+use Rattle.cluster.specs.inner.Access.{reachRows, reached, accessRows, accessed, Reaches}
 
 -- ---- the rows of the code, return by return
 
-module _ (sd : Bool) (h : Handle) (c : Cluster) (p : Place) (i room mode n : ℕ)
-    (en : n ≡ firstOf (sharedRows sd h c false (leb segments i) false mode)) where
-  pub access-shared : (n ≡ 0 → ⊥) → n ≡ accessed sd h c p i room mode
-  unfolding accessed
-  access-shared t =
-      sym (after-told n (firstOf (accessRows h p i room)) t) ∙ ap (λ (k : ℕ). after k (firstOf (accessRows h p i room))) en
+module _ (sd : Bool) (h : Handle) (c : Cluster) (p : Place) (i : ℕ) (far away : Bool) (mode n : ℕ)
+    (en : n ≡ firstOf (sharedRows sd h c far (leb segments i) away mode)) where
+  pub reach-shared : (n ≡ 0 → ⊥) → n ≡ reached sd h c p i far away mode
+  unfolding reached
+  reach-shared t =
+      sym (after-told n (firstOf (reachRows h p i)) t) ∙ ap (λ (k : ℕ). after k (firstOf (reachRows h p i))) en
 
   module _ (z : n ≡ 0) (r : Bool) (er : r ≡ references (h .selector) i) where
-    rest : (t : Bool) → not r ≡ t
-        → accessed sd h c p i room mode ≡ cond t 11 (cond (isAbsent p) 14 (cond (ltb room (lengthOf p)) 15 0))
-    unfolding accessed
+    rest : (t : Bool) → not r ≡ t → reached sd h c p i far away mode ≡ cond t 11 (cond (isAbsent p) 14 0)
+    unfolding reached
     rest t e =
-        ap (λ (k : ℕ). after k (firstOf (accessRows h p i room))) (sym en ∙ z)
-        ∙ ap (λ (b : Bool). cond b 11 (cond (isAbsent p) 14 (cond (ltb room (lengthOf p)) 15 0))) (ap not (sym er) ∙ e)
+        ap (λ (k : ℕ). after k (firstOf (reachRows h p i))) (sym en ∙ z)
+        ∙ ap (λ (b : Bool). cond b 11 (cond (isAbsent p) 14 0)) (ap not (sym er) ∙ e)
 
-    pub access-not-referenced : not r ≡ true → 11 ≡ accessed sd h c p i room mode
-    access-not-referenced t = sym (rest true t)
+    pub reach-not-referenced : not r ≡ true → 11 ≡ reached sd h c p i far away mode
+    reach-not-referenced t = sym (rest true t)
 
-    module _ (t : not r ≡ false) where
-      last : (q : Place) → p ≡ q → accessed sd h c p i room mode ≡ cond (isAbsent q) 14 (cond (ltb room (lengthOf q)) 15 0)
-      last q e = rest false t ∙ ap (λ (q : Place). cond (isAbsent q) 14 (cond (ltb room (lengthOf q)) 15 0)) e
+    module _ (t : not r ≡ false) (o : Bool) (eo : o ≡ isAbsent p) where
+      last : (u : Bool) → o ≡ u → reached sd h c p i far away mode ≡ cond u 14 0
+      last u e = rest false t ∙ ap (λ (b : Bool). cond b 14 0) (sym eo ∙ e)
 
-      pub access-absent : p ≡ Absent → 14 ≡ accessed sd h c p i room mode
-      access-absent e = sym (last Absent e)
+      pub reach-absent : o ≡ true → 14 ≡ reached sd h c p i far away mode
+      reach-absent e = sym (last true e)
 
-      module _ (base size : ℕ) (e : p ≡ Present base size) where
-        pub access-short : room < size → 15 ≡ accessed sd h c p i room mode
-        access-short l = sym (last (Present base size) e ∙ ap (λ (b : Bool). cond b 15 0) (lt-ltb room size l))
+      pub reach-none : o ≡ false → 0 ≡ reached sd h c p i far away mode
+      reach-none e = sym (last false e)
 
-        pub access-none : size ≤ room → 0 ≡ accessed sd h c p i room mode
-        access-none l = sym (last (Present base size) e ∙ ap (λ (b : Bool). cond b 15 0) (le-ltb room size l))
+module _ (sd : Bool) (h : Handle) (c : Cluster) (p : Place) (i room mode n : ℕ)
+    (en : n ≡ reached sd h c p i false false mode) where
+  -- row 15 below those rows
+  below : accessed sd h c p i room mode ≡ after n (cond (ltb room (lengthOf p)) 15 0)
+  unfolding accessed reached
+  below =
+      ap (after (firstOf (sharedRows sd h c false (leb segments i) false mode)))
+      (first-append (reachRows h p i) (row 15 (ltb room (lengthOf p)) ∷ []) (omega arith))
+      ∙ sym (after-after (firstOf (sharedRows sd h c false (leb segments i) false mode)) (firstOf (reachRows h p i)) _)
+      ∙ ap (λ (k : ℕ). after k (cond (ltb room (lengthOf p)) 15 0)) (sym en)
+
+  pub access-reached : (n ≡ 0 → ⊥) → n ≡ accessed sd h c p i room mode
+  access-reached t = sym (below ∙ after-told n _ t)
+
+  module _ (z : n ≡ 0) (size : ℕ) (el : size ≡ lengthOf p) where
+    short : (t : Bool) → ltb room size ≡ t → accessed sd h c p i room mode ≡ cond t 15 0
+    short t e =
+        below ∙ ap (λ (k : ℕ). after k (cond (ltb room (lengthOf p)) 15 0)) z
+        ∙ ap (λ (b : Bool). cond b 15 0) (ap (ltb room) (sym el) ∙ e)
+
+    pub access-short : room < size → 15 ≡ accessed sd h c p i room mode
+    access-short l = sym (short true (lt-ltb room size l))
+
+    pub access-none : size ≤ room → 0 ≡ accessed sd h c p i room mode
+    access-none l = sym (short false (le-ltb room size l))
 
 -- ---- whether the slice is too short
 

@@ -9,3 +9,4 @@ pub mod MakeLaws
 pub mod CopyLaws
 pub mod AccessLaws
 pub mod BytesLaws
+pub mod LookLaws

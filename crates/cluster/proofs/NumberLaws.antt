@@ -18,11 +18,11 @@ use Rattle.store.specs.declared.Store.{Store}
 use Rattle.store.specs.Records.{tableOf, tableAt, placeOf, readMode, writeMode}
 use Rattle.store.specs.Sound.{isAbsent}
 use Rattle.store.specs.Placement.{placement}
-use Rattle.calls.specs.Calls.{deletingCluster, makingSegment, deletingSegment, reading, writing, reducing, renewing}
+use Rattle.calls.specs.Calls.{deletingCluster, makingSegment, deletingSegment, reading, writing, reducing, renewing, looking}
 use Rattle.calls.specs.Numbers.{isOld, number, tests}
 use Rattle.refusals.specs.Rows.{badModes, row, openRows, sharedRows, ownerRows}
 use Rattle.refusals.proofs.GivenLaws.{judged, shown, found, named, either-record}
-use Rattle.cluster.specs.inner.Access.{accessRows}
+use Rattle.cluster.specs.inner.Access.{reachRows, accessRows}
 use Rattle.cluster.specs.inner.Makes.{badFields, makeRows}
 
 module _ (s : Store) (m b : List ℕ) where
@@ -118,3 +118,13 @@ module _ (s : Store) (m b : List ℕ) where
 
   pub number-write : (i : ℕ) (written : List ℕ) → number product (writing i b written) s (length m) ≡ firstOf (sharedRows sd h c false (leb segments i) false writeMode ++ moved i written c)
   number-write i written = on-write i written ∙ either-record s m b (not sd) (false) (opened (leb segments i) writeMode (moved i written))
+
+  abbrev seen : ℕ → Cluster → List Row
+  seen i e = reachRows h (placeOf (tableOf e) i) i
+
+  on-look : (current i : ℕ) → number product (looking current i b) s (length m) ≡ firstOf (sharedRows sd h d (leb nodes current) (leb segments i) (not (eqb current (nodeOf h))) readMode ++ seen i d)
+  unfolding number tests
+  on-look current i = simp or-false
+
+  pub number-look : (current i : ℕ) → number product (looking current i b) s (length m) ≡ firstOf (sharedRows sd h c (leb nodes current) (leb segments i) (not (eqb current (nodeOf h))) readMode ++ seen i c)
+  number-look current i = on-look current i ∙ either-record s m b (not sd) (leb nodes current) (λ e. firstOf (openRows h e (leb segments i) (not (eqb current (nodeOf h))) readMode ++ seen i e))

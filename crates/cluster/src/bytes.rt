@@ -1,5 +1,8 @@
-// Reading and writing: the calls that move the bytes of a segment and change no record.
+// Reading, writing and looking: the calls that are about the bytes of a segment and change no record.
 use calls::Answer;
+use calls::Looked;
+use calls::Part;
+use calls::hidden;
 use calls::length_told;
 use calls::number_alone;
 use handle::Handle;
@@ -9,6 +12,7 @@ use numbers::SHORT;
 use numbers::UNSOUND;
 use refusals::first_refusal;
 use sizes::NODE_MEMORY;
+use sizes::NODES;
 use sizes::SEGMENTS;
 use store::Cluster;
 use store::Place;
@@ -16,7 +20,7 @@ use store::READ_MODE;
 use store::WRITE_MODE;
 ghost use mathlib.Core.Path.{_≡_};
 ghost use mathlib.Core.List.{List, _++_};
-ghost use Prim.Native.Nat.{ℕ, _+_};
+ghost use Prim.Native.Nat.{ℕ, _+_, _^_, _<_};
 ghost use lib.Dec.{ltb};
 ghost use lib.ListN.{length, take, drop};
 ghost use Rattle.handle.specs.Handles.{nodeOf};
@@ -25,18 +29,49 @@ ghost use Rattle.store.specs.Records.{baseOf, address};
 ghost use Rattle.calls.specs.Calls as calls;
 ghost use Rattle.calls.specs.Steps.{aesStep, overwritten};
 ghost use Rattle.calls.specs.Answers.{copyOf, ended};
+ghost use Rattle.calls.specs.Looks.{aesLooked};
 ghost use Rattle.refusals.specs.Given.{Given};
-ghost use Rattle.cluster.specs.inner.Access.{accessed, Reaches};
+ghost use Rattle.cluster.specs.inner.Access.{reached, accessed, partOf, Reaches};
 
-// Where a place of the memory of a handle's node begins in the slice.
+// Where a place of the memory of a handle's node begins in the slice. Node and base have sixteen bits each.
 fn start_of(handle: Handle, place: Place) -> usize
-    ensures { λ r. ⌜ r ≡ address (nodeOf handle) (baseOf place) ⌝ }
+    ensures begins { λ r. ⌜ r ≡ address (nodeOf handle) (baseOf place) ⌝ }
+    ensures low { λ r. ⌜ r < 2 ^ 32 ⌝ }
 {
     handle.node() * NODE_MEMORY + store::base_of(place) as usize
 }
 
-// The first refusal of a read or a write that applies, or 0: the shared ones, then 11, 14 and 15, where `room` is the
-// length of the buffer or the data.
+// The first refusal that applies, or 0, of the shared ones and then 11 and 14: of a read, a write or a look, where `far` and
+// `away` tell whether its current node is bad or not the handle's.
+fn reach(
+    sound: bool,
+    handle: Handle,
+    cluster: Cluster,
+    place: Place,
+    segment: usize,
+    far: bool,
+    away: bool,
+    mode: usize,
+) -> u8
+    ensures { λ r. ⌜ r ≡ reached sound handle cluster place segment far away mode ⌝ }
+{
+    let tables = aes::tables();
+    let field = SEGMENTS <= segment;
+    let number = first_refusal(&tables, sound, handle, cluster, far, field, away, mode);
+    if number != 0 {
+        return number;
+    }
+    if !handle.references(segment) {
+        return NOT_REFERENCED;
+    }
+    if store::absent(place) {
+        return ABSENT;
+    }
+    0
+}
+
+// The first refusal of a read or a write that applies, or 0: those above, then 15, where `room` is the length of the buffer
+// or the data.
 fn access(
     sound: bool,
     handle: Handle,
@@ -48,32 +83,15 @@ fn access(
 ) -> u8
     ensures { λ r. ⌜ r ≡ accessed sound handle cluster place segment room mode ⌝ }
 {
-    let tables = aes::tables();
-    let number = first_refusal(
-        &tables,
-        sound,
-        handle,
-        cluster,
-        false,
-        SEGMENTS <= segment,
-        false,
-        mode,
-    );
+    let number = reach(sound, handle, cluster, place, segment, false, false, mode);
     if number != 0 {
         return number;
     }
-    if !handle.references(segment) {
-        return NOT_REFERENCED;
+    let length = store::length_of(place) as usize;
+    if room < length {
+        return SHORT;
     }
-    match place {
-        Place::Absent => ABSENT,
-        Place::Present { base: _, length } => {
-            if room < length as usize {
-                return SHORT;
-            }
-            0
-        }
-    }
+    0
 }
 
 // Whether a slice of `all` bytes ends before the part of `size` bytes that begins at `from` does. No sum is formed, so none
@@ -97,6 +115,15 @@ fn copy(to: &mut [u8], from: &[u8])
         to[i] = from[i];
         i += 1;
     }
+}
+
+// The part of the memory that is a place of a handle's node.
+fn part_of(handle: Handle, place: Place) -> Part
+    ensures { λ r. ⌜ r ≡ partOf handle place ⌝ }
+{
+    let from = start_of(handle, place);
+    let to = from + store::length_of(place) as usize;
+    Part { from, to }
 }
 
 // The segment's own part of the memory, handed on to be copied to the buffer's first bytes.
@@ -185,4 +212,30 @@ pub fn write(
     }
     copy_in(memory, from, size, written);
     number_alone(0)
+}
+
+// A look: its number, and where in the memory the segment lies. No byte of the memory is needed to tell it.
+pub fn look(sound: bool, handle: Handle, cluster: Cluster, current: usize, segment: usize) -> Looked
+    ensures { λ r. ⌜ ((s : declared.Store) (m b : List ℕ) → Given sound handle cluster s m b
+        → r ≡ aesLooked (calls.looking current segment b) s (length m)) ⌝ }
+{
+    let place = store::place_of(cluster, segment);
+    let node = handle.node();
+    let number = reach(
+        sound,
+        handle,
+        cluster,
+        place,
+        segment,
+        NODES <= current,
+        current != node,
+        READ_MODE,
+    );
+    if number != 0 {
+        return hidden(number);
+    }
+    Looked {
+        number: 0,
+        part: part_of(handle, place),
+    }
 }

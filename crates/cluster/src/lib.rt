@@ -3,12 +3,13 @@
 // it serves a store of records and its image alike. A contract speaks of every store that holds what was given (`Given`).
 // No core touches a byte outside its memory, even where it is told of a soundness that is not so.
 
-mod bytes; // bytes.rt: reading and writing
+mod bytes; // bytes.rt: reading, writing and looking
 mod change; // change.rt: the calls that change the record and no byte
 mod create; // create.rt: the call that makes a cluster, and weakening, which needs no record
 mod make; // make.rt: the call that makes a segment
 mod open; // open.rt: validation and reduction, which change nothing
 
+pub use bytes::look;
 pub use bytes::read;
 pub use bytes::write;
 pub use change::delete_cluster;

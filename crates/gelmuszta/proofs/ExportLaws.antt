@@ -59,7 +59,7 @@ step-leaves x c h = go (number product x (c .store) (length (c .memory))) h
     go (suc n) h = refl
 
 -- a call that looks at the store gets 1 where it is not sound
-number-unsound : (x : Call) (s : Store) (size : ℕ) → among (7 ∷ []) (x .kind) ≡ false → sound s size ≡ false
+pub number-unsound : (x : Call) (s : Store) (size : ℕ) → among (7 ∷ []) (x .kind) ≡ false → sound s size ≡ false
     → number product x s size ≡ 1
 unfolding number unsound
 number-unsound x s size looks f = simp (looks, f)
@@ -116,7 +116,7 @@ module _ (b m : List ℕ) (sd : Bool) (es : sd ≡ (good b && sound (storeIn b) 
       abbrev left : Outcome
       left = aesStep x (copyOf (storeIn b) m)
 
-      through : imaged left ≡ exported x b m
+      pub through : imaged left ≡ exported x b m
       unfolding exported
       through = sym (ap (picked x b m) held-good)
 

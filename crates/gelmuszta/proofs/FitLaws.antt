@@ -11,7 +11,7 @@ use Rattle.store.specs.Records.{tableAt}
 use Rattle.store.proofs.PlaceLaws.{inside-out}
 use Rattle.store.proofs.PlacementLaws.{newBase-fits}
 use Rattle.calls.specs.Calls.{Copy, Kind, Call, Arguments, call, newCluster, deleteCluster, newSegment, deleteSegment}
-use Rattle.calls.specs.Calls.{read, write, weaken, reduce, newPassword, validate, nodeFor, recordFor}
+use Rattle.calls.specs.Calls.{read, write, weaken, reduce, newPassword, validate, look, nodeFor, recordFor}
 use Rattle.calls.specs.Numbers.{number}
 use Rattle.calls.specs.Steps.{about, newBaseFor, outcome, step, left, effects}
 use Rattle.calls.proofs.DoneLaws.{done-range, new-base}
@@ -55,6 +55,7 @@ module _ (f : Name → List ℕ → ℕ → List ℕ) where
     left-fits newPassword p e =
         put-fits (c .store) _ _ k (password-fits _ (g .mode) (g .first) (about-fits (call newPassword g) e) (p .first refl))
     left-fits validate p e = k
+    left-fits look p e = k
 
   pub step-fits : (x : Call) (c : Copy) → PasswordsFit x → StoreFits (c .store) → StoreFits (step f x c .copy .store)
   unfolding step

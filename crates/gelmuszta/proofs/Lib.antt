@@ -1,5 +1,6 @@
 pub mod ReplyLaws
 pub mod ExportLaws
+pub mod LookLaws
 pub mod MakeLaws
 pub mod ValidationLaws
 pub mod FitLaws

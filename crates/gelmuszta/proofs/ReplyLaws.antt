@@ -8,9 +8,9 @@ use Rattle.handle.specs.Conversion.{product}
 use Rattle.calls.specs.declared.Answer.{Answer}
 use Rattle.calls.specs.Answers.{replied}
 use Rattle.calls.specs.Calls.{Copy, Call, Arguments, call, newCluster, deleteCluster, newSegment, deleteSegment}
-use Rattle.calls.specs.Calls.{Kind, read, write, weaken, reduce, newPassword, validate, buffer}
+use Rattle.calls.specs.Calls.{Kind, read, write, weaken, reduce, newPassword, validate, look, buffer}
 use Rattle.calls.specs.Numbers.{number}
-use Rattle.calls.specs.Steps.{Reply, plain, handles, readReply, zeroHandle, segmentRead, given, outcome, step, aesStep}
+use Rattle.calls.specs.Steps.{Reply, plain, handles, readReply, zeroHandle, segmentRead, segmentShown, given, outcome, step, aesStep}
 use Rattle.gelmuszta.specs.Exported.{replyOf}
 
 -- a field that is the same in every refusal and in what the call gives
@@ -106,7 +106,7 @@ module _ (g : Arguments) where
 
 -- a call done has the number 0
 pub done-number : (kind : Kind) (x : Call) (c : Copy) → given product kind x c .number ≡ 0
-unfolding given segmentRead
+unfolding given segmentRead segmentShown
 done-number newCluster x c = refl
 done-number deleteCluster x c = refl
 done-number newSegment x c = refl
@@ -117,6 +117,7 @@ done-number weaken x c = refl
 done-number reduce x c = refl
 done-number newPassword x c = refl
 done-number validate x c = refl
+done-number look x c = refl
 
 -- ---- the reply from the fields that the code gives
 

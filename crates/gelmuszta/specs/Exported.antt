@@ -3,19 +3,25 @@
 --     Exported              the reply, and the image and the memory that are left
 --     returned ..           what an exported function gave and left: its number, two handles, count, length, buffer, image
 --                           and memory; where it gives no such value, zeros stand for it, as in every reply
+--     showing n bs ..       the same of a look: its number, and the bytes of the part that it told
 --     damaged x b m         an image that holds no store is refused as an unsound one is, with 1, and all stays as it was;
 --                           weakening alone, which looks at no store, is answered as ever
 --     imaged o              what a step gave and left, the store as its image
 --     exported x b m        the call x on the image b and the memory m: the step on the store that b holds
+--     partFrom a n          the part of n bytes that begins at a
+--     exportedPart x b size    the part that the look x tells on the image b and a memory of that many bytes: that on the
+--                           store which b holds, and nowhere if b holds none
 --     Always x r            on every store and memory the call x gives the reply r, and leaves both as they were
 -- Assumes nothing.
 use mathlib.Core.Path.{_≡_}
-use Prim.Native.Nat.{ℕ}
+use Prim.Native.Nat.{ℕ, _+_}
 use mathlib.Core.Bool.{true, false}
 use mathlib.Core.List.{List, [], _∷_}
 use Rattle.store.specs.declared.Store.{Store}
 use Rattle.calls.specs.Calls.{Call, among, buffer}
-use Rattle.calls.specs.Steps.{Reply, Outcome, plain, aesStep}
+use Rattle.calls.specs.declared.Part.{Part}
+use Rattle.calls.specs.Steps.{Reply, Outcome, plain, lookReply, aesStep}
+use Rattle.calls.specs.Looks.{nowhere, aesLooked}
 use Rattle.calls.specs.Answers.{copyOf}
 use Rattle.image.specs.Images.{good, storeIn, imageOf}
 use Rattle.numbers.specs.Numbers.{unsoundNumber}
@@ -41,6 +47,9 @@ abbrev pub returned : ℕ → List ℕ → List ℕ → ℕ → ℕ → List ℕ
 returned number first second count length buffer image memory =
     record { reply = replyOf number first second count length buffer; image = image; memory = memory }
 
+abbrev pub showing : ℕ → List ℕ → List ℕ → List ℕ → Exported
+showing number shown image memory = record { reply = lookReply number shown; image = image; memory = memory }
+
 abbrev pub damaged : Call → List ℕ → List ℕ → Exported
 damaged x b m =
     record {
@@ -58,6 +67,12 @@ imaged o = record { reply = o .reply; image = imageOf (o .copy .store); memory =
 
 unfoldable pub exported : Call → List ℕ → List ℕ → Exported
 exported x b m = elim (good b) [ true ↦ imaged (aesStep x (copyOf (storeIn b) m)) | false ↦ damaged x b m ]
+
+abbrev pub partFrom : ℕ → ℕ → Part
+partFrom a n = record { from = a; to = a + n }
+
+unfoldable pub exportedPart : Call → List ℕ → ℕ → Part
+exportedPart x b size = elim (good b) [ true ↦ aesLooked x (storeIn b) size .part | false ↦ nowhere ]
 
 abbrev pub Always : Call → Reply → Type 0
 Always x r = (s : Store) (m : List ℕ) → record { copy = copyOf s m; reply = r } ≡ aesStep x (copyOf s m)

@@ -1,4 +1,4 @@
-// Calls 3, 5 and 6: they clear, read or write the bytes of a segment.
+// Calls 3, 5 and 6, and the look: they clear, read, write or show the bytes of a segment.
 use crate::keep;
 use crate::look_up;
 use handle::HandleBytes;
@@ -8,7 +8,8 @@ ghost use mathlib.Core.Path.{_≡_};
 ghost use mathlib.Core.List.{[]};
 ghost use Rattle.calls.specs.Calls as calls;
 ghost use Rattle.calls.specs.Steps.{zeroHandle};
-ghost use Rattle.gelmuszta.specs.Exported.{returned, exported};
+ghost use lib.ListN as lists;
+ghost use Rattle.gelmuszta.specs.Exported.{returned, showing, exported, partFrom, exportedPart};
 
 // Call 3: the segment is present at the smallest base at which it fits, and its bytes are zero.
 #[no_mangle]
@@ -86,4 +87,38 @@ pub extern "C" fn gelmuszta_write(
     }
     let answer = cluster::write(true, o.handle, o.cluster, memory, segment, written);
     answer.number
+}
+
+// A look: where the part of the memory that is the segment begins and how long it is, both 0 where it is refused. No byte of
+// the memory is read.
+#[no_mangle]
+pub extern "C" fn gelmuszta_look(
+    image: &[u8; IMAGE],
+    memory: &[u8],
+    current: usize,
+    segment: usize,
+    handle: &HandleBytes,
+    from: &mut usize,
+    length: &mut usize,
+) -> u8
+    ensures reply { λ r. ⌜ showing r (lists.take (now (length .exit)) (lists.drop (now (from .exit)) (now (memory .entry)))) (now (image .entry)) (now (memory .entry))
+        ≡ exported (calls.looking current segment (now (handle .entry))) (now (image .entry)) (now (memory .entry)) ⌝ }
+    ensures place { λ _. ⌜ partFrom (now (from .exit)) (now (length .exit))
+        ≡ exportedPart (calls.looking current segment (now (handle .entry))) (now (image .entry)) (lists.length (now (memory .entry))) ⌝ }
+{
+    let h = *handle;
+    let o = look_up(image, memory.len(), h);
+    let sound = o.sound;
+    if !sound {
+        *from = 0;
+        *length = 0;
+        return UNSOUND;
+    }
+    let looked = cluster::look(true, o.handle, o.cluster, current, segment);
+    let part = looked.part;
+    let begins = part.from;
+    let ends = part.to;
+    *from = begins;
+    *length = ends - begins;
+    looked.number
 }

@@ -9,12 +9,13 @@ use image::IMAGE;
 use store::Cluster;
 ghost use Rattle.gelmuszta.specs.inner.Opened as opened;
 
-mod bytes; // bytes.rt: calls 3, 5 and 6, which use the memory's bytes
+mod bytes; // bytes.rt: calls 3, 5 and 6, which use the memory's bytes, and the look, which tells where they lie
 mod handles; // handles.rt: conversion, calls 7 and 8
 mod records; // records.rt: calls 1, 2, 4 and 9, which change a record
 mod stores; // stores.rt: the starting store, soundness
 mod validation; // validation.rt: validation of one handle and of many
 
+pub use bytes::gelmuszta_look;
 pub use bytes::gelmuszta_new_segment;
 pub use bytes::gelmuszta_read;
 pub use bytes::gelmuszta_write;

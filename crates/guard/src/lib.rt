@@ -3,6 +3,8 @@
 // that the call is about, has the core (`cluster`) do the call on it, and puts the record back.
 use calls::Answer;
 use calls::Left;
+use calls::Looked;
+use calls::Part;
 use calls::RecordLeft;
 use calls::unchanged;
 use handle::Handle;
@@ -17,6 +19,7 @@ ghost use Rattle.sizes.specs.Sizes.{records};
 ghost use Rattle.calls.specs.Calls as calls;
 ghost use Rattle.calls.specs.Steps.{aesStep};
 ghost use Rattle.calls.specs.Answers.{copyOf, ended};
+ghost use Rattle.calls.specs.Looks.{aesLooked};
 ghost use Rattle.guard.specs.inner.Opens.{Opens, putBack};
 
 // Weakening looks at no store.
@@ -191,4 +194,58 @@ pub fn validate(store: Store, memory: &[u8], mode: usize, bytes: HandleBytes) ->
     let tables = aes::tables();
     let o = look_up(store, memory.len(), bytes);
     cluster::validate(&tables, o.sound, o.handle, o.cluster, mode)
+}
+
+// What a look tells: its number, and where in the memory the segment lies; of a refused look a part of no bytes.
+fn looked(store: Store, size: usize, current: usize, segment: usize, bytes: HandleBytes) -> Looked
+    ensures { λ r. ⌜ r ≡ aesLooked (calls.looking current segment bytes) store size ⌝ }
+{
+    let o = look_up(store, size, bytes);
+    cluster::look(o.sound, o.handle, o.cluster, current, segment)
+}
+
+// Where the part that a look shows begins and ends in the memory. The records and the length of the memory tell it: no byte
+// of it is lent.
+pub fn look_part(
+    store: Store,
+    size: usize,
+    current: usize,
+    segment: usize,
+    bytes: HandleBytes,
+) -> Part
+    ensures { λ r. ⌜ r ≡ aesLooked (calls.looking current segment bytes) store size .part ⌝ }
+{
+    let l = looked(store, size, current, segment, bytes);
+    l.part
+}
+
+// The number of a look.
+pub fn look_number(
+    store: Store,
+    memory: &[u8],
+    current: usize,
+    segment: usize,
+    bytes: HandleBytes,
+) -> u8
+    ensures { λ r. ⌜ r ≡ aesStep (calls.looking current segment bytes) (copyOf store (now (memory .entry))) .reply .number ⌝ }
+{
+    let l = looked(store, memory.len(), current, segment, bytes);
+    l.number
+}
+
+// A look: the part of the memory that is the segment, for as long as the memory is lent; an empty part where it is refused.
+// Nothing is copied.
+pub fn look<'a>(
+    store: Store,
+    memory: &'a [u8],
+    current: usize,
+    segment: usize,
+    bytes: HandleBytes,
+) -> &'a [u8]
+    ensures { λ r. ⌜ now r ≡ aesStep (calls.looking current segment bytes) (copyOf store (now (memory .entry))) .reply .shown ⌝ }
+{
+    let part = look_part(store, memory.len(), current, segment, bytes);
+    let from = part.from;
+    let to = part.to;
+    &memory[from..to]
 }

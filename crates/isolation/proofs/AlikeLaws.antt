@@ -4,7 +4,7 @@
 -- Assumes nothing.
 use mathlib.Core.Path.{_≡_, refl, sym, ap, _∙_, subst}
 use mathlib.Core.Logic.{_≢_}
-use Prim.Native.Nat.{ℕ, _+_, _≤_, _<_}
+use Prim.Native.Nat.{ℕ, _+_, _-_, _≤_, _<_}
 use native.Mathlib.Omega.{arith}
 use native.Mathlib.Decide.{ℕ-discrete, decLt}
 use mathlib.Core.Bool.{true}
@@ -19,20 +19,19 @@ use Rattle.store.specs.Records.{Table, Tables, inactive, started, tableOf, clus
 use Rattle.store.specs.Records.{withPlace, lengthOf, primaryOf, withPassword}
 use Rattle.store.proofs.ChangeLaws.{put-other, put-same, put-out}
 use Rattle.calls.specs.Calls.{Copy, Call, call, Arguments, Kind, newCluster, deleteCluster, newSegment, deleteSegment}
-use Rattle.calls.specs.Calls.{read, write, weaken, reduce, newPassword, validate, opens, handleOf, nodeFor, localFor}
-use Rattle.calls.specs.Calls.{recordFor, placeFor, startFor}
-use Rattle.calls.specs.Steps.{zeroHandle, handles, readReply, putCluster, putBytes, about, newPlace}
+use Rattle.calls.specs.Calls.{read, write, weaken, reduce, newPassword, validate, look, opens, uses, handleOf, nodeFor}
+use Rattle.calls.specs.Calls.{localFor, recordFor, placeFor, startFor, partFor}
+use Rattle.calls.specs.Steps.{zeroHandle, handles, readReply, lookReply, within, putCluster, putBytes, about, newPlace}
 use Rattle.calls.specs.Steps.{newStart}
 use Rattle.calls.specs.Steps.{clusterMade, clusterDeleted, segmentMade, segmentDeleted, segmentWritten}
 use Rattle.calls.specs.Steps.{passwordReplaced}
-use Rattle.calls.specs.Steps.{left, segmentRead, given}
+use Rattle.calls.specs.Steps.{left, segmentRead, segmentShown, given}
 use Rattle.isolation.specs.Copies.{SoundCopy, Done, InPlace, setApart, Alike, Shut}
 use Rattle.calls.proofs.MemoryLaws.{length-overwritten, overwritten-both, part-same}
-use Rattle.calls.proofs.CallLaws.{InRange}
 use Rattle.isolation.proofs.AddressLaws.{in-place, place-outside}
 use Rattle.calls.proofs.DoneLaws.{done-range, new-away}
 use Rattle.isolation.proofs.AwayLaws.{shut-away}
-use Rattle.isolation.proofs.KeptLaws.{tables, facts, segment-fits, new-fits, write-fits, read-segment}
+use Rattle.isolation.proofs.KeptLaws.{tables, facts, segment-fits, low-segment, new-fits, write-fits}
 use Rattle.isolation.proofs.NumberLaws.{alike-tables}
 
 module _ (node local : ℕ) where
@@ -159,37 +158,50 @@ module _ (node local : ℕ) (high : node < nodes) (low : local < clusters) (f : 
       change node local a b al (call newPassword g) (λ d. withPassword d (g .mode) (g .first))
       (elsewhere newPassword refl e h)
   left-alike validate h e = al
+  left-alike look h e = al
 
-  -- the segment that a read copies lies outside those of the cluster set apart
+  -- the segment that a call reads lies outside those of the cluster set apart
+  module _ (kind : Kind) (u : uses kind .segment ≡ true) (e : Done f (call kind g) a)
+      (ne : recordFor (call kind g) ≢ setApart node local) where
+    abbrev begins : ℕ
+    begins = startFor (call kind g) (tables a)
+
+    abbrev long : ℕ
+    long = lengthOf (placeFor (call kind g) (tables a))
+
+    part-alike : take long (drop begins (a .memory)) ≡ take long (drop begins (b .memory))
+    part-alike =
+        let x : Call = call kind g in
+        let v = done-range f x (a .store) (length (a .memory)) e in
+        let i = low-segment f g a k kind u e in
+        part-same (a .memory) (b .memory) begins long (segment-fits f g a k x v i) (al .size)
+        (λ p lo hi.
+        al .bytes p
+        (place-outside (a .store) (length (a .memory)) (facts a k) node local high low (nodeFor x) (localFor x)
+        (g .segment) (v .node-low) (v .local-low) i ne p (in-place (nodeFor x) (placeFor x (tables a)) p lo hi)))
+
   read-alike : Done f (call read g) a → recordFor (call read g) ≢ setApart node local
       → segmentRead (call read g) a ≡ segmentRead (call read g) b
   unfolding segmentRead
   read-alike e ne =
-      ap (λ (bs : List ℕ). readReply (size (tables a)) (bs ++ drop (size (tables a)) (g .bytes))) part
+      let x : Call = call read g in
+      let size : Tables → ℕ = λ ts. lengthOf (placeFor x ts) in
+      ap (λ (bs : List ℕ). readReply (size (tables a)) (bs ++ drop (size (tables a)) (g .bytes))) (part-alike read refl e ne)
       ∙ ap
       (λ (ts : Tables).
       readReply (size ts) (take (size ts) (drop (startFor x ts) (b .memory)) ++ drop (size ts) (g .bytes)))
       same-tables
-    where
-      x : Call
-      x = call read g
 
-      size : Tables → ℕ
-      size ts = lengthOf (placeFor x ts)
-
-      v : InRange (nodeFor x) (localFor x)
-      v = done-range f x (a .store) (length (a .memory)) e
-
-      part : take (size (tables a)) (drop (startFor x (tables a)) (a .memory))
-          ≡ take (size (tables a)) (drop (startFor x (tables a)) (b .memory))
-      part =
-          part-same (a .memory) (b .memory) (startFor x (tables a)) (size (tables a))
-          (segment-fits f g a k x v (read-segment f g a k e)) (al .size)
-          (λ p lo hi.
-          al .bytes p
-          (place-outside (a .store) (length (a .memory)) (facts a k) node local high low (nodeFor x) (localFor x)
-          (g .segment) (v .node-low) (v .local-low) (read-segment f g a k e) ne p
-          (in-place (nodeFor x) (placeFor x (tables a)) p lo hi)))
+  look-alike : Done f (call look g) a → recordFor (call look g) ≢ setApart node local
+      → segmentShown (call look g) a ≡ segmentShown (call look g) b
+  unfolding segmentShown
+  look-alike e ne =
+      let x : Call = call look g in
+      let n : begins look refl e ne + long look refl e ne - begins look refl e ne ≡ long look refl e ne = omega arith in
+      ap (λ (k : ℕ). lookReply 0 (take k (drop (startFor x (tables a)) (a .memory)))) n
+      ∙ ap (lookReply 0) (part-alike look refl e ne)
+      ∙ ap (λ (k : ℕ). lookReply 0 (take k (drop (startFor x (tables a)) (b .memory)))) (sym n)
+      ∙ ap (λ (ts : Tables). lookReply 0 (within (partFor x ts) (b .memory))) same-tables
 
   pub given-alike : (kind : Kind) → Closed kind → Done f (call kind g) a
       → given f kind (call kind g) a ≡ given f kind (call kind g) b
@@ -211,3 +223,4 @@ module _ (node local : ℕ) (high : node < nodes) (low : local < clusters) (f : 
       (al .others (recordFor x) (elsewhere reduce refl e h))
   given-alike newPassword h e = refl
   given-alike validate h e = refl
+  given-alike look h e = look-alike e (elsewhere look refl e h)

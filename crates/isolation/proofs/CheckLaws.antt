@@ -24,7 +24,7 @@ use Rattle.store.specs.declared.Store.{Store}
 use Rattle.store.specs.Records.{clusterAt, tableAt, readMode, writeMode, primaryOf}
 use Rattle.store.specs.Sound.{sound}
 use Rattle.calls.specs.Calls.{Call, call, Arguments, Kind, newCluster, deleteCluster, newSegment, deleteSegment}
-use Rattle.calls.specs.Calls.{read, write, weaken, reduce, newPassword, validate, opens, needed}
+use Rattle.calls.specs.Calls.{read, write, weaken, reduce, newPassword, validate, look, opens, needed}
 use Rattle.calls.specs.Calls.{handleOf, buffer, recordNamed}
 use Rattle.calls.specs.Numbers.{unsound, noPlace, badMode, badSegment, badSize, badField, gappedHandle, elsewhere}
 use Rattle.calls.specs.Numbers.{inUse, twins, inactiveCluster, valid, violated, notPrimary, notReferenced, tests}
@@ -132,6 +132,17 @@ module _ (f : Name → List ℕ → ℕ → List ℕ) where
         let x : Call = call newPassword g in
         record { opener = opener x s size e refl; flat = all-flat (handleOf x) (no-row f x s size e .notPrimary) }
     held-kind validate e = opener (call validate g) s size e refl
+    held-kind look e =
+        let x : Call = call look g in
+        let r = no-row f x s size e in
+        record {
+          access =
+              record {
+                opener = opener x s size e refl;
+                refers = not-false (references (handleOf x .selector) (g .segment)) (r .notReferenced);
+              };
+          here = same-node (handleOf x) (r .elsewhere);
+        }
 
   pub done-held : DoneHeld f
   done-held x s size e = held-kind (x .args) s size (x .kind) e

@@ -17,7 +17,7 @@ use Rattle.store.specs.declared.Store.{Store}
 use Rattle.store.specs.Records.{absentSegment, clusterAt, tableAt, putRecord, withPlace, readMode, writeMode, primaryOf}
 use Rattle.store.proofs.ChangeLaws.{put-other, put-same, put-out}
 use Rattle.calls.specs.Calls.{Copy, Call, call, Arguments, Kind, newCluster, deleteCluster, newSegment, deleteSegment}
-use Rattle.calls.specs.Calls.{read, write, weaken, reduce, newPassword, validate, recordFor}
+use Rattle.calls.specs.Calls.{read, write, weaken, reduce, newPassword, validate, look, recordFor}
 use Rattle.store.specs.Records.{withPassword}
 use Rattle.calls.specs.Steps.{about, newPlace, effects}
 use Rattle.calls.specs.Steps.{left}
@@ -58,6 +58,7 @@ entries-same weaken x a = refl
 entries-same reduce x a = refl
 entries-same newPassword x a = record { table = refl; password = refl }
 entries-same validate x a = refl
+entries-same look x a = refl
 
 -- a segment replaced leaves the others
 placed : (x : Call) (a : Cluster) (p : Place) → OtherSegments x a (withPlace a (x .args .segment) p)
@@ -106,6 +107,7 @@ module _ (f : Name → List ℕ → ℕ → List ℕ) (g : Arguments) (c : Copy)
             other-stays (about x c) (g .mode) (g .first) (done-mode f x (c .store) (length (c .memory)) e);
       })
   left-entries validate e = refl
+  left-entries look e = refl
 
 pub entries-stay : (f : Name → List ℕ → ℕ → List ℕ) → EntriesStay f
 entries-stay f x c =

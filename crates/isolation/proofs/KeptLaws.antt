@@ -6,7 +6,9 @@ use mathlib.Core.Path.{_≡_, refl, sym, ap, _∙_}
 use mathlib.Core.Logic.{_≢_, _⊎_, inl, inr}
 use Prim.Native.Nat.{ℕ, zero, suc, _+_, _≤_, _<_}
 use native.Mathlib.Omega.{arith}
+use mathlib.Core.Bool.{true}
 use mathlib.Core.List.{List, [], _∷_}
+use lib.Dec.{leb}
 use lib.ListN.{length, take, replicate, length-replicate}
 use lib.Seq.{length-take-le}
 use borrow.Author.Tests.{leb-false}
@@ -20,15 +22,15 @@ use Rattle.store.proofs.PlacementLaws.{newBase-fits}
 use Rattle.store.proofs.SoundLaws.{Sound, sound-out, settled-active, sound-starting}
 use Rattle.store.proofs.ChangeLaws.{put-other, sound-same, sound-inactive, sound-started, sound-made, sound-removed}
 use Rattle.calls.specs.Calls.{Copy, Call, call, Arguments, Kind, newCluster, deleteCluster, newSegment, deleteSegment}
-use Rattle.calls.specs.Calls.{read, write, weaken, reduce, newPassword, validate, nodeFor, localFor, recordFor}
-use Rattle.calls.specs.Calls.{start, placeFor, startFor}
+use Rattle.calls.specs.Calls.{read, write, weaken, reduce, newPassword, validate, look, nodeFor, localFor, recordFor}
+use Rattle.calls.specs.Calls.{start, uses, placeFor, startFor}
 use Rattle.calls.specs.Numbers.{badSegment, number}
 use Rattle.calls.specs.Steps.{putCluster, about, newBaseFor, newPlace, newStart, effects}
 use Rattle.calls.specs.Steps.{left, outcome, step}
 use Rattle.isolation.specs.Copies.{SoundCopy, Done, setApart, Outside, Held}
 use Rattle.isolation.specs.Statements.{StartSound, SoundKept, Touched, OnlyItsOwn, OthersAlone, OtherHeld}
 use Rattle.calls.proofs.MemoryLaws.{length-overwritten, overwritten-out}
-use Rattle.calls.proofs.CallLaws.{InRange}
+use Rattle.calls.proofs.CallLaws.{InRange, guarded}
 use Rattle.isolation.proofs.AddressLaws.{in-place, place-fits, place-inside, place-outside, room-outside}
 use Rattle.isolation.proofs.AwayLaws.{named}
 use Rattle.calls.proofs.DoneLaws.{done-range, done-segment, done-active, new-base, write-long}
@@ -65,13 +67,12 @@ module _ (f : Name → List ℕ → ℕ → List ℕ) where
         let i = inside-out (newBaseFor x (tables c)) (g .size) (room .within) in
         rw (length-replicate {A = ℕ} (g .size) 0) (omega (arith, i .ends, room .known, facts c k .whole))
 
-    pub write-segment : Done f (call write g) c → g .segment < segments
+    pub low-segment : (kind : Kind) → uses kind .segment ≡ true → Done f (call kind g) c → g .segment < segments
     unfolding badSegment
-    write-segment e = leb-false segments (g .segment) (done-segment f (call write g) (c .store) (length (c .memory)) e)
-
-    pub read-segment : Done f (call read g) c → g .segment < segments
-    unfolding badSegment
-    read-segment e = leb-false segments (g .segment) (done-segment f (call read g) (c .store) (length (c .memory)) e)
+    low-segment kind u e =
+        leb-false segments (g .segment)
+        (guarded (uses kind .segment) (leb segments (g .segment)) u
+        (done-segment f (call kind g) (c .store) (length (c .memory)) e))
 
     abbrev data-written : List ℕ
     data-written = take (lengthOf (placeFor (call write g) (tables c))) (g .bytes)
@@ -83,7 +84,7 @@ module _ (f : Name → List ℕ → ℕ → List ℕ) where
         → startFor (call write g) (tables c) + length data-written ≤ length (c .memory)
     write-fits e =
         rw (length-data e)
-        (segment-fits (call write g) (done-range f (call write g) (c .store) (length (c .memory)) e) (write-segment e))
+        (segment-fits (call write g) (done-range f (call write g) (c .store) (length (c .memory)) e) (low-segment write refl e))
 
     -- ---- soundness is kept
 
@@ -123,6 +124,7 @@ module _ (f : Name → List ℕ → ℕ → List ℕ) where
         sound-same (c .store) _ k _ _ (v .node-low) (v .local-low) d
         (settled-active d (done-active f x (c .store) (length (c .memory)) e refl)) refl
     left-sound validate e = k
+    left-sound look e = k
 
     -- ---- only its own is changed
 
@@ -160,6 +162,7 @@ module _ (f : Name → List ℕ → ℕ → List ℕ) where
     left-own reduce e = same-own (call reduce g)
     left-own newPassword e = put-own (call newPassword g) _
     left-own validate e = same-own (call validate g)
+    left-own look e = same-own (call look g)
 
     module _ (node local : ℕ) (high : node < nodes) (low : local < clusters) where
       touched-outside : (kind : Kind) → Done f (call kind g) c → recordFor (call kind g) ≢ setApart node local → (p : ℕ)
@@ -174,11 +177,12 @@ module _ (f : Name → List ℕ → ℕ → List ℕ) where
       touched-outside write e ne p t =
           let v = done-range f (call write g) (c .store) (length (c .memory)) e in
           place-outside (c .store) (length (c .memory)) (facts c k) node local high low _ _ (g .segment) (v .node-low)
-          (v .local-low) (write-segment e) ne p t
+          (v .local-low) (low-segment write refl e) ne p t
       touched-outside weaken e ne p t = absurd t
       touched-outside reduce e ne p t = absurd t
       touched-outside newPassword e ne p t = absurd t
       touched-outside validate e ne p t = absurd t
+      touched-outside look e ne p t = absurd t
 
       pub left-held : (kind : Kind) → Done f (call kind g) c → recordFor (call kind g) ≢ setApart node local
           → Held node local c (left kind (call kind g) c)

@@ -18,7 +18,7 @@ use Rattle.store.specs.declared.Store.{Store}
 use Rattle.store.specs.Records.{Tables, tableOf, tableAt, readMode, writeMode, primaryOf}
 use Rattle.store.specs.Sound.{sound}
 use Rattle.calls.specs.Calls.{Copy, Call, call, Arguments, Kind, newCluster, deleteCluster, newSegment, deleteSegment}
-use Rattle.calls.specs.Calls.{read, write, weaken, reduce, newPassword, validate, opens, needed}
+use Rattle.calls.specs.Calls.{read, write, weaken, reduce, newPassword, validate, look, opens, needed}
 use Rattle.calls.specs.Calls.{handleOf, presented, anyOf, recordFor, recordNamed}
 use Rattle.calls.specs.Numbers.{unsound, noPlace, badField, gappedHandle, inUse, inactiveCluster, valid, violated}
 use Rattle.calls.specs.Numbers.{isOld, oldPassword, segmentPresent, segmentAbsent, short, fullNode}
@@ -154,6 +154,7 @@ module _ (node local : ℕ) (low : local < clusters) (f : Name → List ℕ → 
   same-old weaken g ha hb p e m v = refl
   same-old reduce g ha hb p e m v = refl
   same-old validate g ha hb p e m v = refl
+  same-old look g ha hb p e m v = refl
 
   pub same-number : (x : Call) → SoundCopy a → SoundCopy b → Shut node local f x (a .store)
       → Shut node local f x (b .store)

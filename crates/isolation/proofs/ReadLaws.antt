@@ -21,7 +21,7 @@ use Rattle.calls.proofs.DoneLaws.{no-row, done-range}
 use Rattle.calls.proofs.StepLaws.{step-done}
 use Rattle.isolation.specs.Copies.{SoundCopy, Done}
 use Rattle.isolation.specs.Reads.{Read, ReadGives}
-use Rattle.isolation.proofs.KeptLaws.{segment-fits, read-segment}
+use Rattle.isolation.proofs.KeptLaws.{segment-fits, low-segment}
 
 -- ---- n bytes of m from a on, and then b from n on
 
@@ -83,7 +83,7 @@ module _ (f : Name → List ℕ → ℕ → List ℕ) (g : Arguments) (c : Copy)
 
   fits : address (nodeFor x) (baseOf (placeFor x (tableAt (c .store)))) + lengthOf (placeFor x (tableAt (c .store)))
       ≤ length (c .memory)
-  fits = segment-fits f g c sound-copy x (done-range f x (c .store) (length (c .memory)) e) (read-segment f g c sound-copy e)
+  fits = segment-fits f g c sound-copy x (done-range f x (c .store) (length (c .memory)) e) (low-segment f g c sound-copy read refl e)
 
   read-gives-at : (p : Place) → placeFor x (tableAt (c .store)) ≡ p → isAbsent p ≡ false → Read g c (step f x c .reply)
   read-gives-at Absent q h = absurd (true≢false h)

@@ -20,7 +20,7 @@ module _ (f : Name → List ℕ → ℕ → List ℕ) where
   abbrev pub stepBelow : Call → Copy → Outcome
   stepBelow x c = outcome f (numberBelow f x (c .store) (length (c .memory))) x c
 
-  step-below : (x : Call) (c : Copy) → SoundCopy c → step f x c ≡ stepBelow x c
+  pub step-below : (x : Call) (c : Copy) → SoundCopy c → step f x c ≡ stepBelow x c
   unfolding step
   step-below x c k = ap (λ (n : ℕ). outcome f n x c) (number-below f x (c .store) (length (c .memory)) k)
 

@@ -13,7 +13,7 @@ use Rattle.handle.specs.Handles.{Name}
 use Rattle.store.specs.declared.Cluster.{Cluster}
 use Rattle.store.specs.Records.{Table, tableOf, placeOf}
 use Rattle.calls.specs.Calls.{Copy, Call, call, Arguments, Kind, newCluster, deleteCluster, newSegment, deleteSegment}
-use Rattle.calls.specs.Calls.{read, write, weaken, reduce, newPassword, validate, opens, buffer}
+use Rattle.calls.specs.Calls.{read, write, weaken, reduce, newPassword, validate, look, opens, buffer}
 use Rattle.calls.specs.Numbers.{number}
 use Rattle.calls.specs.Steps.{Reply, plain, left, outcome, step, run}
 use Rattle.isolation.specs.Copies.{SoundCopy, Done, InPlace, setApart, Alike, Held, Shut, AllShut}
@@ -62,6 +62,7 @@ module _ (node local : ℕ) (high : node < nodes) (low : local < clusters) (f : 
     shut-held reduce s e = opening-held reduce refl s e
     shut-held newPassword s e = opening-held newPassword refl s e
     shut-held validate s e = opening-held validate refl s e
+    shut-held look s e = opening-held look refl s e
 
   step-held : (x : Call) (c : Copy) → SoundCopy c → Active c → Shut node local f x (c .store)
       → Held node local c (step f x c .copy)

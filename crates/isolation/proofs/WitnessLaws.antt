@@ -25,14 +25,14 @@ use Rattle.store.specs.Sound.{inRanges, endsInside, inside, soundSegment, apart
 use Rattle.store.specs.Sound.{sound}
 use Rattle.store.proofs.ChangeLaws.{put-other}
 use Rattle.calls.specs.Calls.{Copy, handleOf}
-use Rattle.calls.specs.Steps.{Ran, effects, outcome, run}
+use Rattle.calls.specs.Steps.{Ran, Outcome, effects, outcome, run}
 use Rattle.isolation.specs.Copies.{SixteenBytes, SoundCopy, InPlace, Outside, Alike, Held, keyed}
 use Rattle.isolation.specs.Statements.{Agreed}
 use Rattle.calls.specs.Literals.{sixteen, none, told}
 use Rattle.isolation.specs.Witness.{one, two, weakGiven, weakShown, before, last, tries, answersBefore, answers}
-use Rattle.isolation.specs.Witness.{holding, Still, Witnessed, Concluded, shown, Bites}
+use Rattle.isolation.specs.Witness.{holding, Still, Witnessed, Concluded, shown, seen, Bites}
 use Rattle.calls.proofs.StepLaws.{numberBelow, number-below}
-use Rattle.isolation.proofs.RunLaws.{stepBelow, runBelow, run-below, last-below, someBelow, isKeyed, shut-below}
+use Rattle.isolation.proofs.RunLaws.{stepBelow, step-below, runBelow, run-below, last-below, someBelow, isKeyed, shut-below}
 use Rattle.calls.specs.Numbers.{valid, violated, tests, otherTests}
 use Rattle.calls.proofs.Computing.{computing}
 use Rattle.isolation.proofs.TwoCopies.{two-copies}
@@ -181,9 +181,11 @@ module _ (f : Name → List ℕ → ℕ → List ℕ) where
       }
 
   pub bites : Bites f
-  unfolding tests computing
+  unfolding tests effects computing
   bites =
       record {
         done = number-below f shown (one .store) memory sound-one ∙ refl;
         refused = number-below f shown (two .store) memory sound-two ∙ refl;
+        looked = ap (λ (o : Outcome). o .reply) (step-below f seen one sound-one);
+        hidden = ap (λ (o : Outcome). o .reply) (step-below f seen two sound-two);
       }

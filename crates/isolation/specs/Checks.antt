@@ -1,6 +1,7 @@
 -- What `step` does, in words that are not its text: conditions 1 and 2, and the column "Must hold" of document 01's
 -- calls. For every conversion f:
---     Refused x c          the copy and the buffer stay; the handles are zero bytes, the count and the length zero
+--     Refused x c          the copy and the buffer stay; the handles are zero bytes, the count and the length zero, and no
+--                          byte is shown
 --     RefusalChangesNothing    condition 1: a call whose number is not 0 is so refused, with that number
 --     FirstTold            condition 1: the number is that of a row which applies and above which none applies
 --     MustHold k x s       the column "Must hold" for the kind k:
@@ -8,6 +9,7 @@
 --       Primary m            the same, and all its subselectors are flat
 --       Owner                it is a write primary handle of the current node
 --       Access m             it validates in the mode m and references the segment
+--       Local                it does so for reading, and its node is the current one
 --       Fresh                the cluster is inactive, and the two passwords differ
 --     DoneHeld             a call done had what must hold
 --     Judgeable g s size   validation by the arguments g gets as far as row 9: the store is sound, the place exists,
@@ -35,7 +37,7 @@ use Rattle.store.specs.declared.Store.{Store}
 use Rattle.store.specs.Records.{recordOf, clusterAt, tableAt, readMode, writeMode, primaryOf}
 use Rattle.store.specs.Sound.{sound}
 use Rattle.calls.specs.Calls.{Copy, Call, call, Arguments, Kind, newCluster, deleteCluster, newSegment, deleteSegment}
-use Rattle.calls.specs.Calls.{read, write, weaken, reduce, newPassword, validate, Uses, uses}
+use Rattle.calls.specs.Calls.{read, write, weaken, reduce, newPassword, validate, look, Uses, uses}
 use Rattle.calls.specs.Calls.{handleOf, buffer, recordNamed}
 use Rattle.calls.specs.Numbers.{valid, rows, number}
 use Rattle.calls.specs.Clear.{Clear}
@@ -108,6 +110,10 @@ module _ (f : Name → List ℕ → ℕ → List ℕ) where
     pub opener : Opener mode x s
     pub refers : references (handleOf x .selector) (x .args .segment) ≡ true
 
+  pub record Local (x : Call) (s : Store) : Type 0 where
+    pub access : Access readMode x s
+    pub here : x .args .current ≡ nodeOf (handleOf x)
+
   pub record Fresh (x : Call) (s : Store) : Type 0 where
     pub free : tableAt s (recordOf (x .args .current) (x .args .local)) .active ≡ false
     pub two : samePassword (x .args .first) (x .args .second) ≡ false
@@ -123,6 +129,7 @@ module _ (f : Name → List ℕ → ℕ → List ℕ) where
   MustHold reduce x s = Opener (x .args .mode) x s
   MustHold newPassword x s = Primary (x .args .mode) x s
   MustHold validate x s = Opener (x .args .mode) x s
+  MustHold look x s = Local x s
 
   abbrev pub DoneHeld : Type 0
   DoneHeld = (x : Call) (s : Store) (size : ℕ) → number f x s size ≡ 0 → MustHold (x .kind) x s

@@ -42,7 +42,7 @@ use Rattle.store.specs.declared.Store.{Store}
 use Rattle.store.specs.Records.{inactive, tableOf, clusterAt, tableAt, segmentOf}
 use Rattle.calls.specs.Calls.{Copy, Call, call, Arguments, Kind, newCluster, deleteCluster, newSegment, deleteSegment}
 use Rattle.store.specs.Records.{readMode, writeMode, lengthOf, primaryOf}
-use Rattle.calls.specs.Calls.{read, write, weaken, reduce, newPassword, validate}
+use Rattle.calls.specs.Calls.{read, write, weaken, reduce, newPassword, validate, look}
 use Rattle.calls.specs.Calls.{handleOf, nodeFor, localFor, recordFor, placeFor}
 use Rattle.calls.specs.Numbers.{valid}
 use Rattle.calls.specs.Steps.{Outcome, step}
@@ -170,6 +170,7 @@ Entries weaken x a b = b ≡ a
 Entries reduce x a b = b ≡ a
 Entries newPassword x a b = OtherPassword x a b
 Entries validate x a b = b ≡ a
+Entries look x a b = b ≡ a
 
 abbrev pub EntriesStay : (Name → List ℕ → ℕ → List ℕ) → Type 0
 EntriesStay f =

@@ -1,7 +1,7 @@
 -- That readers alter nothing is not empty: a list of calls by a holder of the read primary handle of the cluster set apart,
 -- on the copy `one` of the witness of condition 3. Handles and answers are written out.
---     looks              calls 5, 7, 8, 9 and validation done with that handle, and a read with the handle that call 9
---                        gave; each call that writes, and a new write password, tried with it and refused; and the same
+--     looks              calls 5, 7, 8, 9, validation and a look done with that handle, and a read with the handle that call
+--                        9 gave; each call that writes, and a new write password, tried with it and refused; and the same
 --                        calls done for another cluster with its write primary handle
 --     seen               what is answered
 -- For every conversion f:
@@ -17,9 +17,9 @@ use Rattle.handle.specs.Handles.{Name}
 use Rattle.store.specs.declared.Place.the-variants.{Present}
 use Rattle.store.specs.Records.{clusterAt, tableAt, placeOn}
 use Rattle.calls.specs.Calls.{Call, makingCluster, deletingCluster, makingSegment, deletingSegment, reading}
-use Rattle.calls.specs.Calls.{writing, weakeningBy, reducing, renewing, validating}
+use Rattle.calls.specs.Calls.{writing, weakeningBy, reducing, renewing, validating, looking}
 use Rattle.calls.specs.Steps.{Reply, run}
-use Rattle.calls.specs.Literals.{sixteen, primary, none, told}
+use Rattle.calls.specs.Literals.{sixteen, primary, none, told, shows}
 use Rattle.isolation.specs.Copies.{NoWriter}
 use Rattle.isolation.specs.Witness.{one}
 
@@ -27,6 +27,7 @@ abbrev pub looks : List Call
 looks =
     -- with the read handle of the cluster
     reading 5 (primary 0 2 17) (1 ∷ 2 ∷ 3 ∷ 4 ∷ 5 ∷ [])
+    ∷ looking 0 5 (primary 0 2 17)
     ∷ weakeningBy 255 (primary 0 2 17)
     ∷ reducing 1 (primary 0 2 17)
     ∷ validating 1 (primary 0 2 17)
@@ -51,6 +52,7 @@ looks =
 abbrev pub seen : List Reply
 seen =
     told 0 none none 0 4 (7 ∷ 7 ∷ 7 ∷ 7 ∷ 5 ∷ [])
+    ∷ shows 0 (7 ∷ 7 ∷ 7 ∷ 7 ∷ [])
     ∷ told 0 (primary 0 2 17) none 8 0 []
     ∷ told 0 (primary 0 2 17) none 0 0 []
     ∷ told 0 none none 0 0 []

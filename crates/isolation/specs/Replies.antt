@@ -17,8 +17,8 @@ use Rattle.calls.specs.Calls.{start, Call}
 use Rattle.calls.specs.Steps.{Reply, Ran, run}
 use Rattle.calls.specs.Cases.{added}
 use Rattle.calls.specs.Calls.{makingCluster, deletingCluster, makingSegment, deletingSegment, reading}
-use Rattle.calls.specs.Calls.{writing, weakeningBy, reducing, renewing, validating}
-use Rattle.calls.specs.Literals.{sixteen, handle, primary, none, told}
+use Rattle.calls.specs.Calls.{writing, weakeningBy, reducing, renewing, validating, looking}
+use Rattle.calls.specs.Literals.{sixteen, handle, primary, none, told, shows}
 
 abbrev weak : ℕ → List ℕ
 weak b = handle 1 2 (b + 32) (32 ∷ 255 ∷ 255 ∷ 255 ∷ [])
@@ -31,6 +31,7 @@ doneCalls =
     ∷ writing 5 (primary 1 2 4) (7 ∷ 8 ∷ 9 ∷ 10 ∷ [])
     ∷ weakeningBy 48 (primary 1 2 3)
     ∷ reading 5 (weak 3) (0 ∷ 0 ∷ 0 ∷ 6 ∷ [])
+    ∷ looking 1 5 (weak 3)
     ∷ reducing 1 (weak 3)
     ∷ validating 2 (primary 1 2 4)
     ∷ renewing 1 (primary 1 2 3) (sixteen 5)
@@ -51,6 +52,7 @@ doneReplies =
     ∷ told 0 none none 0 0 (7 ∷ 8 ∷ 9 ∷ 10 ∷ [])
     ∷ told 0 (handle 1 2 51 (48 ∷ 255 ∷ 255 ∷ 255 ∷ [])) none 2 0 []
     ∷ told 0 none none 0 3 (7 ∷ 8 ∷ 9 ∷ 6 ∷ [])
+    ∷ shows 0 (7 ∷ 8 ∷ 9 ∷ [])
     ∷ told 0 (weak 3) none 0 0 []
     ∷ told 0 none none 0 0 []
     ∷ told 0 (primary 1 2 5) none 0 0 []

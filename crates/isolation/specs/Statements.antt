@@ -2,7 +2,7 @@
 --     StartSound              the starting copy is sound
 --     SoundKept               any list of calls leaves a sound copy sound
 --     Agreed xs a b           condition 3's conclusions, for the list xs on the copies a and b:
---       replies                 the answers and the buffers are equal, call by call
+--       replies                 the answers, the buffers and the bytes shown are equal, call by call
 --       alike                   at the end every other record is equal, and every byte outside the cluster's segments
 --       others                  at the end the bytes of every segment of another cluster are equal
 --       held-first, held-second    in each copy the cluster's record and segment bytes are what they were at the start
@@ -26,7 +26,7 @@ use Rattle.sizes.specs.Sizes.{nodes, clusters, segments}
 use Rattle.handle.specs.Handles.{Name}
 use Rattle.store.specs.Records.{Tables, recordOf, clusterAt, tableAt, placeOn}
 use Rattle.calls.specs.Calls.{Copy, start, Call, Kind, newCluster, deleteCluster, newSegment, deleteSegment}
-use Rattle.calls.specs.Calls.{read, write, weaken, reduce, newPassword, validate, nodeFor, localFor, recordFor}
+use Rattle.calls.specs.Calls.{read, write, weaken, reduce, newPassword, validate, look, nodeFor, localFor, recordFor}
 use Rattle.calls.specs.Calls.{placeFor}
 use Rattle.calls.specs.Steps.{newPlace, step, run}
 use Rattle.isolation.specs.Copies.{SoundCopy, InPlace, setApart, Alike, Held, Unaltered, AllShut, NoWriter}
@@ -45,6 +45,7 @@ Touched weaken x ts p = ⊥
 Touched reduce x ts p = ⊥
 Touched newPassword x ts p = ⊥
 Touched validate x ts p = ⊥
+Touched look x ts p = ⊥
 
 -- the copy d is c but for what a call may change
 pub record OnlyItsOwn (x : Call) (c d : Copy) : Type 0 where

@@ -2,13 +2,13 @@
 -- Handles and answers are written out, and no call shown here is left out of condition 3's lists.
 --     holding r w b       a copy in which its passwords are sixteen r and sixteen w, and its four bytes b
 --     one, two            two such copies that differ in all of these
---     shown               a read with the read primary handle of the copy one
+--     shown, seen         a read and a look with the read primary handle of the copy one
 -- For every conversion f:
 --     weakPassword        what the parameter 128 turns the read password of local number 2 of node 3 into
 --     weakGiven           the bytes of the handle with that password, whose subselector 0 is 128
 --     weakShown           with the first sixteen bytes of that password; the same, where f gives sixteen bytes
---     before              each of the nine calls and validation with a handle of the cluster that does not validate, all
---                         refused, and a weakening of one that does; each of them done for a cluster of the same node;
+--     before              each of the nine calls, validation and a look with a handle of the cluster that does not validate,
+--                         all refused, and a weakening of one that does; each of them done for a cluster of the same node;
 --                         and some for one with the same local number, whose read handle is weakened
 --     last                a read with the weakened handle
 --     tries, answers      all these calls, and what both copies answer
@@ -16,7 +16,8 @@
 --     Concluded           what condition 3 says of them: the other copy gives these answers too; the record and a byte
 --                         of the last cluster, record 26, are equal in the end; and each copy has its passwords and
 --                         bytes still
---     Bites               the read shown is done on the copy one and refused with 9 on the other
+--     Bites               the read is done on the copy one and refused with 9 on the other; the look shows the segment's
+--                         bytes on the one, and is refused on the other
 -- Assumes nothing.
 use mathlib.Core.Path.{_≡_}
 use Prim.Native.Nat.{ℕ, _-_, _<_}
@@ -29,10 +30,10 @@ use Rattle.handle.specs.Handles.{Name}
 use Rattle.store.specs.declared.Place.the-variants.{Present}
 use Rattle.store.specs.Records.{startingStore, started, recordOf, clusterAt, tableAt, putRecord, withPlace}
 use Rattle.calls.specs.Calls.{Copy, Call, makingCluster, deletingCluster, makingSegment, deletingSegment, reading}
-use Rattle.calls.specs.Calls.{writing, weakeningBy, reducing, renewing, validating}
+use Rattle.calls.specs.Calls.{writing, weakeningBy, reducing, renewing, validating, looking}
 use Rattle.calls.specs.Numbers.{number}
-use Rattle.calls.specs.Steps.{Reply, run}
-use Rattle.calls.specs.Literals.{sixteen, handle, primary, none, told}
+use Rattle.calls.specs.Steps.{Reply, step, run}
+use Rattle.calls.specs.Literals.{sixteen, handle, primary, none, told, shows}
 use Rattle.isolation.specs.Copies.{SixteenBytes, SoundCopy, setApart, Alike, AllShut}
 
 abbrev pub holding : ℕ → ℕ → ℕ → Copy
@@ -50,6 +51,9 @@ two = holding 1 2 9
 
 abbrev pub shown : Call
 shown = reading 5 (primary 0 2 17) (replicate 6 9)
+
+abbrev pub seen : Call
+seen = looking 0 5 (primary 0 2 17)
 
 -- what a copy that was holding these passwords and bytes has still
 pub record Still (c : Copy) (r w b : ℕ) : Type 0 where
@@ -81,11 +85,13 @@ module _ (f : Name → List ℕ → ℕ → List ℕ) where
       ∷ reducing 1 (primary 0 2 5)
       ∷ renewing 1 (primary 0 2 5) (sixteen 6)
       ∷ validating 2 (primary 0 2 5)
+      ∷ looking 0 5 (primary 0 2 5)
       -- a cluster of the same node
       ∷ makingCluster 0 3 (sixteen 3) (sixteen 4)
       ∷ makingSegment 0 7 2 (primary 0 3 4)
       ∷ writing 7 (primary 0 3 4) (5 ∷ 6 ∷ 7 ∷ [])
       ∷ reading 7 (primary 0 3 3) (9 ∷ 9 ∷ 9 ∷ [])
+      ∷ looking 0 7 (primary 0 3 3)
       ∷ weakeningBy 255 (primary 0 3 3)
       ∷ reducing 2 (primary 0 3 4)
       ∷ renewing 2 (primary 0 3 4) (sixteen 6)
@@ -118,11 +124,13 @@ module _ (f : Name → List ℕ → ℕ → List ℕ) where
       ∷ told 9 none none 0 0 []
       ∷ told 9 none none 0 0 []
       ∷ told 9 none none 0 0 []
+      ∷ shows 9 []
       -- a cluster of the same node
       ∷ told 0 (primary 0 3 3) (primary 0 3 4) 0 0 []
       ∷ told 0 none none 0 0 []
       ∷ told 0 none none 0 0 (5 ∷ 6 ∷ 7 ∷ [])
       ∷ told 0 none none 0 2 (5 ∷ 6 ∷ 9 ∷ [])
+      ∷ shows 0 (5 ∷ 6 ∷ [])
       ∷ told 0 (primary 0 3 3) none 8 0 []
       ∷ told 0 (primary 0 3 4) none 0 0 []
       ∷ told 0 (primary 0 3 6) none 0 0 []
@@ -159,3 +167,5 @@ module _ (f : Name → List ℕ → ℕ → List ℕ) where
   pub record Bites : Type 0 where
     pub done : number f shown (one .store) memory ≡ 0
     pub refused : number f shown (two .store) memory ≡ 9
+    pub looked : step f seen one .reply ≡ shows 0 (7 ∷ 7 ∷ 7 ∷ 7 ∷ [])
+    pub hidden : step f seen two .reply ≡ shows 9 []

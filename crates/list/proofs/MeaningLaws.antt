@@ -5,7 +5,7 @@ use mathlib.Core.Path.{_≡_, refl, sym, ap, _∙_, subst}
 use mathlib.Core.Logic.{_↔_, _⊎_, inl, inr}
 use Prim.Native.Nat.{ℕ, _%_, _<_}
 use native.Mathlib.Omega.{arith}
-use mathlib.Core.Bool.{Bool, true, false, not, _&&_, _||_, cond, or-false}
+use mathlib.Core.Bool.{Bool, true, false, not, _&&_, _||_, cond, or-false, true≢false}
 use mathlib.Core.List.{List, [], _∷_, _++_}
 use mathlib.Core.Option.{Option, none, some}
 use borrow.Author.Tests.{lt-ltb, ne-eqb, ltb-true, leb-true, leb-false, eqb-true, eqb-false}
@@ -16,7 +16,7 @@ use Rattle.handle.specs.Conversion.{product}
 use Rattle.store.specs.declared.Store.{Store}
 use Rattle.store.specs.Sound.{sound}
 use Rattle.calls.specs.Calls.{Copy, Kind, newCluster, deleteCluster, newSegment, deleteSegment, read, write, weaken}
-use Rattle.calls.specs.Calls.{reduce, newPassword, validate, code, among, Arguments, call, uses, writing}
+use Rattle.calls.specs.Calls.{reduce, newPassword, validate, look, code, isLook, among, Arguments, call, uses, writing}
 use Rattle.calls.specs.Numbers.{unsound, noPlace}
 use Rattle.calls.specs.Steps.{Outcome}
 use Rattle.calls.specs.Answers.{copyOf, leftAlone}
@@ -34,7 +34,8 @@ use Rattle.list.specs.Runs.{Bench, Performed, misfits, misfitRows, refus
 use Rattle.list.specs.Runs.{performed}
 use Rattle.list.specs.Texts.{badLength, checked, textOf, output}
 use Rattle.list.specs.Meanings.{ListMeans, LongRefused, LengthInWords, UnusedBytes, BadCode}
-use Rattle.list.specs.Meanings.{MisfitInWords}
+use Rattle.list.specs.Meanings.{NoLook, MisfitInWords}
+use Rattle.calls.proofs.CallLaws.{or-left, or-right}
 use Rattle.list.proofs.CheckLaws.{by-length, check-empty}
 use Rattle.list.proofs.PerformLaws.{write-misfit, perform-write, misfit-unsound, misfit-node, misfit-local}
 use Rattle.list.proofs.PerformLaws.{misfit-field}
@@ -134,6 +135,7 @@ rows-trimmed weaken g c = refl
 rows-trimmed reduce g c = refl
 rows-trimmed newPassword g c = refl
 rows-trimmed validate g c = refl
+rows-trimmed look g c = refl
 
 pub unused-bytes : UnusedBytes
 unfolding performed
@@ -166,6 +168,27 @@ unused-bytes k r q b e s =
 pub bad-code : BadCode
 unfolding performed
 bad-code r b e = ap (λ (o : Option Kind). performedAs o r b) e
+
+-- a kind that a list without a look gives is none
+abbrev someLook : List Kind → Bool
+someLook [] = false
+someLook (k ∷ ks) = isLook k || someLook ks
+
+abbrev Other : Option Kind → Type 0
+Other none = Unit {0}
+Other (some k) = isLook k ≡ false
+
+other : (ks : List Kind) → someLook ks ≡ false → (c : ℕ) → Other (kindAmong ks c)
+other [] e c = tt
+other (j ∷ js) e c = go (eqb (code j) c) (other js (or-right (isLook j) (someLook js) e) c)
+  where
+    go : (t : Bool) → Other (kindAmong js c) → Other (picked t j (kindAmong js c))
+    go true h = or-left (isLook j) (someLook js) e
+    go false h = h
+
+pub no-look : NoLook
+unfolding kindOf
+no-look c e = true≢false (subst Other e (other (ownCalls ++ otherCalls) refl c))
 
 -- ---- a write's data length above 32
 

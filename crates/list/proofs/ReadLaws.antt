@@ -13,9 +13,9 @@ use Rattle.handle.specs.Handles.{firstOf}
 use Rattle.handle.specs.Conversion.{product}
 use Rattle.store.specs.Records.{tableAt, lengthOf}
 use Rattle.calls.specs.Calls.{Copy, Kind, newCluster, deleteCluster, newSegment, deleteSegment, read, write, weaken}
-use Rattle.calls.specs.Calls.{reduce, newPassword, validate, Call, call, placeFor}
+use Rattle.calls.specs.Calls.{reduce, newPassword, validate, look, Call, call, placeFor}
 use Rattle.calls.specs.Numbers.{short, number}
-use Rattle.calls.specs.Steps.{given, segmentRead, outcome, step, aesStep}
+use Rattle.calls.specs.Steps.{given, segmentRead, segmentShown, outcome, step, aesStep}
 use Rattle.calls.proofs.DoneLaws.{no-row}
 use Rattle.list.specs.Records.{codeOf, kindOf, argumentsOf}
 use Rattle.list.specs.Runs.{Bench, Performed, misfits, misfitRows, refused, stepped, performedAs, performed}
@@ -29,7 +29,7 @@ module _ (r : List ℕ) (b : List ℕ) (c : Copy) where
 
   done-told : (k : Kind) → number product (asks k) (c .store) (length (c .memory)) ≡ 0
       → given product k (asks k) c .length ≤ length b
-  unfolding given segmentRead short
+  unfolding given segmentRead segmentShown short
   done-told newCluster e = omega arith
   done-told deleteCluster e = omega arith
   done-told newSegment e = omega arith
@@ -42,6 +42,7 @@ module _ (r : List ℕ) (b : List ℕ) (c : Copy) where
   done-told reduce e = omega arith
   done-told newPassword e = omega arith
   done-told validate e = omega arith
+  done-told look e = omega arith
 
   step-told : (k : Kind) → aesStep (asks k) c .reply .length ≤ length b
   unfolding step

@@ -9,12 +9,13 @@
 --                             write, in the data length
 --     UnusedBytes             such records do the same: unused bytes are ignored
 --     BadCode                 a code outside 1 to 9 is 3, whatever the other bytes are
+--     NoLook                  no code is that of a look
 --     MisfitNumbers r b sd h  the record r is refused with 1 where sd, which says that the store is sound, is false; else
 --                             with 2 where the node of h is above 3 or its local number above 7; else with 3
 --     MisfitInWords           so is a write whose data length is above 32, by its handle
 -- Assumes nothing.
 use mathlib.Core.Path.{_≡_}
-use mathlib.Core.Logic.{_↔_, _⊎_}
+use mathlib.Core.Logic.{_≢_, _↔_, _⊎_}
 use Prim.Native.Nat.{ℕ, _%_, _≤_, _<_}
 use mathlib.Core.Bool.{Bool, true, false}
 use mathlib.Core.List.{List}
@@ -23,7 +24,7 @@ use lib.ListN.{length}
 use Rattle.handle.specs.declared.Handle.{Handle}
 use Rattle.handle.specs.Handles.{decoded}
 use Rattle.store.specs.Sound.{sound}
-use Rattle.calls.specs.Calls.{Kind, uses}
+use Rattle.calls.specs.Calls.{Kind, look, uses}
 use Rattle.chain.specs.Way.{done, refusal}
 use Rattle.chain.specs.Means.{Whole, Leaves, Again}
 use Rattle.chain.specs.Bytes.{count, nextIn}
@@ -62,6 +63,9 @@ UnusedBytes =
 
 abbrev pub BadCode : Type 0
 BadCode = (r : List ℕ) (b : Bench) → kindOf (codeOf r) ≡ none → performed r b ≡ refused fieldNumber b
+
+abbrev pub NoLook : Type 0
+NoLook = (c : ℕ) → kindOf c ≢ some look
 
 pub record MisfitNumbers (r : List ℕ) (b : Bench) (sd : Bool) (h : Handle) : Type 0 where
   pub unsound : sd ≡ false → performed r b ≡ refused 1 b

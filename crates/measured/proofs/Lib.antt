@@ -1,2 +1,3 @@
 pub mod HandleLaws
 pub mod StoreLaws
+pub mod EntryLaws

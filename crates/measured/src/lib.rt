@@ -18,6 +18,10 @@ ghost use Rattle.store.specs.Sound as sound-spec;
 ghost use Rattle.measured.specs.Stores.{placeFrom, segmentFrom, storeFrom};
 ghost use Rattle.handle.specs.Handles.{decoded, encoded, validates, weakening};
 ghost use Rattle.handle.specs.Conversion.{conversion, product};
+ghost use lib.ListN.{length};
+ghost use Rattle.calls.specs.Calls as calls;
+ghost use Rattle.calls.specs.Steps.{aesStep};
+ghost use Rattle.calls.specs.Answers.{copyOf};
 
 // A block encrypted under a key.
 #[no_mangle]
@@ -104,4 +108,44 @@ pub extern "C" fn measured_sound(bases: &[u16; 256], lengths: &[u16; 256], size:
     ensures { λ r. ⌜ r ≡ sound-spec.sound (storeFrom (now (bases .entry)) (now (lengths .entry))) size ⌝ }
 {
     store::sound(store_from(bases, lengths), size)
+}
+
+// A read on such a store: the length that it tells.
+#[no_mangle]
+pub extern "C" fn measured_read(
+    bases: &[u16; 256],
+    lengths: &[u16; 256],
+    memory: &[u8],
+    segment: usize,
+    bytes: &HandleBytes,
+    buffer: &mut [u8],
+) -> usize
+    ensures told { λ r. ⌜ r ≡ aesStep (calls.reading segment (now (bytes .entry)) (now (buffer .entry)))
+        (copyOf (storeFrom (now (bases .entry)) (now (lengths .entry))) (now (memory .entry))) .reply .length ⌝ }
+    ensures copied { λ _. ⌜ now (buffer .exit) ≡ aesStep (calls.reading segment (now (bytes .entry)) (now (buffer .entry)))
+        (copyOf (storeFrom (now (bases .entry)) (now (lengths .entry))) (now (memory .entry))) .reply .buffer ⌝ }
+{
+    let b = *bytes;
+    let store = store_from(bases, lengths);
+    let answer = guard::read(store, memory, buffer, segment, b);
+    answer.length
+}
+
+// A look on such a store: how many bytes it shows.
+#[no_mangle]
+pub extern "C" fn measured_look(
+    bases: &[u16; 256],
+    lengths: &[u16; 256],
+    memory: &[u8],
+    current: usize,
+    segment: usize,
+    bytes: &HandleBytes,
+) -> usize
+    ensures { λ r. ⌜ r ≡ length (aesStep (calls.looking current segment (now (bytes .entry)))
+        (copyOf (storeFrom (now (bases .entry)) (now (lengths .entry))) (now (memory .entry))) .reply .shown) ⌝ }
+{
+    let b = *bytes;
+    let store = store_from(bases, lengths);
+    let shown = guard::look(store, memory, current, segment, b);
+    shown.len()
 }

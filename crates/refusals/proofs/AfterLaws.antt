@@ -22,6 +22,10 @@ pub after-zero : (n m : ℕ) → after n m ≡ 0 → (n ≡ 0) × (m ≡ 0)
 after-zero zero m e = (refl, e)
 after-zero (suc n) m e = absurd (omega arith)
 
+pub after-after : (a b c : ℕ) → after (after a b) c ≡ after a (after b c)
+after-after zero b c = refl
+after-after (suc a) b c = refl
+
 pub first-append : (rs qs : List Row) → Numbered rs → firstOf (rs ++ qs) ≡ after (firstOf rs) (firstOf qs)
 first-append [] qs n = refl
 first-append (r ∷ rs) qs n = go (r .applies) (r .number) (n .0) (first-append rs qs (n .1))
