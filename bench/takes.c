@@ -1,28 +1,38 @@
-/* What a call of the library takes beside time: the stack that it touches, and copies of 2,000 bytes or more.
+/* What a call of the library takes beside time: the stack that it touches, copies of 2,000 bytes or more, and whether it
+ * reaches bytes of the memory.
  *
  * Each call runs on a stack of its own, which is painted before; afterwards the lowest byte that is not as it was painted tells
- * how far down the call went. memcpy and memmove are this file's, so that those which the library calls are counted. A
- * function is tried with calls that are done and with one on a damaged image; the most that it took is printed. */
+ * how far down the call went. memcpy and memmove are this file's, so that those which the library calls are counted. A copy
+ * made by a loop of the library's own is not among them, so calls that are done run once more with the memory's pages
+ * closed, where a byte read or written is a fault. A function is tried with calls that are done and with one on a damaged
+ * image; the most that it took is printed. Where a function reaches the memory otherwise than the header says, or a look
+ * copies, its line ends with `wrong` and the program with status 1. */
 #define _XOPEN_SOURCE 700
 #include "gelmuszta.h"
+#include <setjmp.h>
+#include <signal.h>
+#include <stdbool.h>
 #include <stdio.h>
 #include <string.h>
+#include <sys/mman.h>
 #include <ucontext.h>
 
 #define NODES 4
 #define CLUSTERS 5
 #define SEGMENTS 2
 #define LENGTH 400
+#define NODE_MEMORY 4096
 #define STACK 65536
 #define PAINT 0xa5
 #define LARGE 2000
 
-static uint8_t image[GELMUSZTA_IMAGE], memory[GELMUSZTA_MEMORY], typical[GELMUSZTA_IMAGE], damaged[GELMUSZTA_IMAGE];
+static uint8_t memory[GELMUSZTA_MEMORY] __attribute__((aligned(NODE_MEMORY)));
+static uint8_t image[GELMUSZTA_IMAGE], typical[GELMUSZTA_IMAGE], large[GELMUSZTA_IMAGE], damaged[GELMUSZTA_IMAGE];
 static uint8_t reader[GELMUSZTA_HANDLE], writer[GELMUSZTA_HANDLE], weak_reader[GELMUSZTA_HANDLE], weak_writer[GELMUSZTA_HANDLE];
 static uint8_t given[GELMUSZTA_HANDLE], other[GELMUSZTA_HANDLE], count, numbers[3], number;
-static uint8_t buffer[LENGTH], three[3 * GELMUSZTA_HANDLE];
+static uint8_t buffer[LENGTH], large_buffer[NODE_MEMORY], three[3 * GELMUSZTA_HANDLE];
 static const uint8_t first_password[GELMUSZTA_PASSWORD] = {1}, second_password[GELMUSZTA_PASSWORD] = {2};
-static size_t length;
+static size_t from, length;
 static const size_t node = 2, local = 3, free_local = 6, segment = 1, free_segment = 5, all = sizeof memory;
 
 /* ---- copies */
@@ -61,11 +71,20 @@ static void read_primary(void) {
 static void read_weak(void) {
     number = gelmuszta_read(image, memory, all, segment, weak_reader, buffer, sizeof buffer, &length);
 }
+static void read_large(void) {
+    number = gelmuszta_read(image, memory, all, segment, reader, large_buffer, sizeof large_buffer, &length);
+}
 static void write_primary(void) {
     number = gelmuszta_write(image, memory, all, segment, writer, buffer, sizeof buffer);
 }
 static void write_weak(void) {
     number = gelmuszta_write(image, memory, all, segment, weak_writer, buffer, sizeof buffer);
+}
+static void look_primary(void) {
+    number = gelmuszta_look(image, memory, all, node, segment, reader, &from, &length);
+}
+static void look_weak(void) {
+    number = gelmuszta_look(image, memory, all, node, segment, weak_reader, &from, &length);
 }
 static void weaken(void) { number = gelmuszta_weaken(reader, 0x7f, given, &count); }
 static void reduce(void) {
@@ -86,24 +105,30 @@ static void convert(void) {
     number = GELMUSZTA_DONE;
 }
 
+/* Each with the image on which its calls are done, and whether the header lets it reach bytes of the memory. */
 static const struct {
     const char *name;
+    const uint8_t *on;
+    bool reaches;
     void (*calls[2])(void);
 } functions[] = {
-    {"start", {start, 0}},
-    {"sound", {sound, 0}},
-    {"new cluster", {new_cluster, 0}},
-    {"delete cluster", {delete_cluster, 0}},
-    {"new segment", {new_segment, 0}},
-    {"delete segment", {delete_segment, 0}},
-    {"read", {read_primary, read_weak}},
-    {"write", {write_primary, write_weak}},
-    {"weaken", {weaken, 0}},
-    {"reduce", {reduce, 0}},
-    {"new password", {new_password, 0}},
-    {"validate", {validate, 0}},
-    {"validate all", {validate_all, 0}},
-    {"convert", {convert, 0}},
+    {"start", typical, false, {start, 0}},
+    {"sound", typical, false, {sound, 0}},
+    {"new cluster", typical, false, {new_cluster, 0}},
+    {"delete cluster", typical, false, {delete_cluster, 0}},
+    {"new segment", typical, true, {new_segment, 0}},
+    {"delete segment", typical, false, {delete_segment, 0}},
+    {"read", typical, true, {read_primary, read_weak}},
+    {"read, 4,096 bytes", large, true, {read_large, 0}},
+    {"write", typical, true, {write_primary, write_weak}},
+    {"look", typical, false, {look_primary, look_weak}},
+    {"look, 4,096 bytes", large, false, {look_primary, look_weak}},
+    {"weaken", typical, false, {weaken, 0}},
+    {"reduce", typical, false, {reduce, 0}},
+    {"new password", typical, false, {new_password, 0}},
+    {"validate", typical, false, {validate, 0}},
+    {"validate all", typical, false, {validate_all, 0}},
+    {"convert", typical, false, {convert, 0}},
 };
 
 /* ---- one call on a painted stack */
@@ -135,7 +160,29 @@ static size_t touched(void (*call)(void), const uint8_t on[GELMUSZTA_IMAGE]) {
     return (size_t)(entered - lowest);
 }
 
-/* ---- the store: on each node five clusters with two segments of 400 bytes */
+/* ---- one call with the memory closed */
+
+static sigjmp_buf faulted;
+
+static void fault(int signal) {
+    (void)signal;
+    siglongjmp(faulted, 1);
+}
+
+/* Whether the call reads or writes a byte of the memory. */
+static bool reaches_memory(void (*call)(void), const uint8_t on[GELMUSZTA_IMAGE]) {
+    volatile bool reaches = true;
+    memcpy(image, on, sizeof image);
+    mprotect(memory, sizeof memory, PROT_NONE);
+    if (sigsetjmp(faulted, 1) == 0) {
+        call();
+        reaches = false;
+    }
+    mprotect(memory, sizeof memory, PROT_READ | PROT_WRITE);
+    return reaches;
+}
+
+/* ---- the stores: on each node five clusters with two segments of 400 bytes; the same, and one node filled by one segment */
 
 static void weakest(const uint8_t handle[GELMUSZTA_HANDLE], uint8_t weak[GELMUSZTA_HANDLE]) {
     memcpy(weak, handle, GELMUSZTA_HANDLE);
@@ -145,41 +192,65 @@ static void weakest(const uint8_t handle[GELMUSZTA_HANDLE], uint8_t weak[GELMUSZ
     }
 }
 
-static void make_store(void) {
+/* With `whole` the node that calls are about has one segment alone. */
+static void make_store(uint8_t made[GELMUSZTA_IMAGE], bool whole) {
     gelmuszta_start(image);
     for (size_t n = 0; n < NODES; n++)
         for (size_t l = 0; l < CLUSTERS; l++) {
             uint8_t read[GELMUSZTA_PASSWORD] = {(uint8_t)(3 + 2 * l)}, write[GELMUSZTA_PASSWORD] = {(uint8_t)(4 + 2 * l)};
+            bool here = n == node && l == local;
             number |= gelmuszta_new_cluster(image, memory, all, n, l, read, write, given, other);
-            for (size_t s = 0; s < SEGMENTS; s++) number |= gelmuszta_new_segment(image, memory, all, n, s, LENGTH, other);
-            if (n == node && l == local) {
+            if (!whole || n != node)
+                for (size_t s = 0; s < SEGMENTS; s++)
+                    number |= gelmuszta_new_segment(image, memory, all, n, s, LENGTH, other);
+            else if (here)
+                number |= gelmuszta_new_segment(image, memory, all, n, segment, NODE_MEMORY, other);
+            if (here) {
                 memcpy(reader, given, sizeof reader);
                 memcpy(writer, other, sizeof writer);
             }
         }
-    memcpy(typical, image, sizeof typical);
-    memcpy(damaged, image, sizeof damaged);
-    damaged[0] = 2;
+    memcpy(made, image, sizeof image);
+}
+
+static void make_handles(void) {
     weakest(reader, weak_reader);
     weakest(writer, weak_writer);
     for (size_t i = 0; i < 3; i++) memcpy(three + i * GELMUSZTA_HANDLE, weak_reader, GELMUSZTA_HANDLE);
 }
 
-int main(void) {
-    const uint8_t *const images[] = {typical, damaged};
-    make_store();
-    if (number != GELMUSZTA_DONE) return 1;
-    printf("%-16s%14s%10s\n", "", "bytes of stack", "copies");
-    for (size_t f = 0; f < sizeof functions / sizeof *functions; f++) {
-        size_t most = 0, most_copies = 0;
-        for (size_t c = 0; c < 2 && functions[f].calls[c]; c++)
-            for (size_t i = 0; i < 2; i++) {
-                size_t bytes = touched(functions[f].calls[c], images[i]);
-                if (bytes > most) most = bytes;
-                if (copies > most_copies) most_copies = copies;
-                if (i == 0 && number != GELMUSZTA_DONE) return 1;
-            }
-        printf("%-16s%14zu%10zu\n", functions[f].name, most, most_copies);
+/* ---- the table */
+
+/* Prints the line of a function; whether something in it is wrong. */
+static bool row(size_t f) {
+    const uint8_t *const images[] = {functions[f].on, damaged};
+    size_t most = 0, most_copies = 0;
+    bool reaches = false, wrong;
+    for (size_t c = 0; c < 2 && functions[f].calls[c]; c++) {
+        for (size_t i = 0; i < 2; i++) {
+            size_t bytes = touched(functions[f].calls[c], images[i]);
+            if (bytes > most) most = bytes;
+            if (copies > most_copies) most_copies = copies;
+            if (i == 0 && number != GELMUSZTA_DONE) return true;
+        }
+        reaches |= reaches_memory(functions[f].calls[c], functions[f].on);
     }
-    return 0;
+    wrong = reaches != functions[f].reaches || (functions[f].calls[0] == look_primary && most_copies > 0);
+    printf("%-20s%14zu%10zu%16s%s\n", functions[f].name, most, most_copies, reaches ? "yes" : "no", wrong ? "  wrong" : "");
+    return wrong;
+}
+
+int main(void) {
+    struct sigaction action = {0};
+    bool wrong = false;
+    action.sa_handler = fault;
+    make_store(typical, false);
+    make_store(large, true);
+    make_handles();
+    memcpy(damaged, typical, sizeof damaged);
+    damaged[0] = 2;
+    if (number != GELMUSZTA_DONE || sigaction(SIGSEGV, &action, 0)) return 1;
+    printf("%-20s%14s%10s%16s\n", "", "bytes of stack", "copies", "reaches memory");
+    for (size_t f = 0; f < sizeof functions / sizeof *functions; f++) wrong |= row(f);
+    return wrong;
 }

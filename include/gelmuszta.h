@@ -25,17 +25,18 @@
  * which a flat one stands below one that is not is gapped. A password has GELMUSZTA_PASSWORD (16) bytes.
  *
  * A handle is valid in a mode, GELMUSZTA_MODE_READ or GELMUSZTA_MODE_WRITE, if converting that mode's primary
- * password by its subselectors gives its password. Reading needs a handle that is valid for reading, and one that is
- * valid for writing is refused; everything else that opens a cluster needs one that is valid for writing, or in the mode
- * that the call names.
+ * password by its subselectors gives its password. A read and a look need a handle that is valid for reading, and one that
+ * is valid for writing alone is refused; everything else that opens a cluster needs one that is valid for writing, or in
+ * the mode that the call names.
  *
- * The nine calls and gelmuszta_validate return a number, 0 for done. When several refusals apply, the first of them in the
- * order below is given. On a refusal the handles given are 23 zero bytes, counts and lengths are zero, and image, memory and
- * buffer stay as they were, byte for byte. Arguments of type size_t are judged whole: a node, local number, mode, segment
- * or size out of its range is refused, however large; as a mode 257 gets GELMUSZTA_FIELD. Masks and parameters are bytes,
- * and C cuts a larger value to a byte without telling.
+ * The nine calls, gelmuszta_look and gelmuszta_validate return a number, 0 for done. When several refusals apply, the first
+ * of them in the order below is given. On a refusal the handles given are 23 zero bytes, counts and lengths are zero, a
+ * look's part begins at 0, and image, memory and buffer stay as they were, byte for byte. Arguments of type size_t are
+ * judged whole: a node, local number, mode, segment or size out of its range is refused, however large; as a mode 257 gets
+ * GELMUSZTA_FIELD. Masks and parameters are bytes, and C cuts a larger value to a byte without telling.
  *
- * Calls 3 and 6 write to the memory and no other does; call 5 alone reads its bytes; the rest look at its length.
+ * Calls 3 and 6 write to the memory and nothing else does; call 5 alone reads its bytes; all the rest, gelmuszta_look too,
+ * go by its length and reach none of its bytes.
  *
  * What the caller must see to, since no proof can:
  *
@@ -44,7 +45,8 @@
  *     be initialised, those of a read's buffer are kept where the segment does not reach;
  *   - bytes that a call may write overlap with nothing else that the call is given: a handle is not weakened in place;
  *   - nobody else writes to the image, the memory or the arguments, or reads what is written, while the call runs. Calls
- *     that write nothing in common, as reads and validations on one store, may run at the same time;
+ *     that write nothing in common, as reads, looks and validations on one store, may run at the same time;
+ *   - nobody writes to the part that a look has shown while it is being read, and its reader keeps to it;
  *   - the image holds every primary password and the memory every byte: whoever can read them needs no handle.
  *
  * Nothing is kept between calls and nothing is allocated. A call judges the whole image where it stands, takes out one record
@@ -70,24 +72,24 @@ extern "C" {
 #define GELMUSZTA_MODE_READ 1
 #define GELMUSZTA_MODE_WRITE 2
 
-/* The numbers that a call may give, in the order in which they are looked at, and which calls may give them. 18 to 20 belong
- * to lists of calls; no function here gives them. */
+/* The numbers that a call may give, in the order in which they are judged, and which calls may give them, by their codes; a
+ * look, which has no code, is named. 18 to 20 belong to lists of calls; no function here gives them. */
 enum gelmuszta_number {
     GELMUSZTA_DONE = 0,
-    GELMUSZTA_UNSOUND = 1,         /* unsound, all but 7: the image is damaged, or the store is not sound */
+    GELMUSZTA_UNSOUND = 1,         /* unsound, look and all but 7: the image is damaged, or the store is not sound */
     GELMUSZTA_NO_SUCH_PLACE = 2,   /* no such place: node above 3 or local number above 7, in the handle or the call */
     GELMUSZTA_FIELD = 3,           /* field: mode not 1 or 2; segment above 7; size 0 or above 4,096 */
     GELMUSZTA_GAPPED = 4,          /* gapped: the handle's selector is gapped */
-    GELMUSZTA_ELSEWHERE = 5,       /* elsewhere, 2, 3, 4: the current node is not the handle's */
+    GELMUSZTA_ELSEWHERE = 5,       /* elsewhere, 2, 3, 4, look: the current node is not the handle's */
     GELMUSZTA_IN_USE = 6,          /* in use, 1: the cluster is active */
     GELMUSZTA_TWINS = 7,           /* twins, 1: the two passwords are equal */
-    GELMUSZTA_INACTIVE = 8,        /* inactive, 2 to 6, 8, 9: the handle's cluster is inactive */
-    GELMUSZTA_VIOLATED = 9,        /* violated protection, 2 to 6, 8, 9: the handle is not valid in the mode needed */
+    GELMUSZTA_INACTIVE = 8,        /* inactive, 2 to 6, 8, 9, look: the handle's cluster is inactive */
+    GELMUSZTA_VIOLATED = 9,        /* violated protection, 2 to 6, 8, 9, look: the handle is not valid in the mode needed */
     GELMUSZTA_NOT_PRIMARY = 10,    /* not primary, 2, 3, 4, 9: some subselector is not flat */
-    GELMUSZTA_NOT_REFERENCED = 11, /* not referenced, 5, 6: the handle does not reference the segment */
+    GELMUSZTA_NOT_REFERENCED = 11, /* not referenced, 5, 6, look: the handle does not reference the segment */
     GELMUSZTA_OLD_PASSWORD = 12,   /* old password, 9: the new one equals either current primary password */
     GELMUSZTA_PRESENT = 13,        /* present, 3: the segment is present */
-    GELMUSZTA_ABSENT = 14,         /* absent, 4, 5, 6: the segment is absent */
+    GELMUSZTA_ABSENT = 14,         /* absent, 4, 5, 6, look: the segment is absent */
     GELMUSZTA_SHORT = 15,          /* short, 5, 6: buffer or data shorter than the segment */
     GELMUSZTA_NO_ROOM = 16,        /* no room, 3: no base exists */
     GELMUSZTA_EMPTY = 21,          /* empty, 7: no segment is both referenced by the handle and kept by the mask */
@@ -150,6 +152,27 @@ uint8_t gelmuszta_reduce(const uint8_t image[GELMUSZTA_IMAGE], const uint8_t *me
 uint8_t gelmuszta_new_password(uint8_t image[GELMUSZTA_IMAGE], const uint8_t *memory, size_t memory_length,
                                size_t mode, const uint8_t handle[GELMUSZTA_HANDLE],
                                const uint8_t password[GELMUSZTA_PASSWORD], uint8_t given[GELMUSZTA_HANDLE]);
+
+/* ---- a look, which has no code */
+
+/* Look: shows a segment where it lies, in the caller's own memory. The part of the memory that is the segment begins at
+ * *from and has *length bytes, neither a byte more nor another place. Nothing is copied.
+ *
+ *     size_t from, length;
+ *     if (gelmuszta_look(image, memory, GELMUSZTA_MEMORY, node, segment, handle, &from, &length) == GELMUSZTA_DONE)
+ *         walk_over(memory + from, length);
+ *
+ * It needs what call 5 needs, a handle that is valid for reading and references the segment, and the current node to be the
+ * handle's. Its numbers are those of call 5, with GELMUSZTA_ELSEWHERE and without GELMUSZTA_SHORT. Refused, on a damaged
+ * image too, it shows an empty part: *from and *length are 0.
+ *
+ * The part is the segment, and its bytes stay, until the image or the memory is written to. Call 6 on the segment changes
+ * the bytes, and so does a caller who writes to the memory. After call 4 or 2 has deleted the segment or its cluster, the
+ * bytes are free, and call 3 may clear them and make them somebody else's. After call 9 the handle may open nothing any
+ * more. No call can take back a part that was shown: look again after each of these. */
+uint8_t gelmuszta_look(const uint8_t image[GELMUSZTA_IMAGE], const uint8_t *memory, size_t memory_length,
+                       size_t current, size_t segment, const uint8_t handle[GELMUSZTA_HANDLE], size_t *from,
+                       size_t *length);
 
 /* ---- validation and conversion */
 

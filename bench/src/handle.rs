@@ -1,10 +1,11 @@
-//! The text of crates/handle in Rust, as far as weakening and validation need it.
+//! The text of crates/handle in Rust, as far as weakening, validation, reads and looks need it.
 
 use crate::aes::{self, Tables};
 
 const NODES: u16 = 4;
 const CLUSTERS: u8 = 8;
 const SUBSELECTORS: usize = 4;
+const SEGMENTS: usize = 8;
 const FLAT: u8 = 255;
 const PASSWORD_BYTES: usize = 16;
 const PARAMETER_AT: usize = 15;
@@ -115,6 +116,10 @@ impl Handle {
         ]
     }
 
+    pub fn node(self) -> usize {
+        self.node as usize
+    }
+
     fn common(self) -> u8 {
         let s = self.selector;
         s[0] & (s[1] & (s[2] & s[3]))
@@ -124,7 +129,15 @@ impl Handle {
         u8::count_ones(self.common()) as u8
     }
 
-    fn gapped(self) -> bool {
+    pub fn references(self, segment: usize) -> bool {
+        if SEGMENTS <= segment {
+            return false;
+        }
+        let common = self.common();
+        (common & (1 << segment)) != 0
+    }
+
+    pub fn gapped(self) -> bool {
         let s = self.selector;
         let a = s[0] == FLAT;
         let b = s[1] == FLAT;

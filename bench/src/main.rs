@@ -1,9 +1,11 @@
 //! The measurements of docs/PERFORMANCE.md: the proved code beside the same text in Rust, turn about, in one run.
 //! A figure is the best of many short batches; a ratio is proved to Rust.
 
+mod access;
 mod aes;
 mod handle;
 mod image;
+mod looks;
 mod spans;
 mod store;
 
@@ -11,12 +13,13 @@ use handle::Handle;
 use image::IMAGE;
 use std::hint::black_box;
 use std::time::Instant;
+use store::Table;
 
 extern "C" {
     fn measured_encrypt(key: *const [u8; 16], block: *const [u8; 16], out: *mut [u8; 16]);
     fn measured_validate(bytes: *const [u8; 23], primary: *const [u8; 16]) -> bool;
     fn measured_weaken(bytes: *const [u8; 23], mask: u8, out: *mut [u8; 23]) -> u8;
-    fn measured_sound(bases: *const [u16; 256], lengths: *const [u16; 256], size: usize) -> bool;
+    fn measured_sound(bases: *const Table, lengths: *const Table, size: usize) -> bool;
     fn gelmuszta_sound(image: *const [u8; IMAGE], size: usize) -> bool;
 }
 
@@ -67,7 +70,7 @@ extern "C" fn rust_weaken(bytes: &[u8; 23], mask: u8, out: &mut [u8; 23]) -> u8 
 }
 
 #[inline(never)]
-extern "C" fn rust_sound(bases: &[u16; 256], lengths: &[u16; 256], size: usize) -> bool {
+extern "C" fn rust_sound(bases: &Table, lengths: &Table, size: usize) -> bool {
     store::sound(store::store_from(bases, lengths), size)
 }
 
@@ -181,14 +184,7 @@ fn weakening() {
 
 /// A store made of two tables and tested: `each` segments on every node, of `length` bytes, one after the other.
 fn soundness(name: &str, each: usize, length: u16) {
-    let mut bases = [0u16; 256];
-    let mut lengths = [0u16; 256];
-    for node in 0..4 {
-        for i in 0..each {
-            bases[node * 64 + i] = i as u16 * length;
-            lengths[node * 64 + i] = length;
-        }
-    }
+    let (bases, lengths) = store::tables(each, length);
     let mut ends = (true, true);
     let size = store::MEMORY;
     let times = beside(
@@ -197,9 +193,14 @@ fn soundness(name: &str, each: usize, length: u16) {
     );
     assert_eq!(ends, (true, true), "the store is sound");
     report(name, times);
+    report_making(&bases, &lengths);
+}
+
+/// The line below a row whose calls make the store, on both sides: what that costs in Rust.
+fn report_making(bases: &Table, lengths: &Table) {
     let made = beside(
         || {
-            black_box(store::store_from(black_box(&bases), black_box(&lengths)));
+            black_box(store::store_from(black_box(bases), black_box(lengths)));
         },
         || (),
     );
@@ -232,6 +233,7 @@ fn main() {
     soundness("soundness, empty store", 0, 1);
     soundness("soundness, 10 segments of 400 bytes a node", 10, 400);
     soundness("soundness, 64 segments of 64 bytes a node", 64, 64);
+    looks::looks();
     soundness_in("on the image, empty store", image::image_of(0, 0, 0));
     soundness_in("on the image, typical store", image::image_of(5, 2, 400));
     soundness_in("on the image, full store", image::image_of(8, 8, 64));

@@ -1,4 +1,4 @@
-//! The text of crates/store in Rust, as far as soundness needs it, and of the stores that are measured.
+//! The text of crates/store in Rust, as far as soundness, reads and looks need it, and of the stores that are measured.
 
 use crate::spans;
 
@@ -7,8 +7,10 @@ pub const CLUSTERS: usize = 8;
 pub const SEGMENTS: usize = 8;
 pub const MAP_WORDS: usize = 64;
 const RECORDS: usize = 32;
+pub const NODE_MEMORY: usize = 4096;
 pub const MEMORY: usize = 16384;
 const PASSWORD_BYTES: usize = 16;
+pub const READ_MODE: usize = 1;
 
 #[derive(Clone, Copy)]
 pub enum Place {
@@ -111,6 +113,61 @@ pub fn sound(store: Store, size: usize) -> bool {
     (size == MEMORY) & ok
 }
 
+pub fn record_at(node: usize, local: usize) -> usize {
+    if NODES <= node {
+        return 0;
+    }
+    if CLUSTERS <= local {
+        return 0;
+    }
+    node * CLUSTERS + local
+}
+
+pub fn base_of(place: Place) -> u16 {
+    match place {
+        Place::Absent => 0,
+        Place::Present { base, length: _ } => base,
+    }
+}
+
+pub fn length_of(place: Place) -> u16 {
+    match place {
+        Place::Absent => 0,
+        Place::Present { base: _, length } => length,
+    }
+}
+
+pub fn place_of(cluster: Cluster, segment: usize) -> Place {
+    if SEGMENTS <= segment {
+        return Place::Absent;
+    }
+    let found = cluster.segments[segment];
+    found.place
+}
+
+pub fn primary(cluster: Cluster, mode: usize) -> [u8; PASSWORD_BYTES] {
+    if mode == READ_MODE {
+        return cluster.read;
+    }
+    cluster.write
+}
+
+/// A number for each segment, in the order of the records.
+pub type Table = [u16; 256];
+
+/// Bases and lengths of `each` segments on every node, of `length` bytes, one after the other.
+pub fn tables(each: usize, length: u16) -> (Table, Table) {
+    let (mut bases, mut lengths) = ([0; 256], [0; 256]);
+    for node in 0..NODES {
+        for i in 0..each {
+            let at = node * CLUSTERS * SEGMENTS + i;
+            bases[at] = i as u16 * length;
+            lengths[at] = length;
+        }
+    }
+    (bases, lengths)
+}
+
 fn place_from(base: u16, length: u16) -> Place {
     if length == 0 {
         return Place::Absent;
@@ -118,7 +175,7 @@ fn place_from(base: u16, length: u16) -> Place {
     Place::Present { base, length }
 }
 
-fn segments_from(bases: &[u16; 256], lengths: &[u16; 256], n: usize) -> [Segment; 8] {
+fn segments_from(bases: &Table, lengths: &Table, n: usize) -> [Segment; 8] {
     let absent = Segment {
         place: Place::Absent,
     };
@@ -132,7 +189,7 @@ fn segments_from(bases: &[u16; 256], lengths: &[u16; 256], n: usize) -> [Segment
     r
 }
 
-pub fn store_from(bases: &[u16; 256], lengths: &[u16; 256]) -> Store {
+pub fn store_from(bases: &Table, lengths: &Table) -> Store {
     let inactive = Cluster {
         active: false,
         read: [0; PASSWORD_BYTES],

@@ -27,6 +27,16 @@ static void wide_mode(size_t mode, const uint8_t handle[GELMUSZTA_HANDLE]) {
                                        == GELMUSZTA_FIELD && memcmp(given, none, sizeof given) == 0);
 }
 
+/* How many bytes of a segment are odd, counted where they lie, as a spin counter passes over its strip. A refused look shows
+ * an empty part, and none is counted. */
+static size_t odd_bytes(size_t current, size_t segment, const uint8_t handle[GELMUSZTA_HANDLE]) {
+    size_t from = 99, length = 99, odd = 0;
+
+    gelmuszta_look(image, memory, sizeof memory, current, segment, handle, &from, &length);
+    for (size_t i = 0; i < length; i++) odd += memory[from + i] & 1u;
+    return odd;
+}
+
 int main(void) {
     const size_t all = sizeof memory, node = 1, local = 2, segment = 5, size = 6;
     const uint8_t first_password[GELMUSZTA_PASSWORD] = {3}, second_password[GELMUSZTA_PASSWORD] = {4};
@@ -34,10 +44,12 @@ int main(void) {
     uint8_t reader[GELMUSZTA_HANDLE], writer[GELMUSZTA_HANDLE], weaker[GELMUSZTA_HANDLE], given[GELMUSZTA_HANDLE];
     uint8_t handles[3 * GELMUSZTA_HANDLE + 1] = {0}, numbers[4] = {99, 99, 99, 99};
     uint8_t converted[GELMUSZTA_PASSWORD], buffer[8] = {1, 1, 1, 1, 1, 1, 1, 1}, none[GELMUSZTA_IMAGE] = {0}, count = 99;
-    size_t length = 99;
+    size_t from = 99, length = 99;
 
     memset(image, 2, sizeof image);
     expect("damaged", gelmuszta_validate(image, memory, all, GELMUSZTA_MODE_READ, none) == GELMUSZTA_UNSOUND);
+    expect("damaged look", gelmuszta_look(image, memory, all, node, segment, none, &from, &length) == GELMUSZTA_UNSOUND
+                               && from == 0 && length == 0);
     gelmuszta_start(image);
     expect("start", memcmp(image, none, sizeof image) == 0);
     expect("sound", gelmuszta_sound(image, all) && !gelmuszta_sound(image, all - 1));
@@ -54,6 +66,11 @@ int main(void) {
     expect("convert", memcmp(converted, weaker + 3, sizeof converted) == 0 && weaker[19] == mask);
     expect("read", gelmuszta_read(image, memory, all, segment, weaker, buffer, sizeof buffer, &length) == GELMUSZTA_DONE);
     expect("bytes", length == size && memcmp(buffer, "guards\1\1", 8) == 0);
+    expect("look", gelmuszta_look(image, memory, all, node, segment, weaker, &from, &length) == GELMUSZTA_DONE);
+    expect("part", from == 4096 && length == size && memcmp(memory + from, "guards", length) == 0);
+    expect("look from elsewhere", gelmuszta_look(image, memory, all, node + 1, segment, weaker, &from, &length)
+                                      == GELMUSZTA_ELSEWHERE && from == 0 && length == 0);
+    expect("count", odd_bytes(node, segment, weaker) == 4 && odd_bytes(node, segment + 1, weaker) == 0);
     expect("reduce", gelmuszta_reduce(image, memory, all, GELMUSZTA_MODE_READ, weaker, given) == GELMUSZTA_DONE);
     expect("reduced", memcmp(given, weaker, sizeof given) == 0);
     expect("validate", gelmuszta_validate(image, memory, all, GELMUSZTA_MODE_WRITE, weaker) == GELMUSZTA_VIOLATED);
@@ -69,6 +86,7 @@ int main(void) {
                                                   given) == GELMUSZTA_DONE && given[3] == 7);
     expect("revoked", gelmuszta_read(image, memory, all, segment, weaker, buffer, sizeof buffer, &length)
                           == GELMUSZTA_VIOLATED && length == 0);
+    expect("revoked look", gelmuszta_look(image, memory, all, node, segment, weaker, &from, &length) == GELMUSZTA_VIOLATED);
     expect("delete segment", gelmuszta_delete_segment(image, memory, all, node, segment, writer) == GELMUSZTA_DONE);
     expect("delete cluster", gelmuszta_delete_cluster(image, memory, all, node, writer) == GELMUSZTA_DONE);
     expect("as at the start", memcmp(image, none, sizeof image) == 0 && memcmp(memory + 4096, "guards", 6) == 0);

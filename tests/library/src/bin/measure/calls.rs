@@ -1,8 +1,8 @@
 //! The calls that are measured, all of them done, each with the store it is done on.
 
 use crate::stores::{
-    falling, full, full_but_a_cluster, full_but_a_segment, lone, typical, FREE_PLACE, FULL_LENGTH,
-    PLACE, TYPICAL_CLUSTERS,
+    falling, full, full_but_a_cluster, full_but_a_segment, lone, one_large, typical, FREE_PLACE,
+    FULL_LENGTH, PLACE, SEGMENT, TYPICAL_CLUSTERS,
 };
 use library::question::READ_MODE;
 use model::call::Call;
@@ -53,7 +53,7 @@ pub fn many_handles(store: &Store, count: usize) -> Vec<u8> {
     all.into_iter().cycle().take(count).flatten().collect()
 }
 
-pub fn groups() -> [Group; 5] {
+pub fn groups() -> [Group; 6] {
     let (lone, typical, full) = (lone(), typical(), full());
     [
         Group {
@@ -75,6 +75,10 @@ pub fn groups() -> [Group; 5] {
         Group {
             name: "the same, segments from the highest base down and the free bytes highest",
             rows: vec![new_segment(falling(), LAST)],
+        },
+        Group {
+            name: "a look beside a read of 4,096 bytes: one segment fills the node, the rest is typical",
+            rows: on_a_large_segment(&one_large()).into(),
         },
     ]
 }
@@ -117,7 +121,7 @@ fn new_segment(store: Store, segment: u32) -> Row {
 }
 
 fn on_what_is_there(store: &Store) -> impl Iterator<Item = Row> + '_ {
-    let (node, segment, mode) = (PLACE.0 as u32, 1, READ_MODE);
+    let (node, segment, mode) = (PLACE.0 as u32, SEGMENT as u32, READ_MODE);
     let reader = primary(store, PLACE, Mode::Read);
     let handle = primary(store, PLACE, Mode::Write);
     let (weak, password) = (weakest(reader), [3; 16]);
@@ -126,18 +130,35 @@ fn on_what_is_there(store: &Store) -> impl Iterator<Item = Row> + '_ {
         ("2 delete cluster", Call::DeleteCluster { node, handle }),
         ("4 delete segment", Call::DeleteSegment { node, segment, handle }),
         ("5 read, primary", Call::Read { segment, handle: reader }),
+        ("look, primary", Call::Look { node, segment, handle: reader }),
         ("6 write, primary", Call::Write { segment, handle }),
         ("9 new password", Call::NewPassword { mode, handle: reader, password }),
         ("validation, primary", Call::Validate { mode, handle: reader }),
         ("validation, 4 not flat", Call::Validate { mode, handle: weak }),
         ("8 reduce, 4 not flat", Call::Reduce { mode, handle: weak }),
     ];
-    calls.into_iter().map(|(name, call)| Row {
+    calls.into_iter().map(|named| row(store, named))
+}
+
+/// The same segment read and looked at: the one copies its bytes, the other does not.
+fn on_a_large_segment(store: &Store) -> [Row; 2] {
+    let (node, segment) = (PLACE.0 as u32, SEGMENT as u32);
+    let handle = primary(store, PLACE, Mode::Read);
+    #[rustfmt::skip]
+    let calls = [
+        ("5 read, 4,096 bytes", Call::Read { segment, handle }),
+        ("look, 4,096 bytes", Call::Look { node, segment, handle }),
+    ];
+    calls.map(|named| row(store, named))
+}
+
+fn row(store: &Store, (name, call): (&'static str, Call)) -> Row {
+    Row {
         name,
         store: store.clone(),
         call,
         place: PLACE,
-    })
+    }
 }
 
 /// It sees no store.

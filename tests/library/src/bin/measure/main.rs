@@ -28,7 +28,7 @@ const PREFACE: &str = "\
 The library, the model on the same image, and the model on records that it keeps decoded take turns.
 Ratios are library to model. Buffers are not cleared between calls. After each call the record of its
 cluster is put back, which is in the figures. Typical: on each node ten segments of 400 bytes in five
-clusters; full: 64 of 64 bytes. Reads and writes are of one segment.";
+clusters; full: 64 of 64 bytes. Reads, looks and writes are of one segment.";
 
 /// The best times of a call: the library's, the model's on the image, the model's on its records.
 type Times = [f64; 3];
@@ -98,7 +98,8 @@ fn soundness(name: &str, store: &Store) {
     report(name, times);
 }
 
-/// One call, done again and again on the same store.
+/// One call, done again and again on the same store. A look's reply tells where its part begins and
+/// how long it is; where the memories are the same too, so are the bytes shown.
 fn one_call(row: &Row) {
     let Row { name, call, .. } = row;
     let [mut first, mut second] = [(); 2].map(|()| OnImage::new(&row.store, row.place));
@@ -115,6 +116,7 @@ fn one_call(row: &Row) {
         first.reply == second.reply && second.reply == third.reply,
         "all reply the same"
     );
+    assert!(first.buffer == second.buffer && second.buffer == third.buffer);
     assert!(first.held.memory == second.held.memory && second.held.memory == third.memory);
     report(name, times);
 }

@@ -1,12 +1,12 @@
 //! The same call done again and again: afterwards the record of its cluster is put back.
 
-use crate::stores::held;
+use crate::stores::{held, memory};
 use library::guard::Lent;
 use library::image::{decode, encode, record_at, RECORD_BYTES};
 use library::question::Held;
 use model::call::{Call, Reply};
 use model::model::run;
-use model::sizes::{MEMORY_BYTES, NODE_BYTES};
+use model::sizes::NODE_BYTES;
 use model::store::{Cluster, Store};
 use std::ops::Range;
 
@@ -14,7 +14,7 @@ use std::ops::Range;
 pub struct OnImage {
     pub held: Held,
     pub reply: Reply,
-    buffer: [u8; NODE_BYTES],
+    pub buffer: [u8; NODE_BYTES],
     /// What weakening gets, which looks at no store.
     unused: Store,
     record: Range<usize>,
@@ -71,8 +71,8 @@ impl OnImage {
 pub struct OnRecords {
     pub memory: Vec<u8>,
     pub reply: Reply,
+    pub buffer: [u8; NODE_BYTES],
     store: Store,
-    buffer: [u8; NODE_BYTES],
     place: (usize, usize),
     saved: Cluster,
 }
@@ -80,10 +80,10 @@ pub struct OnRecords {
 impl OnRecords {
     pub fn new(store: &Store, place: (usize, usize)) -> OnRecords {
         OnRecords {
-            memory: vec![0; MEMORY_BYTES],
+            memory: memory(),
             reply: Reply::DONE,
-            store: store.clone(),
             buffer: [0; NODE_BYTES],
+            store: store.clone(),
             place,
             saved: store.clusters[place.0][place.1],
         }

@@ -8,17 +8,26 @@ use model::store::{Cluster, Segment, Store};
 /// The cluster that calls are about, and one that a call can make.
 pub const PLACE: (usize, usize) = (2, 3);
 pub const FREE_PLACE: (usize, usize) = (2, 6);
+/// The segment that is read, looked at, written and deleted.
+pub const SEGMENT: usize = 1;
 
 pub const TYPICAL_CLUSTERS: usize = 5;
 const TYPICAL_SEGMENTS: usize = 2;
 const TYPICAL_LENGTH: usize = 400;
 /// No byte is free where every segment has so many.
 pub const FULL_LENGTH: usize = NODE_BYTES / NODE_SEGMENTS;
+/// The memory's bytes repeat after so many.
+const PERIOD: usize = 251;
+
+/// What every side begins with; no two nodes have the same bytes.
+pub fn memory() -> Vec<u8> {
+    (0..MEMORY_BYTES).map(|at| (at % PERIOD) as u8).collect()
+}
 
 pub fn held(store: &Store) -> Held {
     Held {
         image: encode(store),
-        memory: vec![0; MEMORY_BYTES],
+        memory: memory(),
     }
 }
 
@@ -62,6 +71,16 @@ pub fn typical() -> Store {
 pub fn lone() -> Store {
     let mut store = Store::starting();
     store.clusters[PLACE.0][PLACE.1] = typical().clusters[PLACE.0][PLACE.1];
+    store
+}
+
+/// The typical store, but one node has a single segment, of all its bytes.
+pub fn one_large() -> Store {
+    let mut store = typical();
+    for cluster in &mut store.clusters[PLACE.0] {
+        cluster.segments = Cluster::INACTIVE.segments;
+    }
+    store.clusters[PLACE.0][PLACE.1].segments[SEGMENT] = present(0, NODE_BYTES);
     store
 }
 
