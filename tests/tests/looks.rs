@@ -139,59 +139,24 @@ fn whatever_the_buffer() {
     }
 }
 
-/// The numbers of a look, in the order in which they are looked at.
-const NUMBERS: [u8; 9] = [1, 2, 3, 4, 5, 8, 9, 11, 14];
-
-/// A look with the faults that stand for these numbers, each of them something of its own.
-fn with_faults(faults: &[u8]) -> (Bench, u32, u32, Handle) {
-    let has = |number: u8| faults.contains(&number);
-    let mut bench = Bench::with_segment();
-    assert_eq!(bench.number(new_segment(4, 10)), 0);
-    // Of the present segments 5 and 4, and the absent 1 and 0, it references 5 and 1.
-    let mut handle = reader().weaken(0x22).expect("all are flat");
-    let segment = match (has(3), has(11), has(14)) {
-        (true, ..) => 8,
-        (_, false, false) => 5,
-        (_, true, false) => 4,
-        (_, false, true) => 1,
-        (_, true, true) => 0,
-    };
-    let node = match (has(2), has(5)) {
-        (true, _) => 4,
-        (_, true) => 1,
-        _ => 0,
-    };
-    if has(1) {
-        bench.memory.pop();
-    }
-    if has(4) {
-        handle.selector = Selector([255, 0x22, 255, 255]);
-    }
-    if has(8) {
-        handle.local = 3;
-    }
-    if has(9) {
-        handle.password[15] ^= 1;
-    }
-    (bench, node, segment, handle)
-}
-
 /// Every set of faults: alone each gives its number, and of several the first is given.
 #[test]
 fn numbers_in_their_order() {
-    for set in 0..1 << NUMBERS.len() {
-        let is_in = |at: &usize| set >> at & 1 == 1;
-        let faults: Vec<u8> = (0..NUMBERS.len())
-            .filter(is_in)
-            .map(|at| NUMBERS[at])
-            .collect();
-        let (mut bench, node, segment, handle) = with_faults(&faults);
-        let expected = match faults.first() {
-            None => Ok(b"abcd".to_vec()),
-            Some(&number) => Err(number),
+    for faulty in faults::all() {
+        let mut bench = Bench {
+            store: faulty.store.clone(),
+            memory: vec![0x77; faulty.memory_bytes],
         };
-        assert_eq!(bench.look(node, segment, handle), expected, "{faults:?}");
+        let reply = bench.reply(look(faulty.node, faulty.segment, faulty.handle));
+        let expected = match faulty.expected() {
+            Ok((from, length)) => shown(from, length),
+            Err(number) => Reply::refused(number),
+        };
+        assert_eq!(reply, expected, "{:?}", faulty.faults);
+        assert_eq!(bench.store, faulty.store);
+        assert!(bench.memory == vec![0x77; faulty.memory_bytes]);
     }
+    assert_eq!(faults::all().count(), 512);
 }
 
 #[test]

@@ -7,6 +7,7 @@ use model::model::run;
 use model::sizes::{MEMORY_BYTES, NODE_BYTES};
 use model::store::Store;
 
+pub mod faults;
 pub mod naive;
 
 pub const READ_SECRET: Password = [0x11; 16];
