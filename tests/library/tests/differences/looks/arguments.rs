@@ -69,9 +69,10 @@ fn current_nodes_in_one_byte() {
     numbers_differ(
         |held, question| {
             instead(held, question, NO_SUCH_PLACE, |seen| {
-                seen.done(|_, question| match &mut question.call {
-                    Call::Look { node, .. } => in_one_byte(node),
-                    _ => {}
+                seen.done(|_, question| {
+                    if let Call::Look { node, .. } = &mut question.call {
+                        in_one_byte(node);
+                    }
                 })
             })
         },
@@ -85,9 +86,10 @@ fn segments_in_one_byte() {
     numbers_differ(
         |held, question| {
             instead(held, question, FIELD, |seen| {
-                seen.done(|_, question| match &mut question.call {
-                    Call::Look { segment, .. } => in_one_byte(segment),
-                    _ => {}
+                seen.done(|_, question| {
+                    if let Call::Look { segment, .. } = &mut question.call {
+                        in_one_byte(segment);
+                    }
                 })
             })
         },

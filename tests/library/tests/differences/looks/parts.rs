@@ -133,7 +133,7 @@ fn an_absent_segment_shown_as_an_empty_part() {
     );
 }
 
-/// Neither, or one of the two, is set to zero where the image is damaged, or where the store is not sound.
+/// One of the two is not set to zero where the image is damaged, or where its store is not sound.
 #[test]
 fn outputs_left_as_they_were_on_damage() {
     fn left(held: &mut Held, question: &Question, damaged: bool, left: Part) -> Answer {
