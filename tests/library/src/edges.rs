@@ -142,13 +142,13 @@ pub fn looks(guard: Guard, seed: u64) -> Result<(u64, u64), String> {
     let mut places = places.collect::<Vec<_>>().into_iter();
     cases(seed, places.len() as u64, |random| {
         let (node, (base, length)) = places.next().expect("there are as many cases");
-        let strip = Strip::by_chance(random, node, Extent { base, length });
-        for (memory_bytes, current, segment) in strip.arguments() {
-            let mut sides = Sides::both(strip.held.clone());
+        let lone = LoneSegment::by_chance(random, node, Extent { base, length });
+        for (memory_bytes, current, segment) in lone.arguments() {
+            let mut sides = Sides::both(lone.held.clone());
             for side in [&mut sides.guard, &mut sides.model] {
                 side.memory.resize(memory_bytes, 0);
             }
-            for handle in strip.handles {
+            for handle in lone.handles {
                 let question = look(current, segment, handle);
                 let answer = ask(guard, &mut sides, &question)
                     .map_err(|what| format!("segment at {base}, {length} bytes: {what}"))?;
@@ -162,15 +162,15 @@ pub fn looks(guard: Guard, seed: u64) -> Result<(u64, u64), String> {
 }
 
 /// A store with one segment, and two handles that open it.
-struct Strip {
+struct LoneSegment {
     held: Held,
     node: usize,
     segment: usize,
     handles: [Handle; 2],
 }
 
-impl Strip {
-    fn by_chance(random: &mut Random, node: usize, extent: Extent) -> Strip {
+impl LoneSegment {
+    fn by_chance(random: &mut Random, node: usize, extent: Extent) -> LoneSegment {
         let (local, segment) = (below(random, CLUSTERS), below(random, SEGMENTS));
         let mut store = Store::starting();
         let cluster = &mut store.clusters[node][local];
@@ -178,7 +178,7 @@ impl Strip {
         cluster.segments[segment] = present(extent.base, extent.length);
         let primary = Handle::primary(node as u16, local as u8, cluster.read);
         let weaker = primary.weaken(1 << segment).expect("all are flat");
-        Strip {
+        LoneSegment {
             held: stores::held(random, &store),
             node,
             segment,
