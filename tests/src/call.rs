@@ -1,9 +1,12 @@
 //! What can be asked of the guard, with its arguments, and what it replies.
+//!
+//! A look and validation have no code: lists do not ask for them.
 
 use crate::handle::{Handle, HandleBytes, Password};
 use crate::sizes::HANDLE_BYTES;
 use crate::store::Mode;
 use crate::table::DONE;
+use std::ops::Range;
 
 pub const NEW_CLUSTER: u8 = 1;
 pub const DELETE_CLUSTER: u8 = 2;
@@ -28,8 +31,8 @@ pub const CALLS: [(u8, &str); 9] = [
     (NEW_PASSWORD, "new password"),
 ];
 
-/// One call, or validation asked for by itself. Numbers are as the caller gave them, right or
-/// wrong; `node` is the current node. A read's buffer and a write's data are handed over beside
+/// One call, a look, or validation asked for by itself. Numbers are as the caller gave them, right
+/// or wrong; `node` is the current node. A read's buffer and a write's data are handed over beside
 /// the call.
 #[derive(Clone, Copy, Debug, PartialEq, Eq)]
 pub enum Call {
@@ -75,6 +78,11 @@ pub enum Call {
         handle: Handle,
         password: Password,
     },
+    Look {
+        node: u32,
+        segment: u32,
+        handle: Handle,
+    },
     Validate {
         mode: u32,
         handle: Handle,
@@ -93,6 +101,7 @@ impl Call {
             | Call::Weaken { handle, .. }
             | Call::Reduce { handle, .. }
             | Call::NewPassword { handle, .. }
+            | Call::Look { handle, .. }
             | Call::Validate { handle, .. } => Some(handle),
         }
     }
@@ -102,7 +111,8 @@ impl Call {
             Call::NewCluster { node, .. }
             | Call::DeleteCluster { node, .. }
             | Call::NewSegment { node, .. }
-            | Call::DeleteSegment { node, .. } => Some(node),
+            | Call::DeleteSegment { node, .. }
+            | Call::Look { node, .. } => Some(node),
             _ => None,
         }
     }
@@ -112,7 +122,8 @@ impl Call {
             Call::NewSegment { segment, .. }
             | Call::DeleteSegment { segment, .. }
             | Call::Read { segment, .. }
-            | Call::Write { segment, .. } => Some(segment),
+            | Call::Write { segment, .. }
+            | Call::Look { segment, .. } => Some(segment),
             _ => None,
         }
     }
@@ -135,7 +146,7 @@ impl Call {
             | Call::NewSegment { .. }
             | Call::DeleteSegment { .. }
             | Call::Write { .. } => Some(Mode::Write),
-            Call::Read { .. } => Some(Mode::Read),
+            Call::Read { .. } | Call::Look { .. } => Some(Mode::Read),
             Call::Reduce { mode, .. }
             | Call::NewPassword { mode, .. }
             | Call::Validate { mode, .. } => Mode::from_number(*mode),
@@ -156,6 +167,38 @@ impl Call {
     pub fn moves_bytes(&self) -> bool {
         matches!(self, Call::Read { .. } | Call::Write { .. })
     }
+
+    /// Calls that come to the bytes of a segment by a handle that references it; a look shows them
+    /// where they are, and has no buffer.
+    pub fn reaches_bytes(&self) -> bool {
+        self.moves_bytes() || matches!(self, Call::Look { .. })
+    }
+}
+
+/// A part of the lent memory: where it begins in there, and its length.
+#[derive(Clone, Copy, Debug, PartialEq, Eq)]
+pub struct Part {
+    pub from: usize,
+    pub length: usize,
+}
+
+impl Part {
+    pub const NONE: Part = Part { from: 0, length: 0 };
+
+    /// The bytes themselves; `None` where the part is not one of this memory.
+    pub fn of<'a>(&self, memory: &'a [u8]) -> Option<&'a [u8]> {
+        let end = self.from.checked_add(self.length)?;
+        memory.get(self.from..end)
+    }
+}
+
+impl From<Range<usize>> for Part {
+    fn from(range: Range<usize>) -> Part {
+        Part {
+            from: range.start,
+            length: range.len(),
+        }
+    }
 }
 
 /// What a call gives back; fields that it does not give are zero.
@@ -166,6 +209,8 @@ pub struct Reply {
     pub second: HandleBytes,
     pub count: u32,
     pub length: u32,
+    /// What a look shows.
+    pub shown: Part,
 }
 
 impl Reply {
@@ -179,6 +224,7 @@ impl Reply {
             second: [0; HANDLE_BYTES],
             count: 0,
             length: 0,
+            shown: Part::NONE,
         }
     }
 

@@ -1,7 +1,7 @@
 //! Selectors, handles and what becomes of a password on the way to a weaker handle.
 
 use crate::aes;
-use crate::sizes::{HANDLE_BYTES, PASSWORD_BYTES, SUBSELECTORS};
+use crate::sizes::{HANDLE_BYTES, PASSWORD_BYTES, SEGMENTS, SUBSELECTORS};
 
 pub type Password = [u8; PASSWORD_BYTES];
 pub type HandleBytes = [u8; HANDLE_BYTES];
@@ -27,8 +27,9 @@ impl Selector {
             .fold(FLAT, |common, subselector| common & subselector)
     }
 
+    /// Nothing references a segment that there is not.
     pub fn references(&self, segment: usize) -> bool {
-        self.referenced() >> segment & 1 == 1
+        segment < SEGMENTS && self.referenced() >> segment & 1 == 1
     }
 
     /// How many segments are referenced.

@@ -1,4 +1,4 @@
-//! The nine calls and validation, carried out on a store, a memory and a buffer that are lent.
+//! The nine calls, looks and validation, carried out on a store, a memory and a buffer that are lent.
 
 use crate::call::{Call, Reply};
 use crate::handle::{Handle, Password};
@@ -54,6 +54,9 @@ fn carry_out(store: &mut Store, memory: &mut [u8], buffer: &mut [u8], call: &Cal
         Call::NewPassword {
             handle, password, ..
         } => new_password(store, call, handle, password),
+        Call::Look {
+            segment, handle, ..
+        } => look(part(store, &handle, segment)),
         Call::Validate { .. } => Reply::DONE,
     }
 }
@@ -129,6 +132,14 @@ fn read(part: &[u8], buffer: &mut [u8]) -> Reply {
 fn write(part: &mut [u8], data: &[u8]) -> Reply {
     part.copy_from_slice(&data[..part.len()]);
     Reply::DONE
+}
+
+/// No byte is copied: the reply tells where in the memory the segment is.
+fn look(part: Range<usize>) -> Reply {
+    Reply {
+        shown: part.into(),
+        ..Reply::DONE
+    }
 }
 
 fn weaken(handle: Handle, mask: u8) -> Reply {

@@ -211,7 +211,7 @@ fn not_primary(call: &Call, _: &Found) -> bool {
 }
 
 fn not_referenced(call: &Call, _: &Found) -> bool {
-    match (call.moves_bytes(), call.handle(), call.segment()) {
+    match (call.reaches_bytes(), call.handle(), call.segment()) {
         (true, Some(handle), Some(segment)) => !handle.selector.references(segment as usize),
         _ => false,
     }
@@ -231,7 +231,7 @@ fn present(call: &Call, found: &Found) -> bool {
 }
 
 fn absent(call: &Call, found: &Found) -> bool {
-    let concerned = matches!(call, Call::DeleteSegment { .. }) || call.moves_bytes();
+    let concerned = matches!(call, Call::DeleteSegment { .. }) || call.reaches_bytes();
     concerned && found.named_segment(call) == Some(&Segment::Absent)
 }
 

@@ -98,7 +98,7 @@ fn inactive_with_something_left() {
     }
 }
 
-/// Every call and validation, all of them about places where nothing is damaged.
+/// Every call, a look and validation, all of them about places where nothing is damaged.
 fn calls() -> Vec<Call> {
     let read = Handle::primary(1, 3, READ);
     let handle = Handle::primary(1, 3, WRITE);
@@ -131,6 +131,11 @@ fn calls() -> Vec<Call> {
             mode: 2,
             handle,
             password: [9; 16],
+        },
+        Call::Look {
+            node: 1,
+            segment: 0,
+            handle: read,
         },
         Call::Validate { mode: 2, handle },
     ]

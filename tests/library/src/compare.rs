@@ -54,8 +54,9 @@ pub fn ask(guard: Guard, sides: &mut Sides, question: &Question) -> Result<Answe
     let before = sides.guard.clone();
     let expected = by_model(&mut sides.model, question);
     let found = guard(&mut sides.guard, question);
-    let compared = refusal_changes_nothing(&before, question, &sides.guard, &found)
+    let compared = changes_nothing_where_due(&before, question, &sides.guard, &found)
         .and_then(|()| same_answer(&expected, &found))
+        .and_then(|()| same_shown([(&expected, &sides.model), (&found, &sides.guard)]))
         .and_then(|()| same_held(&sides.model, &sides.guard));
     match compared {
         Ok(()) => Ok(found),
@@ -73,27 +74,38 @@ pub fn same_answer(expected: &Answer, found: &Answer) -> Result<(), String> {
     same_bytes("the buffers", &expected.buffer, &found.buffer)
 }
 
+/// The same bytes shown, each in the memory that the one who answered was lent.
+pub fn same_shown(both: [(&Answer, &Held); 2]) -> Result<(), String> {
+    let [Some(expected), Some(found)] = both.map(|(answer, held)| answer.shown(held)) else {
+        return Err("a part is shown that is not one of the memory".to_string());
+    };
+    same_bytes("the bytes shown", expected, found)
+}
+
 fn same_held(expected: &Held, found: &Held) -> Result<(), String> {
     same_bytes("the images", &expected.image, &found.image)?;
     same_bytes("the memories", &expected.memory, &found.memory)
 }
 
-/// Looked at on the library's side alone, so that it does not hang on the model.
-fn refusal_changes_nothing(
+/// What holds of refusals, and of looks whatever comes of them. Judged on the library's side alone,
+/// so that it does not hang on the model.
+fn changes_nothing_where_due(
     before: &Held,
     question: &Question,
     after: &Held,
     found: &Answer,
 ) -> Result<(), String> {
-    if found.reply.is_done() {
-        return Ok(());
-    }
-    if found.reply != Reply::refused(found.reply.number) {
+    let kind = match (found.reply.is_done(), question.call) {
+        (false, _) => "a refusal",
+        (true, Call::Look { .. }) => "a look",
+        _ => return Ok(()),
+    };
+    if !found.reply.is_done() && found.reply != Reply::refused(found.reply.number) {
         return Err("a refusal gives more than its number".to_string());
     }
     same_held(before, after)
         .and_then(|()| same_bytes("the buffers", &question.buffer, &found.buffer))
-        .map_err(|what| format!("a refusal changes something: {what}"))
+        .map_err(|what| format!("{kind} changes something: {what}"))
 }
 
 /// `Err` tells the first place at which the two differ.

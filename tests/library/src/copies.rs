@@ -4,13 +4,14 @@
 use crate::chance::questions::{Maker, FILLING};
 use crate::chance::stores::{self, Fill};
 use crate::chance::{below, cases, fill, handles, password};
-use crate::compare::{by_model, same_answer, same_bytes, Guard};
+use crate::compare::{by_model, same_answer, same_bytes, same_shown, Guard};
 use crate::image::{decode, encode, passwords_at, record_at};
-use crate::question::{Held, Question, READ_MODE, WRITE_MODE};
+use crate::question::{Answer, Held, Question, READ_MODE, WRITE_MODE};
 use model::call::Call;
-use model::handle::{Handle, Password};
+use model::handle::{derive, Handle, Password};
 use model::random::Random;
 use model::store::{Segment, Store};
+use model::table::VIOLATED_PROTECTION;
 use std::ops::Range;
 
 /// Calls of one list.
@@ -24,12 +25,45 @@ struct Pair {
     own: Vec<Range<usize>>,
 }
 
-/// How many calls there were, how many were done, and how many named the cluster set apart.
+/// How many calls there were, how many were done, and how many named the cluster set apart; how many
+/// looks showed something, and how many nothing but the password kept from the cluster set apart.
 #[derive(Debug, Default)]
 pub struct Count {
     pub calls: u64,
     pub done: u64,
     pub naming: u64,
+    pub looks: u64,
+    pub looks_apart: u64,
+}
+
+impl Count {
+    fn note(&mut self, pair: &Pair, question: &Question, answer: &Answer) {
+        let (naming, done) = (pair.names_apart(question), answer.reply.is_done());
+        self.calls += 1;
+        self.naming += u64::from(naming);
+        self.done += u64::from(done);
+        if let Call::Look { .. } = question.call {
+            self.looks += u64::from(done);
+            self.looks_apart += u64::from(naming && pair.kept_by_the_password(question, answer));
+        }
+    }
+
+    /// What lists have to come to, and these did not.
+    pub fn faults(&self) -> Vec<String> {
+        let due = [
+            (self.done, "a call done"),
+            (self.naming, "a call that names the cluster set apart"),
+            (self.looks, "a look that shows something"),
+            (
+                self.looks_apart,
+                "a look that the password alone keeps from the cluster set apart",
+            ),
+        ];
+        let missing = due.iter().filter(|(count, _)| *count == 0);
+        missing
+            .map(|(_, what)| format!("not tried: two copies, {what}"))
+            .collect()
+    }
 }
 
 pub fn compare(guard: Guard, seed: u64, pairs: u64) -> Result<Count, String> {
@@ -44,13 +78,14 @@ fn one(guard: Guard, random: &mut Random, count: &mut Count) -> Result<(), Strin
     let mut given = Vec::new();
     for at in 1..=LIST_CALLS {
         let question = pair.question(random, &given)?;
-        count.calls += 1;
-        count.naming += u64::from(pair.names_apart(&question));
         let [first, second] = pair.copies.each_mut().map(|copy| guard(copy, &question));
-        same_answer(&first, &second).map_err(|what| {
+        let [one, other] = &pair.copies;
+        let same = same_answer(&first, &second)
+            .and_then(|()| same_shown([(&first, one), (&second, other)]));
+        same.map_err(|what| {
             format!("call {at} of the list: {what}\n  asked:  {question}\n  first:  {first}\n  second: {second}")
         })?;
-        count.done += u64::from(first.reply.is_done());
+        count.note(&pair, &question, &first);
         given.extend(first.handles(&question));
     }
     pair.agree()?;
@@ -135,6 +170,9 @@ impl Pair {
                 handle.password = chosen;
             }
         }
+        if let (Call::Look { node, .. }, false) = (&mut question.call, random.one_in(4)) {
+            *node = self.apart.0 as u32;
+        }
     }
 
     fn names_apart(&self, question: &Question) -> bool {
@@ -153,6 +191,20 @@ impl Pair {
         };
         let mut copies = self.copies.iter();
         copies.any(|copy| validates(copy, READ_MODE) || validates(copy, WRITE_MODE))
+    }
+
+    /// Whether the call is refused with 9, and would be done by a handle that opens the cluster.
+    fn kept_by_the_password(&self, question: &Question, answer: &Answer) -> bool {
+        let [copy, _] = &self.copies;
+        let (Some(store), VIOLATED_PROTECTION) = (decode(&copy.image), answer.reply.number) else {
+            return false;
+        };
+        let primary = store.clusters[self.apart.0][self.apart.1].read;
+        let mut opening = question.clone();
+        if let Some(handle) = handle_mut(&mut opening.call) {
+            handle.password = derive(&primary, &handle.selector);
+        }
+        by_model(&mut copy.clone(), &opening).reply.is_done()
     }
 
     /// Everything but the secrets of the cluster set apart is equal in both copies.
@@ -199,6 +251,7 @@ fn handle_mut(call: &mut Call) -> Option<&mut Handle> {
         | Call::Weaken { handle, .. }
         | Call::Reduce { handle, .. }
         | Call::NewPassword { handle, .. }
+        | Call::Look { handle, .. }
         | Call::Validate { handle, .. } => Some(handle),
     }
 }

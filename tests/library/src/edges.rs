@@ -1,14 +1,17 @@
 //! Soundness where it changes: every byte of an image with every value, and two segments of one node
-//! that begin and end about the borders of words.
+//! that begin and end about the borders of words. Looks where their part or their arguments come to an
+//! end: the first and the last byte of a node, the whole of it, and numbers just out of range.
 
 use crate::chance::stores::{self, active, present, Fill};
 use crate::chance::words::{Beside, LENGTHS};
 use crate::chance::{below, cases};
-use crate::compare::is_sound;
+use crate::compare::{ask, is_sound, Guard, Sides};
 use crate::image::{encode, Image};
-use crate::question::Held;
+use crate::question::{Held, Question, BEYOND};
+use model::call::Call;
+use model::handle::Handle;
 use model::random::Random;
-use model::sizes::{CLUSTERS, MEMORY_BYTES, NODES, SEGMENTS};
+use model::sizes::{CLUSTERS, MEMORY_BYTES, NODES, NODE_BYTES, SEGMENTS};
 use model::store::{Extent, Store};
 
 /// Something that tells whether an image holds a sound store; [`crate::guard::is_sound`] is the one
@@ -17,6 +20,30 @@ pub type Judge = fn(&mut Image, usize) -> bool;
 
 /// The first words of a node, those in its middle, and its last; 64 begins behind it.
 const WORDS: [usize; 10] = [0, 1, 2, 3, 31, 32, 33, 62, 63, 64];
+
+/// Segments that are looked at: base and length.
+const STRETCHES: [(usize, usize); 9] = [
+    (0, 1),
+    (0, NODE_BYTES - 1),
+    (0, NODE_BYTES),
+    (1, NODE_BYTES - 1),
+    (63, 2),
+    (255, 256),
+    (256, 255),
+    (NODE_BYTES - 2, 2),
+    (NODE_BYTES - 1, 1),
+];
+/// Lengths of the memory; a store is sound with one of them alone.
+const MEMORIES: [usize; 6] = [
+    0,
+    NODE_BYTES,
+    MEMORY_BYTES - NODE_BYTES,
+    MEMORY_BYTES - 1,
+    MEMORY_BYTES,
+    MEMORY_BYTES + 1,
+];
+/// Added to a number that is right, these are seen in its highest bytes alone.
+const HIGH: [usize; 5] = [1 << 8, 1 << 16, 1 << 32, 1 << 48, 1 << 63];
 
 /// One store of every fill. Gives how many images were judged.
 pub fn every_byte(judge: Judge, seed: u64) -> Result<u64, String> {
@@ -104,5 +131,86 @@ fn same(judge: Judge, held: &mut Held) -> Result<bool, String> {
         false => Err(format!(
             "sound is {expected} in the model, {found} in the library"
         )),
+    }
+}
+
+/// Each stretch in each node, looked at with every argument where it changes. Gives how many looks there
+/// were, and how many of them showed something.
+pub fn looks(guard: Guard, seed: u64) -> Result<(u64, u64), String> {
+    let (mut asked, mut done) = (0, 0);
+    let places = (0..NODES).flat_map(|node| STRETCHES.map(|stretch| (node, stretch)));
+    let mut places = places.collect::<Vec<_>>().into_iter();
+    cases(seed, places.len() as u64, |random| {
+        let (node, (base, length)) = places.next().expect("there are as many cases");
+        let lone = LoneSegment::by_chance(random, node, Extent { base, length });
+        for (memory_bytes, current, segment) in lone.arguments() {
+            let mut sides = Sides::both(lone.held.clone());
+            for side in [&mut sides.guard, &mut sides.model] {
+                side.memory.resize(memory_bytes, 0);
+            }
+            for handle in lone.handles {
+                let question = look(current, segment, handle);
+                let answer = ask(guard, &mut sides, &question)
+                    .map_err(|what| format!("segment at {base}, {length} bytes: {what}"))?;
+                asked += 1;
+                done += u64::from(answer.reply.is_done());
+            }
+        }
+        Ok(())
+    })?;
+    Ok((asked, done))
+}
+
+/// A store with one segment, and two handles that open it.
+struct LoneSegment {
+    held: Held,
+    node: usize,
+    segment: usize,
+    handles: [Handle; 2],
+}
+
+impl LoneSegment {
+    fn by_chance(random: &mut Random, node: usize, extent: Extent) -> LoneSegment {
+        let (local, segment) = (below(random, CLUSTERS), below(random, SEGMENTS));
+        let mut store = Store::starting();
+        let cluster = &mut store.clusters[node][local];
+        *cluster = active(random);
+        cluster.segments[segment] = present(extent.base, extent.length);
+        let primary = Handle::primary(node as u16, local as u8, cluster.read);
+        let weaker = primary.weaken(1 << segment).expect("all are flat");
+        LoneSegment {
+            held: stores::held(random, &store),
+            node,
+            segment,
+            handles: [primary, weaker],
+        }
+    }
+
+    /// Lengths of the memory, current nodes and segments: in each row all but one are right.
+    fn arguments(&self) -> Vec<(usize, usize, usize)> {
+        let (node, segment) = (self.node, self.segment);
+        let memories = MEMORIES.map(|bytes| (bytes, node, segment));
+        let nodes = around(node, NODES).map(|current| (MEMORY_BYTES, current, segment));
+        let segments = around(segment, SEGMENTS).map(|other| (MEMORY_BYTES, node, other));
+        memories.into_iter().chain(nodes).chain(segments).collect()
+    }
+}
+
+/// Everything up to a little above `bound`, what is equal to `right` in its low bytes alone, and the greatest.
+fn around(right: usize, bound: usize) -> impl Iterator<Item = usize> {
+    let high = HIGH.map(|more| right + more);
+    (0..bound + 2).chain(high).chain([usize::MAX])
+}
+
+fn look(current: usize, segment: usize, handle: Handle) -> Question {
+    let narrow = |number: usize| u32::try_from(number).unwrap_or(BEYOND);
+    let call = Call::Look {
+        node: narrow(current),
+        segment: narrow(segment),
+        handle,
+    };
+    Question {
+        beyond: current.max(segment),
+        ..Question::of(call)
     }
 }

@@ -94,6 +94,17 @@ extern "C" {
         given: *mut HandleBytes,
     ) -> u8;
 
+    pub fn gelmuszta_look(
+        image: *const Image,
+        memory: *const u8,
+        memory_length: usize,
+        current: usize,
+        segment: usize,
+        handle: *const HandleBytes,
+        from: *mut usize,
+        length: *mut usize,
+    ) -> u8;
+
     pub fn gelmuszta_validate(
         image: *const Image,
         memory: *const u8,

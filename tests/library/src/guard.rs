@@ -9,7 +9,7 @@
 use crate::ffi;
 use crate::image::Image;
 use crate::question::{Answer, Held, Question, BEYOND};
-use model::call::{Call, Reply};
+use model::call::{Call, Part, Reply};
 use model::handle::{Handle, HandleBytes, Password};
 use model::sizes::{HANDLE_BYTES, PASSWORD_BYTES};
 use std::ptr::from_mut;
@@ -17,6 +17,7 @@ use std::ptr::from_mut;
 /// What outputs hold before the call, so that one that is not written is seen.
 const UNWRITTEN: u8 = 0x5a;
 const UNWRITTEN_HANDLE: HandleBytes = [UNWRITTEN; HANDLE_BYTES];
+const UNWRITTEN_NUMBER: usize = usize::from_ne_bytes([UNWRITTEN; size_of::<usize>()]);
 
 /// Writes the starting store's image.
 pub fn start(image: &mut Image) {
@@ -107,6 +108,11 @@ impl Lent<'_> {
                 handle,
                 password,
             } => self.new_password(wide(mode), &handle, &password),
+            Call::Look {
+                node,
+                segment,
+                handle,
+            } => self.look(wide(node), wide(segment), &handle),
             Call::Validate { mode, handle } => self.validate(wide(mode), &handle),
         }
     }
@@ -160,7 +166,7 @@ impl Lent<'_> {
     }
 
     fn read(self, segment: usize, handle: &Handle) -> Reply {
-        let mut length = usize::from(UNWRITTEN);
+        let mut length = UNWRITTEN_NUMBER;
         // SAFETY: see the head of this file.
         let number = unsafe {
             ffi::gelmuszta_read(
@@ -223,6 +229,27 @@ impl Lent<'_> {
         };
         Reply {
             first,
+            ..bare(number)
+        }
+    }
+
+    fn look(self, current: usize, segment: usize, handle: &Handle) -> Reply {
+        let (mut from, mut length) = (UNWRITTEN_NUMBER, UNWRITTEN_NUMBER);
+        // SAFETY: see the head of this file.
+        let number = unsafe {
+            ffi::gelmuszta_look(
+                self.image,
+                self.memory.as_mut_ptr(),
+                self.memory.len(),
+                current,
+                segment,
+                &handle.to_bytes(),
+                &mut from,
+                &mut length,
+            )
+        };
+        Reply {
+            shown: Part { from, length },
             ..bare(number)
         }
     }

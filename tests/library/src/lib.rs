@@ -6,7 +6,8 @@
 //! - [`compare`]: one question put to both, and everything that has to be equal afterwards.
 //! - [`chance`]: stores, damage, handles and questions made by chance from a seed.
 //! - [`single`], [`runs`], [`edges`], [`batch`], [`copies`], [`published`]: what is compared.
-//! - [`tally`], [`damages`]: which answers, fills, selectors, modes, damages and ways to nothing were met.
+//! - [`tally`], [`damages`], [`looks`]: which answers, fills, selectors, modes, damages, ways to nothing and
+//!   looks were met.
 
 pub mod batch;
 pub mod chance;
@@ -17,6 +18,7 @@ pub mod edges;
 pub mod ffi;
 pub mod guard;
 pub mod image;
+pub mod looks;
 pub mod published;
 pub mod question;
 pub mod runs;

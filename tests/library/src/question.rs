@@ -10,17 +10,19 @@ pub const BEYOND: u32 = u32::MAX;
 /// The modes as callers name them.
 pub const READ_MODE: u32 = 1;
 pub const WRITE_MODE: u32 = 2;
-/// Validation has no code; in tables it stands below the nine calls, and that of many below it.
+/// Validation has no code, nor has that of many, nor a look; in tables they stand below the nine calls.
 pub const VALIDATION: u8 = 10;
 pub const BATCH: u8 = 11;
+pub const LOOK: u8 = 12;
 /// The rows of tables.
-pub const CODES: [u8; 11] = [1, 2, 3, 4, 5, 6, 7, 8, 9, VALIDATION, BATCH];
+pub const CODES: [u8; 12] = [1, 2, 3, 4, 5, 6, 7, 8, 9, VALIDATION, BATCH, LOOK];
 
 pub fn name(code: u8) -> &'static str {
     let call = CALLS.iter().find(|call| call.0 == code);
     match code {
         VALIDATION => "validation",
         BATCH => "batch",
+        LOOK => "look",
         _ => call.expect("the nine calls have names").1,
     }
 }
@@ -52,7 +54,7 @@ impl Question {
         }
     }
 
-    /// The call's code, or [`VALIDATION`].
+    /// The call's code, or [`VALIDATION`], or [`LOOK`].
     pub fn code(&self) -> u8 {
         match self.call {
             Call::NewCluster { .. } => call::NEW_CLUSTER,
@@ -64,6 +66,7 @@ impl Question {
             Call::Weaken { .. } => call::WEAKEN,
             Call::Reduce { .. } => call::REDUCE,
             Call::NewPassword { .. } => call::NEW_PASSWORD,
+            Call::Look { .. } => LOOK,
             Call::Validate { .. } => VALIDATION,
         }
     }
@@ -89,6 +92,12 @@ pub struct Answer {
 }
 
 impl Answer {
+    /// The bytes that a look shows, in the memory that it was lent; none where it was refused, and
+    /// with other calls. `None` where the part is not one of this memory.
+    pub fn shown<'a>(&self, held: &'a Held) -> Option<&'a [u8]> {
+        self.reply.shown.of(&held.memory)
+    }
+
     /// The handles that a call done has given.
     pub fn handles(&self, question: &Question) -> Vec<Handle> {
         let count = match question.code() {
@@ -110,11 +119,13 @@ impl fmt::Display for Answer {
             second,
             count,
             length,
+            shown,
         } = &self.reply;
         let [first, second] = [first, second].map(|handle| model::hexadecimal::encode(handle));
         write!(
             to,
-            "number {number}, handles {first} {second}, count {count}, length {length}"
+            "number {number}, handles {first} {second}, count {count}, length {length}, shown {} from {}",
+            shown.length, shown.from
         )
     }
 }

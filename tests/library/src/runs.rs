@@ -33,6 +33,7 @@ fn one(guard: Guard, random: &mut Random, tally: &mut Tally) -> Result<(), Strin
         let answer = ask(guard, &mut sides, &question)
             .map_err(|what| format!("call {at} of the row: {what}"))?;
         tally.note(&question, &answer);
+        tally.note_look(&sides.model, &question, &answer);
         given.extend(answer.handles(&question));
     }
     Ok(())

@@ -39,8 +39,10 @@ fn one(guard: Guard, random: &mut Random, tally: &mut Tally) -> Result<(), Strin
     }
     same_soundness(&mut held)?;
     same_conversion(random)?;
-    let answer = ask(guard, &mut Sides::both(held), &question)?;
+    let mut sides = Sides::both(held);
+    let answer = ask(guard, &mut sides, &question)?;
     tally.note(&question, &answer);
+    tally.note_look(&sides.model, &question, &answer);
     if damaged {
         tally.note_beside_damage(&question, &answer);
     }

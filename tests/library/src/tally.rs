@@ -1,9 +1,10 @@
-//! Which answers, fills, damages, selectors and ways to nothing were met, and which still have to be.
+//! Which answers, fills, damages, selectors, ways to nothing and looks were met, and which still have to be.
 
 use crate::chance::damage::Damage;
 use crate::chance::stores::Fill;
 use crate::damages::{Damages, Where};
-use crate::question::{name, Answer, Question, BATCH, BEYOND, VALIDATION};
+use crate::looks::Looks;
+use crate::question::{name, Answer, Held, Question, BATCH, BEYOND, LOOK, VALIDATION};
 use model::call::{self, Call};
 use model::handle::FLAT;
 use model::nothing::Way;
@@ -18,7 +19,7 @@ use std::fmt;
 
 /// The numbers that the table of refusals allows each call, 0 for done among them.
 #[rustfmt::skip]
-const ALLOWED: [(u8, &[u8]); 10] = [
+const ALLOWED: [(u8, &[u8]); 11] = [
     (call::NEW_CLUSTER, &[DONE, UNSOUND, NO_SUCH_PLACE, IN_USE, TWINS]),
     (call::DELETE_CLUSTER, &[
         DONE, UNSOUND, NO_SUCH_PLACE, GAPPED, ELSEWHERE, INACTIVE, VIOLATED_PROTECTION, NOT_PRIMARY,
@@ -40,6 +41,10 @@ const ALLOWED: [(u8, &[u8]); 10] = [
         OLD_PASSWORD,
     ]),
     (VALIDATION, VALIDATING),
+    (LOOK, &[
+        DONE, UNSOUND, NO_SUCH_PLACE, FIELD, GAPPED, ELSEWHERE, INACTIVE, VIOLATED_PROTECTION,
+        NOT_REFERENCED, ABSENT,
+    ]),
 ];
 
 #[rustfmt::skip]
@@ -72,6 +77,7 @@ pub struct Tally {
     weakened: [u64; SUBSELECTORS + 1],
     masks: BTreeSet<u8>,
     ways: BTreeMap<Way, u64>,
+    looks: Looks,
     /// The numbers of weakenings beside a damaged store.
     beside_damage: BTreeMap<u8, u64>,
 }
@@ -94,6 +100,11 @@ impl Tally {
         if let Some(mode) = question.call.named_mode() {
             self.note_mode(question.code(), mode);
         }
+    }
+
+    /// What a look came to, if the question is one; `held` is what it was put to.
+    pub fn note_look(&mut self, held: &Held, question: &Question, answer: &Answer) {
+        self.looks.note(held, question, answer);
     }
 
     pub fn note_mode(&mut self, code: u8, mode: u32) {
@@ -167,6 +178,7 @@ impl Tally {
             .chain(masks)
             .chain(ways)
             .chain(beside_damage)
+            .chain(self.looks.missing())
     }
 }
 
@@ -194,6 +206,7 @@ impl fmt::Display for Tally {
         writeln!(to, "wide modes, each in a call that names one: {modes}")?;
         writeln!(to, "masks: {}", self.masks.len())?;
         writeln!(to, "ways to nothing: {:?}", self.ways)?;
+        writeln!(to, "{}", self.looks)?;
         let beside = &self.beside_damage;
         writeln!(
             to,

@@ -5,7 +5,9 @@ use library::chance::damage::{inflict, Damage, LAST_PLACE};
 use library::chance::stores::{extents, gaps, held, store, Fill};
 use library::chance::words::WORD;
 use library::compare::is_sound;
+use library::copies::Count;
 use library::image::{decode, encode, IMAGE_BYTES};
+use library::question::LOOK;
 use library::tally::Tally;
 use model::random::Random;
 use model::sizes::{CLUSTERS, MEMORY_BYTES, NODES, NODE_BYTES, NODE_SEGMENTS};
@@ -89,7 +91,7 @@ fn what_is_not_reached_is_told() {
             .iter()
             .filter(|fault| fault.starts_with("not reached"))
             .count(),
-        82
+        92
     );
     for fault in [
         "not reached: new segment with 16 (no room)",
@@ -102,6 +104,12 @@ fn what_is_not_reached_is_told() {
         "not tried: way to nothing AllTakenNoneFlat",
         "not tried: way to nothing Validated",
         "not tried: weaken with 21 (empty), damaged",
+        "not reached: look with 5 (elsewhere)",
+        "not tried: damage MemoryShort, look",
+        "not tried: damage ItsNode, look",
+        "not tried: look, LastOfAll",
+        "not tried: look, NodeBeyond",
+        "not tried: look, Both(5, 8)",
     ] {
         assert!(faults.contains(&fault.to_string()), "{fault}");
     }
@@ -110,4 +118,19 @@ fn what_is_not_reached_is_told() {
     assert!(tally
         .faults()
         .contains(&"not allowed: weaken with 1 (unsound)".to_string()));
+    tally.pairs.insert((LOOK, 15), 1);
+    assert!(tally
+        .faults()
+        .contains(&"not allowed: look with 15 (short)".to_string()));
+}
+
+#[test]
+fn what_two_copies_do_not_come_to_is_told() {
+    let mut count = Count::default();
+    assert_eq!(count.faults().len(), 4);
+    (count.calls, count.done, count.naming, count.looks) = (4, 2, 1, 1);
+    let apart = "a look that the password alone keeps from the cluster set apart";
+    assert_eq!(count.faults(), [format!("not tried: two copies, {apart}")]);
+    count.looks_apart = 1;
+    assert!(count.faults().is_empty());
 }

@@ -7,6 +7,7 @@ use model::model::run;
 use model::sizes::{MEMORY_BYTES, NODE_BYTES};
 use model::store::Store;
 
+pub mod faults;
 pub mod naive;
 
 pub const READ_SECRET: Password = [0x11; 16];
@@ -70,6 +71,37 @@ impl Bench {
         match reply.number {
             0 => Ok(told.to_vec()),
             number => Err(number),
+        }
+    }
+
+    /// The bytes that a look shows, or the number of the refusal. It changes nothing, not even a
+    /// buffer beside it, and gives nothing but the part.
+    pub fn look(&mut self, node: u32, segment: u32, handle: Handle) -> Result<Vec<u8>, u8> {
+        let (before, mut buffer) = (self.clone(), [0xee; 3]);
+        let call = Call::Look {
+            node,
+            segment,
+            handle,
+        };
+        let reply = self.ask(call, &mut buffer);
+        assert!(*self == before && buffer == [0xee; 3], "{call:?}");
+        let shown = reply.shown;
+        let number = reply.number;
+        match number {
+            0 => {
+                assert_eq!(
+                    reply,
+                    Reply {
+                        shown,
+                        ..Reply::DONE
+                    }
+                );
+                Ok(shown.of(&self.memory).expect("a part of it").to_vec())
+            }
+            _ => {
+                assert_eq!(reply, Reply::refused(number));
+                Err(number)
+            }
         }
     }
 }

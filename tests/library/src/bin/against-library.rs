@@ -33,8 +33,8 @@ fn task() -> Option<Task> {
     arguments.next().is_none().then_some(Task { seed, calls })
 }
 
-/// Every comparison in turn, up to the first difference.
-fn compare(task: &Task, tally: &mut Tally) -> Result<(), String> {
+/// Every comparison in turn, up to the first difference. Gives what the two copies did not come to.
+fn compare(task: &Task, tally: &mut Tally) -> Result<Vec<String>, String> {
     let Task { seed, calls } = *task;
     let named = |what: &'static str| move |case| format!("{what}, {case}");
     single::compare(guard::ask, seed, calls, tally).map_err(named("single calls"))?;
@@ -53,6 +53,9 @@ fn compare(task: &Task, tally: &mut Tally) -> Result<(), String> {
         "images with two segments about the borders of words: {images}, {sound} of them sound"
     );
 
+    let (looks, done) = edges::looks(guard::ask, seed).map_err(named("edges of looks"))?;
+    println!("looks at the edges: {looks}, {done} of them done");
+
     let count = calls.div_ceil(CALLS_PER_BATCH);
     let validations =
         batch::compare(guard::validate_all, seed, count, tally).map_err(named("batches"))?;
@@ -64,10 +67,14 @@ fn compare(task: &Task, tally: &mut Tally) -> Result<(), String> {
         "two copies: {count} pairs, with {} calls, {} of them done, {} naming the cluster set apart",
         in_copies.calls, in_copies.done, in_copies.naming
     );
+    println!(
+        "looks in two copies: {} done, {} kept from the cluster set apart by the password alone",
+        in_copies.looks, in_copies.looks_apart
+    );
 
     let lines = published::confirm(published::TEXT)?;
     println!("published handles: {lines} lines confirmed");
-    Ok(())
+    Ok(in_copies.faults())
 }
 
 fn main() -> ExitCode {
@@ -77,12 +84,15 @@ fn main() -> ExitCode {
     };
     println!("seed {}", task.seed);
     let mut tally = Tally::default();
-    if let Err(difference) = compare(&task, &mut tally) {
-        println!("{difference}");
-        return ExitCode::FAILURE;
-    }
+    let in_copies = match compare(&task, &mut tally) {
+        Ok(faults) => faults,
+        Err(difference) => {
+            println!("{difference}");
+            return ExitCode::FAILURE;
+        }
+    };
     println!("{tally}");
-    let faults = tally.faults();
+    let faults = [tally.faults(), in_copies].concat();
     for fault in &faults {
         println!("{fault}");
     }

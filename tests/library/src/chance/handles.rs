@@ -130,7 +130,7 @@ fn elsewhere(random: &mut Random, store: &Store, handle: Handle) -> Handle {
     }
 }
 
-fn gapped(random: &mut Random) -> Selector {
+pub fn gapped(random: &mut Random) -> Selector {
     let mut selector = [FLAT; SUBSELECTORS];
     let at = 1 + below(random, SUBSELECTORS - 1);
     selector[at] = random.byte() & !1;

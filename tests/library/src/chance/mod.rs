@@ -3,6 +3,7 @@
 pub mod damage;
 mod faults;
 pub mod handles;
+mod looks;
 pub mod questions;
 pub mod stores;
 pub mod words;

@@ -3,7 +3,7 @@
 use super::handles::{self, Wish};
 use super::stores::gaps;
 use super::{below, bytes, password};
-use crate::question::{Question, BEYOND, READ_MODE, VALIDATION, WRITE_MODE};
+use crate::question::{Question, BEYOND, LOOK, READ_MODE, VALIDATION, WRITE_MODE};
 use model::call::{self, Call};
 use model::handle::{Handle, Password, FLAT};
 use model::random::Random;
@@ -11,10 +11,11 @@ use model::sizes::{CLUSTERS, NODES, NODE_BYTES, SEGMENTS};
 use model::store::{Cluster, Mode, Segment, Store};
 
 /// Codes for single calls: all alike.
-pub const EVENLY: [u8; 10] = [1, 2, 3, 4, 5, 6, 7, 8, 9, VALIDATION];
+pub const EVENLY: [u8; 11] = [1, 2, 3, 4, 5, 6, 7, 8, 9, VALIDATION, LOOK];
 /// Codes for rows of calls: what fills the store comes more often than what empties it.
-pub const FILLING: [u8; 25] = [
-    1, 1, 1, 2, 3, 3, 3, 3, 3, 4, 5, 5, 5, 5, 6, 6, 6, 6, 7, 7, 8, 8, 9, 9, VALIDATION,
+pub const FILLING: [u8; 29] = [
+    1, 1, 1, 2, 3, 3, 3, 3, 3, 4, 5, 5, 5, 5, 6, 6, 6, 6, 7, 7, 8, 8, 9, 9, VALIDATION, LOOK, LOOK,
+    LOOK, LOOK,
 ];
 
 /// Modes are numbered from 1.
@@ -43,6 +44,7 @@ impl Maker<'_> {
             call::WEAKEN => self.weaken(),
             call::REDUCE => self.reduce(),
             call::NEW_PASSWORD => self.new_password(),
+            LOOK => self.look(),
             _ => self.validate(),
         };
         let buffer_bytes = self.buffer_bytes(&call);
@@ -89,7 +91,7 @@ impl Maker<'_> {
         }
     }
 
-    fn handle(&mut self, mode: Mode, primary: bool, segments: bool) -> Handle {
+    pub(super) fn handle(&mut self, mode: Mode, primary: bool, segments: bool) -> Handle {
         let wish = Wish {
             mode,
             primary,
@@ -103,7 +105,7 @@ impl Maker<'_> {
         self.store.cluster(node, local)
     }
 
-    fn current_node(&mut self, handle: &Handle) -> u32 {
+    pub(super) fn current_node(&mut self, handle: &Handle) -> u32 {
         match self.random.one_in(16) {
             true => below(self.random, NODES) as u32,
             false => self.near(handle.node.into(), NODES),
@@ -111,7 +113,7 @@ impl Maker<'_> {
     }
 
     /// A segment of the handle's cluster that is present, or is not, if there is one.
-    fn segment(&mut self, handle: &Handle, present: bool) -> u32 {
+    pub(super) fn segment(&mut self, handle: &Handle, present: bool) -> u32 {
         let referenced_only = !self.random.one_in(4);
         let cluster = self.cluster(handle);
         let fits = |&segment: &usize| {

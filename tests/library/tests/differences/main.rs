@@ -3,5 +3,6 @@
 mod calls;
 mod copies;
 mod damage;
+mod looks;
 mod modes;
 mod nothing;

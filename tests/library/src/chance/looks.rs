@@ -1,0 +1,163 @@
+//! Looks by chance. What speaks against a look seldom meets by itself, so that half of them are made from
+//! one that would be done: none, one or two things are made wrong in it.
+
+use super::below;
+use super::handles::{self, gapped};
+use super::questions::Maker;
+use crate::question::BEYOND;
+use model::call::Call;
+use model::handle::Handle;
+use model::random::Random;
+use model::sizes::{NODES, PASSWORD_BYTES, SEGMENTS};
+use model::store::{Cluster, Mode, Segment, Store};
+
+struct Look {
+    node: u32,
+    segment: u32,
+    handle: Handle,
+}
+
+/// In the order in which two of them are put into one look.
+#[derive(Clone, Copy)]
+enum Fault {
+    Absent,
+    NotReferenced,
+    NotValid,
+    Inactive,
+    Elsewhere,
+    Gapped,
+    NoSegment,
+    NoNode,
+}
+
+impl Fault {
+    const ALL: [Fault; 8] = [
+        Fault::Absent,
+        Fault::NotReferenced,
+        Fault::NotValid,
+        Fault::Inactive,
+        Fault::Elsewhere,
+        Fault::Gapped,
+        Fault::NoSegment,
+        Fault::NoNode,
+    ];
+}
+
+impl Maker<'_> {
+    pub(super) fn look(&mut self) -> Call {
+        let right = match self.random.one_in(2) {
+            true => right(self.random, self.store),
+            false => None,
+        };
+        let look = match right {
+            Some(look) => with_faults(self.random, self.store, look),
+            None => self.any_look(),
+        };
+        Call::Look {
+            node: look.node,
+            segment: look.segment,
+            handle: look.handle,
+        }
+    }
+
+    /// One that is made as other calls are.
+    fn any_look(&mut self) -> Look {
+        let handle = self.handle(Mode::Read, false, true);
+        let present = !self.random.one_in(8);
+        Look {
+            node: self.current_node(&handle),
+            segment: self.segment(&handle, present),
+            handle,
+        }
+    }
+}
+
+fn is_present(segment: &Segment) -> bool {
+    *segment != Segment::Absent
+}
+
+/// The segments of a cluster that `fits` is true of.
+fn segments(cluster: &Cluster, fits: impl Fn(&Segment) -> bool) -> Vec<usize> {
+    let fitting = (0..SEGMENTS).filter(|&at| fits(&cluster.segments[at]));
+    fitting.collect()
+}
+
+/// A look that is done, if any segment is present.
+fn right(random: &mut Random, store: &Store) -> Option<Look> {
+    let (node, local) = handles::place(random, store, Cluster::has_segments)?;
+    let cluster = &store.clusters[node][local];
+    let segment = *random.pick(&segments(cluster, is_present))?;
+    let mut handle = Handle::primary(node as u16, local as u8, cluster.read);
+    for _ in 0..random.below(3) {
+        let mask = random.byte() | 1 << segment;
+        handle = handle.weaken(mask).unwrap_or(handle);
+    }
+    Some(Look {
+        node: node as u32,
+        segment: segment as u32,
+        handle,
+    })
+}
+
+fn with_faults(random: &mut Random, store: &Store, mut look: Look) -> Look {
+    let mut all = Fault::ALL;
+    random.shuffle(&mut all);
+    let mut chosen = all[..below(random, 3)].to_vec();
+    chosen.sort_by_key(|fault| *fault as u8);
+    for fault in chosen {
+        look.spoil(random, store, fault);
+    }
+    look
+}
+
+impl Look {
+    fn spoil(&mut self, random: &mut Random, store: &Store, fault: Fault) {
+        let own = &store.clusters[usize::from(self.handle.node)][usize::from(self.handle.local)];
+        match fault {
+            Fault::Absent => {
+                let absent = segments(own, |segment| !is_present(segment));
+                let chosen = random.pick(&absent).map(|&segment| segment as u32);
+                self.segment = chosen.unwrap_or(self.segment);
+            }
+            Fault::NotReferenced => {
+                let weaker = self.handle.weaken(!(1 << self.segment));
+                self.handle = weaker.unwrap_or(self.handle);
+            }
+            Fault::NotValid if random.one_in(2) && self.handle.selector.is_primary() => {
+                self.handle.password = own.write;
+            }
+            Fault::NotValid => {
+                self.handle.password[below(random, PASSWORD_BYTES)] ^= 1 << random.below(8);
+            }
+            Fault::Inactive => self.go_to_an_inactive_cluster(random, store),
+            Fault::Elsewhere => {
+                let further = 1 + below(random, NODES - 1);
+                self.node = ((self.node as usize + further) % NODES) as u32;
+            }
+            Fault::Gapped => self.handle.selector = gapped(random),
+            Fault::NoSegment => self.segment = above(random, self.segment, SEGMENTS),
+            Fault::NoNode => self.node = above(random, self.node, NODES),
+        }
+    }
+
+    fn go_to_an_inactive_cluster(&mut self, random: &mut Random, store: &Store) {
+        let Some((node, local)) = handles::place(random, store, |cluster| !cluster.active) else {
+            return;
+        };
+        (self.handle.node, self.handle.local) = (node as u16, local as u8);
+        self.node = node as u32;
+    }
+}
+
+/// A number that is out of range, often one that is right in its lowest bits or bytes alone.
+fn above(random: &mut Random, right: u32, bound: usize) -> u32 {
+    let bound = bound as u32;
+    match random.below(6) {
+        0 => bound,
+        1 => right + bound,
+        2 => right + (1 << 8),
+        3 => right + (1 << 16),
+        4 => bound + random.below(1 << 16) as u32,
+        _ => BEYOND,
+    }
+}

@@ -1,0 +1,264 @@
+//! Looks: the part of the lent memory that is the segment, where it is, and the numbers of a refused one.
+
+mod support;
+
+use model::call::{Call, Part, Reply};
+use model::handle::{Handle, Selector};
+use model::list::{request, Request, CODE_AT, RECORD_BYTES};
+use model::random::Random;
+use model::sizes::{MEMORY_BYTES, NODES, NODE_BYTES};
+use model::store::{Cluster, Segment};
+use support::*;
+
+fn look(node: u32, segment: u32, handle: Handle) -> Call {
+    Call::Look {
+        node,
+        segment,
+        handle,
+    }
+}
+
+fn shown(from: usize, length: usize) -> Reply {
+    Reply {
+        shown: Part { from, length },
+        ..Reply::DONE
+    }
+}
+
+/// The node's cluster 2 with these segments, a base and a length each, in a memory of bytes by chance.
+fn bench(node: usize, segments: &[(u16, u16)]) -> Bench {
+    let mut bench = Bench::starting();
+    let mut random = Random::from_seed(1);
+    bench.memory.fill_with(|| random.byte());
+    let cluster = &mut bench.store.clusters[node][2];
+    *cluster = Cluster {
+        active: true,
+        read: READ_SECRET,
+        write: WRITE_SECRET,
+        ..Cluster::INACTIVE
+    };
+    for (segment, &(base, length)) in cluster.segments.iter_mut().zip(segments) {
+        *segment = Segment::Present { base, length };
+    }
+    bench
+}
+
+#[test]
+fn the_segment_and_where_it_is() {
+    let mut bench = Bench::with_segment();
+    assert_eq!(bench.reply(look(0, 5, reader())), shown(0, 4));
+    assert_eq!(bench.look(0, 5, reader()), Ok(b"abcd".to_vec()));
+    assert_eq!(bench.number(new_segment(0, 9)), 0);
+    assert_eq!(bench.reply(look(0, 0, reader())), shown(4, 9));
+}
+
+/// Of one byte, of all bytes, at either end, in each node; what lies beside it is not shown.
+#[test]
+fn neither_a_byte_more_nor_another_place() {
+    let extents = [
+        (0, 1),
+        (0, 4095),
+        (0, 4096),
+        (1, 4095),
+        (1234, 321),
+        (4094, 2),
+        (4095, 1),
+    ];
+    for node in 0..NODES {
+        let handle = Handle::primary(node as u16, 2, READ_SECRET);
+        for (base, length) in extents {
+            let mut bench = bench(node, &[(base, length)]);
+            let (base, length) = (usize::from(base), usize::from(length));
+            let from = node * 4096 + base;
+            assert_eq!(
+                bench.reply(look(node as u32, 0, handle)),
+                shown(from, length)
+            );
+            let expected = bench.memory[from..from + length].to_vec();
+            assert_eq!(bench.look(node as u32, 0, handle), Ok(expected));
+        }
+    }
+    let last = bench(3, &[(4095, 1)]).reply(look(3, 0, Handle::primary(3, 2, READ_SECRET)));
+    assert_eq!(last.shown.from + last.shown.length, MEMORY_BYTES);
+}
+
+/// Primary, weakened once to four times, reduced, to nothing, and some that do not validate.
+fn handles(node: u16) -> Vec<Handle> {
+    let mut handles = Vec::new();
+    for secret in [READ_SECRET, WRITE_SECRET] {
+        let mut handle = Handle::primary(node, 2, secret);
+        handles.push(handle);
+        for mask in [0xfe, 0x7f, 0xf7, 0xcf] {
+            handle = handle.weaken(mask).expect("one is flat");
+            handles.push(handle);
+            handles.push(handle.reduce(&secret));
+            handles.push(handle.reduce(&[7; 16]));
+        }
+        let nothing = Selector([0xf0, 0x0f, 255, 255]);
+        handles.push(Handle::converted(node, 2, &secret, nothing));
+        handles.push(Handle::primary(node, 3, secret));
+    }
+    handles
+}
+
+/// In the handle's node a look is a read whose buffer is never too short.
+#[test]
+fn what_a_read_gives() {
+    let segments = [
+        (0, 7),
+        (4000, 96),
+        (7, 1),
+        (100, 900),
+        (8, 92),
+        (1000, 3000),
+    ];
+    let mut done = 0;
+    for node in 0..NODES {
+        let mut bench = bench(node, &segments);
+        for handle in handles(node as u16) {
+            for segment in 0..9 {
+                let looked = bench.look(node as u32, segment, handle);
+                done += usize::from(looked.is_ok());
+                assert_eq!(looked, bench.read(segment, handle), "{handle:?} {segment}");
+            }
+        }
+    }
+    // Of six segments, the primary handle references all, and the weakened ones with their reductions 5, 5, 4 and 2.
+    assert_eq!(done, NODES * (6 + 2 * (5 + 5 + 4 + 2)));
+}
+
+#[test]
+fn whatever_the_buffer() {
+    let mut bench = bench(1, &[(10, 100)]);
+    let handle = Handle::primary(1, 2, READ_SECRET);
+    for bytes in [0, 1, 99, 100, 101, NODE_BYTES] {
+        let mut buffer = vec![0xee; bytes];
+        let reply = bench.ask(look(1, 0, handle), &mut buffer);
+        assert_eq!(reply, shown(NODE_BYTES + 10, 100));
+        assert_eq!(buffer, vec![0xee; bytes]);
+    }
+}
+
+/// Every set of faults: alone each gives its number, and of several the first is given.
+#[test]
+fn numbers_in_their_order() {
+    for faulty in faults::all() {
+        let mut bench = Bench {
+            store: faulty.store.clone(),
+            memory: vec![0x77; faulty.memory_bytes],
+        };
+        let reply = bench.reply(look(faulty.node, faulty.segment, faulty.handle));
+        let expected = match faulty.expected() {
+            Ok((from, length)) => shown(from, length),
+            Err(number) => Reply::refused(number),
+        };
+        assert_eq!(reply, expected, "{:?}", faulty.faults);
+        assert_eq!(bench.store, faulty.store);
+        assert!(bench.memory == vec![0x77; faulty.memory_bytes]);
+    }
+    assert_eq!(faults::all().count(), 512);
+}
+
+#[test]
+fn no_such_place_in_the_handle_or_the_call() {
+    let mut bench = Bench::with_segment();
+    for node in [4, 5, 7, 8, 255, 256, 65_536, u32::MAX] {
+        assert_eq!(bench.look(node, 5, reader()), Err(2), "{node}");
+        assert_eq!(bench.look(node, 8, reader()), Err(2), "{node}");
+    }
+    let at = |node, local| Handle::primary(node, local, READ_SECRET);
+    for handle in [at(4, 2), at(256, 2), at(0x8000, 2), at(0, 8), at(0, 255)] {
+        let node = u32::from(handle.node);
+        assert_eq!(bench.look(0, 5, handle), Err(2), "{handle:?}");
+        assert_eq!(bench.look(node, 5, handle), Err(2), "{handle:?}");
+        assert_eq!(bench.look(node, 8, handle), Err(2), "{handle:?}");
+    }
+}
+
+#[test]
+fn segments_above_7() {
+    let mut bench = Bench::with_segment();
+    for segment in [8, 9, 13, 255, 256, 261, u32::MAX] {
+        assert_eq!(bench.look(0, segment, reader()), Err(3), "{segment}");
+    }
+}
+
+#[test]
+fn elsewhere_is_every_other_node() {
+    for node in 0..NODES as u32 {
+        let mut bench = bench(node as usize, &[(0, 4)]);
+        let handle = Handle::primary(node as u16, 2, READ_SECRET);
+        let unknown = Handle::primary(node as u16, 2, [9; 16]);
+        for current in 0..NODES as u32 {
+            let (known, other) = match current == node {
+                true => (None, Err(9)),
+                false => (Some(5), Err(5)),
+            };
+            assert_eq!(bench.look(current, 0, handle).err(), known);
+            assert_eq!(bench.look(current, 0, unknown), other);
+        }
+    }
+}
+
+#[test]
+fn by_read_handles_alone() {
+    let mut bench = Bench::with_segment();
+    let weakened = writer().weaken(0x20).expect("all are flat");
+    for handle in [writer(), weakened, weakened.reduce(&WRITE_SECRET)] {
+        assert_eq!(bench.look(0, 5, handle), Err(9));
+        assert_eq!(bench.look(0, 0, handle), Err(9));
+    }
+    // Where the two passwords are equal, the handle is one for reading, too.
+    bench.store.clusters[0][2].read = WRITE_SECRET;
+    assert_eq!(bench.look(0, 5, writer()), Ok(b"abcd".to_vec()));
+}
+
+#[test]
+fn a_zero_password_opens_no_inactive_cluster() {
+    let mut bench = Bench::starting();
+    let zero = Handle::primary(0, 2, [0; 16]);
+    for segment in 0..8 {
+        assert_eq!(bench.look(0, segment, zero), Err(8));
+    }
+}
+
+/// One byte missing or too many, no memory at all, and damage far from the segment.
+#[test]
+fn unsound_stores_show_nothing() {
+    for bytes in [0, 4, MEMORY_BYTES - 1, MEMORY_BYTES + 1] {
+        let mut bench = Bench::with_segment();
+        bench.memory.resize(bytes, 0);
+        assert_eq!(bench.look(0, 5, reader()), Err(1), "{bytes}");
+    }
+    let mut bench = Bench::with_segment();
+    bench.store.clusters[3][7].write[0] = 1;
+    assert_eq!(bench.look(0, 5, reader()), Err(1));
+}
+
+#[test]
+fn what_the_calls_before_it_left() {
+    let mut bench = Bench::with_segment();
+    assert_eq!(bench.write(5, b"efgh", writer()), 0);
+    assert_eq!(bench.look(0, 5, reader()), Ok(b"efgh".to_vec()));
+    assert_eq!(bench.number(delete_segment(5)), 0);
+    assert_eq!(bench.look(0, 5, reader()), Err(14));
+    assert_eq!(bench.number(new_segment(6, 3)), 0);
+    assert_eq!(bench.look(0, 6, reader()), Ok(vec![0; 3]));
+    let renew = Call::NewPassword {
+        mode: READ_MODE,
+        handle: reader(),
+        password: [0x33; 16],
+    };
+    assert_eq!(bench.number(renew), 0);
+    assert_eq!(bench.look(0, 6, reader()), Err(9));
+}
+
+#[test]
+fn no_code_stands_for_it() {
+    for code in 0..=255 {
+        let mut record = [0; RECORD_BYTES];
+        record[CODE_AT] = code;
+        let is_call = request(&record) != Request::BadCode;
+        assert_eq!(is_call, (1..=9).contains(&code));
+    }
+}
