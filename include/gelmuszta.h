@@ -156,7 +156,7 @@ uint8_t gelmuszta_new_password(uint8_t image[GELMUSZTA_IMAGE], const uint8_t *me
 /* ---- a look, which has no code */
 
 /* Look: shows a segment where it lies, in the caller's own memory. The part of the memory that is the segment begins at
- * *from and has *length bytes, neither a byte more nor another place. Nothing is copied.
+ * *from and has *length bytes: all of the segment's, and no others. Nothing is copied.
  *
  *     size_t from, length;
  *     if (gelmuszta_look(image, memory, GELMUSZTA_MEMORY, node, segment, handle, &from, &length) == GELMUSZTA_DONE)

@@ -54,7 +54,7 @@ fn the_segment_and_where_it_is() {
 
 /// Of one byte, of all bytes, at either end, in each node; what lies beside it is not shown.
 #[test]
-fn neither_a_byte_more_nor_another_place() {
+fn all_of_the_segment_and_no_other_byte() {
     let extents = [
         (0, 1),
         (0, 4095),
