@@ -69,7 +69,7 @@ fn first_refusal(
 }
 
 /// The refusals that reads and looks share, up to 14; `far` and `away` judge a look's current node.
-fn reached(o: &Opened, place: Place, segment: usize, far: bool, away: bool) -> u8 {
+fn reach(o: &Opened, place: Place, segment: usize, far: bool, away: bool) -> u8 {
     let tables = aes::tables();
     let number = first_refusal(
         &tables,
@@ -87,14 +87,14 @@ fn reached(o: &Opened, place: Place, segment: usize, far: bool, away: bool) -> u
     if !o.handle.references(segment) {
         return NOT_REFERENCED;
     }
-    match place {
-        Place::Absent => ABSENT,
-        Place::Present { base: _, length: _ } => 0,
+    if store::absent(place) {
+        return ABSENT;
     }
+    0
 }
 
 fn access(o: &Opened, place: Place, segment: usize, room: usize) -> u8 {
-    let number = reached(o, place, segment, false, false);
+    let number = reach(o, place, segment, false, false);
     if number != 0 {
         return number;
     }
@@ -158,21 +158,20 @@ pub fn read(
     size
 }
 
-fn look_part(store: Store, all: usize, current: usize, segment: usize, bytes: [u8; 23]) -> Part {
-    let nowhere = Part { from: 0, to: 0 };
-    let o = look_up(store, all, bytes);
-    let place = store::place_of(o.cluster, segment);
-    let away = current != o.handle.node();
-    if reached(&o, place, segment, NODES <= current, away) != 0 {
-        return nowhere;
-    }
-    let from = start_of(o.handle, place);
-    let size = store::length_of(place) as usize;
-    if lacks(all, from, size) {
-        return nowhere;
-    }
-    let to = from + size;
+fn part_of(handle: Handle, place: Place) -> Part {
+    let from = start_of(handle, place);
+    let to = from + store::length_of(place) as usize;
     Part { from, to }
+}
+
+fn look_part(store: Store, size: usize, current: usize, segment: usize, bytes: [u8; 23]) -> Part {
+    let o = look_up(store, size, bytes);
+    let place = store::place_of(o.cluster, segment);
+    let node = o.handle.node();
+    if reach(&o, place, segment, NODES <= current, current != node) != 0 {
+        return Part { from: 0, to: 0 };
+    }
+    part_of(o.handle, place)
 }
 
 pub fn look(store: Store, memory: &[u8], current: usize, segment: usize, bytes: [u8; 23]) -> &[u8] {

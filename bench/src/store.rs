@@ -70,7 +70,7 @@ fn zero(password: [u8; PASSWORD_BYTES]) -> bool {
     ok
 }
 
-fn absent(place: Place) -> bool {
+pub fn absent(place: Place) -> bool {
     match place {
         Place::Absent => true,
         Place::Present { base: _, length: _ } => false,
