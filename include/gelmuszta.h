@@ -159,17 +159,17 @@ uint8_t gelmuszta_new_password(uint8_t image[GELMUSZTA_IMAGE], const uint8_t *me
  * *from and has *length bytes: all of the segment's, and no others. Nothing is copied.
  *
  *     size_t from, length;
- *     if (gelmuszta_look(image, memory, GELMUSZTA_MEMORY, node, segment, handle, &from, &length) == GELMUSZTA_DONE)
+ *     if (gelmuszta_look(image, memory, GELMUSZTA_MEMORY, current, segment, handle, &from, &length) == GELMUSZTA_DONE)
  *         walk_over(memory + from, length);
  *
  * It needs what call 5 needs, a handle that is valid for reading and references the segment, and the current node to be the
  * handle's. Its numbers are those of call 5, with GELMUSZTA_ELSEWHERE and without GELMUSZTA_SHORT. Refused, on a damaged
  * image too, it shows an empty part: *from and *length are 0.
  *
- * The part is the segment, and its bytes stay, until the image or the memory is written to. Call 6 on the segment changes
- * the bytes, and so does a caller who writes to the memory. After call 4 or 2 has deleted the segment or its cluster, the
- * bytes are free, and call 3 may clear them and make them somebody else's. After call 9 the handle may open nothing any
- * more. No call can take back a part that was shown: look again after each of these. */
+ * The part is the segment, and its bytes stay, until the image or the memory is written to, by a call or by the caller. Call
+ * 6 on the segment changes its bytes. After call 4 or 2 has deleted the segment or its cluster, the bytes are free, and call
+ * 3 may clear them and make them somebody else's; after call 9 the handle may no longer open the cluster. No call can take
+ * back a part that was shown: look again after each of these, and whenever another image is put in place. */
 uint8_t gelmuszta_look(const uint8_t image[GELMUSZTA_IMAGE], const uint8_t *memory, size_t memory_length,
                        size_t current, size_t segment, const uint8_t handle[GELMUSZTA_HANDLE], size_t *from,
                        size_t *length);

@@ -17,6 +17,7 @@ pub mod BoundLaws
 pub mod InsideLaws
 pub mod ReadWordLaws
 pub mod LookLaws
+pub mod LookReadLaws
 pub mod MadeWordLaws
 pub mod WrittenLaws
 pub mod EmptyWordLaws

@@ -1,39 +1,36 @@
--- A look. Its reply is the part that it tells, cut out of the memory, whether it is done or refused. Done, the store is sound,
--- so the part lies inside the memory and has as many bytes as the segment, one at least; and its rows are those of a read
--- with room for the segment, since the current node is the handle's.
+-- A look in words. Its reply is the part that it tells, cut out of the memory, whether it is done or refused. Done, the store
+-- is sound, so the part lies inside the memory and has as many bytes as the segment, one at least.
 -- Assumes nothing.
 use mathlib.Core.Path.{_≡_, refl, sym, ap, _∙_, subst}
 use mathlib.Core.Logic.{_≢_}
 use Prim.Native.Nat.{ℕ, zero, suc, _+_, _*_, _-_, _≤_}
 use native.Mathlib.Omega.{arith}
-use mathlib.Core.Bool.{Bool, true, false, not, _||_, cond, true≢false}
-use mathlib.Core.List.{List, [], _++_}
-use lib.Dec.{eqb, leb, ltb}
+use mathlib.Core.Bool.{true, false, true≢false}
+use mathlib.Core.List.{List, []}
+use lib.Dec.{eqb}
 use lib.ListN.{length, getD, take, drop, length-drop}
 use lib.Seq.{length-take-le, getD-take, getD-drop}
-use borrow.Author.Tests.{eqb-true, eq-eqb, le-ltb, not-false}
-use Rattle.sizes.specs.Sizes.{nodes, clusters}
-use Rattle.handle.specs.Handles.{Name, nodeOf, decoded, noSuchPlace}
+use borrow.Author.Tests.{eqb-true, not-false}
+use Rattle.handle.specs.Handles.{Name, nodeOf, decoded}
 use Rattle.store.specs.declared.Place.{Place}
 use Rattle.store.specs.declared.Place.the-variants.{Absent, Present}
 use Rattle.store.specs.declared.Store.{Store}
 use Rattle.store.specs.Records.{Tables, tableAt, baseOf, lengthOf, address}
 use Rattle.store.specs.Sound.{isAbsent}
 use Rattle.calls.specs.declared.Part.{Part}
-use Rattle.calls.specs.Calls.{Copy, Call, looking, reading, startFor, partFor}
+use Rattle.calls.specs.Calls.{Copy, Call, looking, startFor, partFor}
 use Rattle.calls.specs.Numbers as N
-use Rattle.calls.specs.Numbers.{tests, unsound, badField, gappedHandle, elsewhere, inactiveCluster, violated}
-use Rattle.calls.specs.Numbers.{notReferenced, segmentAbsent}
+use Rattle.calls.specs.Numbers.{elsewhere}
+use Rattle.calls.specs.Numbers.{segmentAbsent}
 use Rattle.calls.specs.Words.{place}
-use Rattle.calls.specs.Steps.{Outcome, lookReply, readReply, within, outcome, step, effects}
+use Rattle.calls.specs.Steps.{Outcome, lookReply, within, outcome, step, effects}
 use Rattle.calls.specs.Looks.{nowhere, partBy, looked}
-use Rattle.calls.specs.LookWords.{number, part, reply, Shown, Hidden, LookInWords, LookReads, LookNeeds}
+use Rattle.calls.specs.LookWords.{number, part, reply, Shown, Hidden, LookInWords}
 use Rattle.calls.proofs.DoneLaws.{NoRow, no-row}
-use Rattle.calls.proofs.StepLaws.{step-done}
 use Rattle.calls.proofs.InsideLaws.{done-some, done-inside}
 
 -- the current node of a look done is the handle's
-look-here : (f : Name → List ℕ → ℕ → List ℕ) (v i : ℕ) (h : List ℕ) (s : Store) (size : ℕ)
+pub look-here : (f : Name → List ℕ → ℕ → List ℕ) (v i : ℕ) (h : List ℕ) (s : Store) (size : ℕ)
     → N.number f (looking v i h) s size ≡ 0 → v ≡ nodeOf (decoded h)
 unfolding elsewhere
 look-here f v i h s size e =
@@ -64,7 +61,7 @@ module _ (f : Name → List ℕ → ℕ → List ℕ) (v i : ℕ) (h : List ℕ)
   -- ---- done
 
   module _ (e : number f v i h c ≡ 0) where
-    told : N.number f x (c .store) (length (c .memory)) ≡ 0
+    pub told : N.number f x (c .store) (length (c .memory)) ≡ 0
     unfolding looked
     told = e
 
@@ -75,7 +72,7 @@ module _ (f : Name → List ℕ → ℕ → List ℕ) (v i : ℕ) (h : List ℕ)
     unfolding looked
     part-is = ap (λ (n : ℕ). partBy n x ts) told
 
-    cut : reply f v i h c .shown ≡ take (lengthOf (place x (c .store))) (drop (startFor x ts) (c .memory))
+    pub cut : reply f v i h c .shown ≡ take (lengthOf (place x (c .store))) (drop (startFor x ts) (c .memory))
     cut =
         let n : startFor x ts + lengthOf (place x (c .store)) - startFor x ts ≡ lengthOf (place x (c .store)) = omega arith in
         shown-is ∙ ap (λ (p : Part). within p (c .memory)) part-is ∙ ap (λ (k : ℕ). take k (drop (startFor x ts) (c .memory))) n
@@ -187,84 +184,3 @@ module _ (f : Name → List ℕ → ℕ → List ℕ) (v i : ℕ) (h : List ℕ)
     where
       not-none : number f v i h c ≡ 0 → reply f v i h c .shown ≡ [] → ⊥
       not-none e z = let s = shown e in let a = s .some in let b = s .long in let l = ap length z in omega arith
-
--- ---- a look and a read
-
--- a node that is looked at twice
-twice : (a b : Bool) → ((a || b || false) || a || false) ≡ ((a || b || false) || false || false)
-twice true b = refl
-twice false true = refl
-twice false false = refl
-
-module _ (f : Name → List ℕ → ℕ → List ℕ) (i : ℕ) (h b : List ℕ) (s : Store) (size : ℕ) where
-  abbrev y : Call
-  y = reading i h b
-
-  abbrev node : ℕ
-  node = nodeOf (decoded h)
-
-  -- the rows that both have, from the second row's test, the fifth's and the fifteenth's
-  rows : Bool → Bool → Bool → ℕ
-  rows far away short =
-      cond (unsound size y s) 1
-      (cond far 2
-      (cond (badField y) 3
-      (cond (gappedHandle y) 4
-      (cond away 5
-      (cond (inactiveCluster y (tableAt s)) 8
-      (cond (violated f y s) 9
-      (cond (notReferenced y) 11 (cond (segmentAbsent y (tableAt s)) 14 (cond short 15 0)))))))))
-
-  look-rows : (v : ℕ) → N.number f (looking v i h) s size
-      ≡ rows ((noSuchPlace (decoded h) || false) || leb nodes v || false) (not (eqb v node)) false
-  unfolding N.number tests rows
-  look-rows v = refl
-
-  read-rows : N.number f y s size
-      ≡ rows ((noSuchPlace (decoded h) || false) || false || false) false (ltb (length b) (lengthOf (place y s)))
-  unfolding N.number tests rows
-  read-rows = refl
-
-  module _ (room : lengthOf (place y s) ≤ length b) where
-    look-read : (v : ℕ) → v ≡ node → N.number f (looking v i h) s size ≡ N.number f y s size
-    look-read v e =
-        look-rows v ∙ (λ j. rows (far j) (away j) (enough j)) ∙ sym read-rows
-      where
-        far : ((noSuchPlace (decoded h) || false) || leb nodes v || false)
-            ≡ ((noSuchPlace (decoded h) || false) || false || false)
-        far =
-            ap (λ (w : ℕ). (noSuchPlace (decoded h) || false) || leb nodes w || false) e
-            ∙ twice (leb nodes node) (leb clusters (decoded h .local))
-
-        away : not (eqb v node) ≡ false
-        away = ap not (eq-eqb v node e)
-
-        enough : false ≡ ltb (length b) (lengthOf (place y s))
-        enough = sym (le-ltb (length b) (lengthOf (place y s)) room)
-
-module _ (f : Name → List ℕ → ℕ → List ℕ) where
-  pub look-needs : LookNeeds f
-  look-needs v i h b s size room =
-      record {
-        here = look-read f i h b s size room v;
-        away = λ ne e. ne (look-here f v i h s size e);
-      }
-
-  pub look-reads : LookReads f
-  unfolding effects
-  look-reads v i h b c e room =
-      step-done f (reading i h b) c done
-      ∙ ap (λ (bs : List ℕ). record { copy = c; reply = readReply n (bs ++ drop n b) }) (sym (cut f v i h c e))
-      ∙ ap (λ (k : ℕ). record { copy = c; reply = readReply k (reply f v i h c .shown ++ drop k b) }) (sym long)
-    where
-      n : ℕ
-      n = lengthOf (place (looking v i h) (c .store))
-
-      long : length (reply f v i h c .shown) ≡ n
-      long = shown-length f v i h c e
-
-      done : N.number f (reading i h b) (c .store) (length (c .memory)) ≡ 0
-      done =
-          sym (look-read f i h b (c .store) (length (c .memory)) (omega (arith, long, room)) v
-          (look-here f v i h (c .store) (length (c .memory)) (told f v i h c e)))
-          ∙ told f v i h c e

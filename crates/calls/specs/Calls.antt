@@ -7,14 +7,14 @@
 --                             buffer or a write's data
 --     Call, call              a kind and its arguments
 --     makingCluster .. looking    each call by name, with what it uses; its other arguments are zero or empty
---     code                    the code by which the tables name a kind; validation has the numbers of call 8, a look those
---                             of call 5 but 15, and 5
+--     code                    the code by which the tables name a kind; validation has the rows of call 8, a look those of
+--                             call 5 except row 15, and row 5
 --     isLook                  the kind is the look, which has no code of its own
 --     among cs k              the code of k is one of cs
 --     opens                   the kinds that open a cluster by a handle
 --     Uses, uses              which arguments a kind looks at; no other argument counts
---     needed                  the mode that the handle must validate in: the one named, else read for call 5, write for
---                             the others
+--     needed                  the mode that the handle must validate in: the one named, else read for call 5 and a look,
+--                             write for the others
 --     handleOf, presented     the handle that the bytes hold; the handles that a call presents
 --     buffer                  the buffer or data that comes with a call
 --     nodeFor, localFor       the node and the local number of the cluster that a call is about: named by the call,
@@ -165,8 +165,8 @@ pub record Uses : Type 0 where
   pub second : Bool
   pub bytes : Bool
 
-abbrev looks : Bool → Bool → Bool → Bool → Bool → Bool → Bool → Bool → Bool → Bool → Uses
-looks c l m s z k h p q b =
+abbrev columns : Bool → Bool → Bool → Bool → Bool → Bool → Bool → Bool → Bool → Bool → Uses
+columns c l m s z k h p q b =
     record {
       current = c;
       local = l;
@@ -189,17 +189,17 @@ o = false
 
 -- the columns: current, local, mode, segment, size, mask, handle, first, second, bytes
 abbrev pub uses : Kind → Uses
-uses newCluster = looks x x o o o o o x x o
-uses deleteCluster = looks x o o o o o x o o o
-uses newSegment = looks x o o x x o x o o o
-uses deleteSegment = looks x o o x o o x o o o
-uses read = looks o o o x o o x o o x
-uses write = looks o o o x o o x o o x
-uses weaken = looks o o o o o x x o o o
-uses reduce = looks o o x o o o x o o o
-uses newPassword = looks o o x o o o x x o o
-uses validate = looks o o x o o o x o o o
-uses look = looks x o o x o o x o o o
+uses newCluster = columns x x o o o o o x x o
+uses deleteCluster = columns x o o o o o x o o o
+uses newSegment = columns x o o x x o x o o o
+uses deleteSegment = columns x o o x o o x o o o
+uses read = columns o o o x o o x o o x
+uses write = columns o o o x o o x o o x
+uses weaken = columns o o o o o x x o o o
+uses reduce = columns o o x o o o x o o o
+uses newPassword = columns o o x o o o x x o o
+uses validate = columns o o x o o o x o o o
+uses look = columns x o o x o o x o o o
 
 abbrev pub needed : Call → ℕ
 needed x =

@@ -12,6 +12,7 @@
 --                             enough, and that read is done
 --     LookNeeds               it needs what such a read needs, and the handle's node to be the current one: from there it
 --                             gets the number of the read, and from elsewhere it is not done
+--     LookUses                a look with any arguments is the look from its current node at its segment with its handle
 -- Assumes nothing.
 use mathlib.Core.Path.{_≡_}
 use mathlib.Core.Logic.{_≢_, _↔_}
@@ -23,7 +24,7 @@ use Rattle.store.specs.declared.Place.the-variants.{Present}
 use Rattle.store.specs.declared.Store.{Store}
 use Rattle.store.specs.Records.{lengthOf}
 use Rattle.calls.specs.declared.Part.{Part}
-use Rattle.calls.specs.Calls.{Copy, looking, reading}
+use Rattle.calls.specs.Calls.{Copy, Arguments, call, look, looking, reading}
 use Rattle.calls.specs.Numbers as N
 use Rattle.calls.specs.Words.{place}
 use Rattle.calls.specs.Steps.{Reply, Outcome, step}
@@ -75,11 +76,10 @@ module _ (f : Name → List ℕ → ℕ → List ℕ) where
       (v i : ℕ) (h b : List ℕ) (c : Copy) → number f v i h c ≡ 0 → length (reply f v i h c .shown) ≤ length b
       → step f (reading i h b) c ≡ afterRead (reply f v i h c .shown) b c
 
-  pub record Needs (v i : ℕ) (h b : List ℕ) (s : Store) (size : ℕ) : Type 0 where
-    pub here : v ≡ nodeOf (decoded h) → N.number f (looking v i h) s size ≡ N.number f (reading i h b) s size
+  pub record LookNeeds (v i : ℕ) (h : List ℕ) (s : Store) (size : ℕ) : Type 0 where
+    pub here : v ≡ nodeOf (decoded h) → (b : List ℕ) → lengthOf (place (reading i h b) s) ≤ length b
+        → N.number f (looking v i h) s size ≡ N.number f (reading i h b) s size
     pub away : v ≢ nodeOf (decoded h) → N.number f (looking v i h) s size ≢ 0
 
-  abbrev pub LookNeeds : Type 0
-  LookNeeds =
-      (v i : ℕ) (h b : List ℕ) (s : Store) (size : ℕ) → lengthOf (place (reading i h b) s) ≤ length b
-      → Needs v i h b s size
+  abbrev pub LookUses : Type 0
+  LookUses = (g : Arguments) (c : Copy) → step f (call look g) c ≡ step f (looking (g .current) (g .segment) (g .handle)) c

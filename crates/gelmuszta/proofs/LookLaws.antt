@@ -1,9 +1,9 @@
 -- A look on an image: refused with 1 where the image holds no sound store, and nothing is shown; else the core tells what is
 -- told of the store that it holds, the part rises, and what is cut out there is the reply's.
 -- Assumes nothing.
-use mathlib.Core.Path.{_≡_, sym, ap, _∙_, subst}
-use mathlib.Core.Bool.{Bool, true, false, not, _&&_}
-use mathlib.Core.List.{List}
+use mathlib.Core.Path.{_≡_, refl, sym, ap, _∙_, subst}
+use mathlib.Core.Bool.{Bool, true, false, not, _&&_, true≢false}
+use mathlib.Core.List.{List, []}
 use Prim.Native.Nat.{ℕ, _+_, _-_, _≤_}
 use native.Mathlib.Omega.{arith}
 use lib.ListN.{length}
@@ -14,12 +14,15 @@ use Rattle.store.specs.Records.{tableAt}
 use Rattle.calls.specs.declared.Part.{Part}
 use Rattle.calls.specs.declared.Looked.{Looked}
 use Rattle.calls.specs.Calls.{Call, looking}
-use Rattle.calls.specs.Steps.{within}
+use Rattle.calls.specs.Steps.{Reply, within, aesStep}
+use Rattle.calls.specs.Literals.{shows}
+use Rattle.calls.specs.LookWords.{LookInWords}
 use Rattle.calls.specs.Answers.{copyOf}
 use Rattle.calls.specs.Looks.{nowhere, partBy, looked, aesLooked}
-use Rattle.calls.proofs.LookLaws.{step-looked, part-inside}
+use Rattle.calls.proofs.LookLaws.{step-looked, part-inside, look-in-words}
 use Rattle.image.specs.Images.{good, storeIn, imageOf}
-use Rattle.gelmuszta.specs.Exported.{showing, exported, partFrom, exportedPart, imaged}
+use Rattle.gelmuszta.specs.Exported.{Exported, showing, damaged, exported, partFrom, exportedPart, imaged}
+use Rattle.gelmuszta.specs.Looks.{LookOnImage}
 use Rattle.gelmuszta.proofs.ExportLaws.{held-good, through, number-unsound}
 
 module _ (b m : List ℕ) (current i : ℕ) (h : List ℕ) (sd : Bool)
@@ -64,3 +67,48 @@ module _ (b m : List ℕ) (current i : ℕ) (h : List ℕ) (sd : Bool)
         let r = look-rises in
         let n : p .from + (p .to - p .from) ≡ p .to = omega arith in
         ap (λ (k : ℕ). record { from = p .from; to = k }) n ∙ told ∙ sym (ap picked (held-good b m sd es whole t))
+
+-- ---- in words
+
+module _ (v i : ℕ) (h b m : List ℕ) where
+  abbrev y : Call
+  y = looking v i h
+
+  abbrev told-of : LookInWords product v i h (copyOf (storeIn b) m)
+  told-of = look-in-words product v i h (copyOf (storeIn b) m)
+
+  -- what is done and told, where it is known whether the image is good
+  abbrev done : Bool → Exported
+  done g = elim g [ true ↦ imaged (aesStep y (copyOf (storeIn b) m)) | false ↦ damaged y b m ]
+
+  abbrev placed : Bool → Part
+  placed g = elim g [ true ↦ aesLooked y (storeIn b) (length m) .part | false ↦ nowhere ]
+
+  record On (g : Bool) : Type 0 where
+    refused : (done g .reply .number ≡ 0 → ⊥) → placed g ≡ nowhere
+    damaged : g ≡ false → done g .reply ≡ shows 1 []
+    exact : done g .reply .shown ≡ within (placed g) m
+    inside : (placed g .from ≤ placed g .to) × (placed g .to ≤ length m)
+
+  on : (g : Bool) → On g
+  on false =
+      record { refused = λ ne. refl; damaged = λ e. refl; exact = refl; inside = (omega arith, omega arith) }
+  on true =
+      record {
+        refused = λ ne.
+            let q = told-of .refused (λ z. ne (ap (λ (r : Reply). r .number) (told-of .told) ∙ z)) in
+            λ j. record { from = q .from j; to = q .to j };
+        damaged = λ e. absurd (true≢false e);
+        exact = told-of .exact;
+        inside = part-inside product v i h (copyOf (storeIn b) m);
+      }
+
+  pub look-on-image : LookOnImage v i h b m
+  unfolding exported exportedPart
+  look-on-image =
+      record {
+        refused = on (good b) .refused;
+        damaged = λ e. on (good b) .damaged e;
+        exact = on (good b) .exact;
+        inside = on (good b) .inside;
+      }

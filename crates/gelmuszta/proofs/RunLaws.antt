@@ -3,21 +3,27 @@
 -- Assumes nothing.
 use mathlib.Core.Path.{_≡_, refl, sym, ap, _∙_}
 use mathlib.Core.Bool.{Bool, true, false}
-use mathlib.Core.List.{List, [], _∷_}
+use mathlib.Core.List.{List, [], _∷_, map}
+use lib.ListN.{length}
 use Prim.Native.Nat.{ℕ}
 use Rattle.handle.specs.Conversion.{product}
 use Rattle.store.specs.declared.Store.{Store}
-use Rattle.calls.specs.Calls.{Call, among}
+use Rattle.calls.specs.declared.Part.{Part}
+use Rattle.calls.specs.declared.Looked.{Looked}
+use Rattle.calls.specs.Calls.{Call, among, isLook}
+use Rattle.calls.specs.Looks.{nowhere, aesLooked}
 use Rattle.calls.specs.Steps.{Outcome, run, aesStep}
 use Rattle.calls.specs.Answers.{copyOf}
+use Rattle.isolation.specs.Copies.{also, places}
 use Rattle.isolation.proofs.TwoCopies.{two-copies}
-use Rattle.image.specs.Images.{good, storeIn, imageOf}
+use Rattle.bits.specs.Bytes.{Bytes}
+use Rattle.image.specs.Images.{imageBytes, good, storeIn, imageOf}
 use Rattle.image.specs.Ranges.{StoreFits}
 use Rattle.image.proofs.TripLaws.{good-image, store-image, image-store}
 use Rattle.image.proofs.RangeLaws.{store-held}
-use Rattle.gelmuszta.specs.Exported.{Exported, damaged, imaged, exported}
+use Rattle.gelmuszta.specs.Exported.{Exported, damaged, imaged, exported, exportedPart}
 use Rattle.gelmuszta.specs.Fits.{AllFit}
-use Rattle.gelmuszta.specs.Runs.{RanOn, runOn, followedBy, imagedRun, ListsAreRuns, held, TwoImages, refusedWith}
+use Rattle.gelmuszta.specs.Runs.{RanOn, runOn, followedBy, placesOn, imagedRun, ListsAreRuns, held, TwoImages, refusedWith}
 use Rattle.gelmuszta.specs.Runs.{RefusalLeaves}
 use Rattle.gelmuszta.proofs.ExportLaws.{damagedBy, picked, step-leaves}
 use Rattle.gelmuszta.proofs.FitLaws.{step-fits}
@@ -49,6 +55,39 @@ pub lists-are-runs : ListsAreRuns
 lists-are-runs xs b m p h g =
     ap (λ (i : List ℕ). runOn xs i m) (sym (image-store b h g)) ∙ list-run xs (storeIn b) m p (store-held b h)
 
+-- ---- the parts that looks tell
+
+-- of the image of a store they are the store's
+part-image : (s : Store) → StoreFits s → (x : Call) (m : List ℕ)
+    → exportedPart x (imageOf s) (length m) ≡ aesLooked x s (length m) .part
+unfolding exportedPart
+part-image s k x m =
+    ap (λ (g : Bool). elim g [ true ↦ aesLooked x (storeIn (imageOf s)) (length m) .part | false ↦ nowhere ]) (good-image s k)
+    ∙ ap (λ (t : Store). aesLooked x t (length m) .part) (store-image s k)
+
+abbrev parts : List Looked → List Part
+parts ls = map (λ (l : Looked). l .part) ls
+
+parts-also : (t : Bool) (l : Looked) (ls : List Looked) → parts (also t l ls) ≡ also t (l .part) (parts ls)
+parts-also true l ls = refl
+parts-also false l ls = refl
+
+places-run : (xs : List Call) (s : Store) (m : List ℕ) → AllFit xs → StoreFits s
+    → placesOn xs (imageOf s) m ≡ parts (places product xs (copyOf s m))
+places-run [] s m p k = refl
+places-run (x ∷ xs) s m p k =
+    ap (λ (o : Exported). also (isLook (x .kind)) (exportedPart x (imageOf s) (length m)) (placesOn xs (o .image) (o .memory)))
+    (exported-image s k x m)
+    ∙ (λ j. also (isLook (x .kind)) (part-image s k x m j)
+    (places-run xs (aesStep x (copyOf s m) .copy .store) (aesStep x (copyOf s m) .copy .memory) (p .1)
+    (step-fits product x (copyOf s m) (p .0) k) j))
+    ∙ sym (parts-also (isLook (x .kind)) (aesLooked x s (length m)) (places product xs (aesStep x (copyOf s m) .copy)))
+
+places-are : (xs : List Call) (b m : List ℕ) → AllFit xs → Bytes imageBytes b → good b ≡ true
+    → placesOn xs b m ≡ parts (places product xs (copyOf (storeIn b) m))
+places-are xs b m p h g =
+    ap (λ (i : List ℕ). placesOn xs i m) (sym (image-store b h g)) ∙ places-run xs (storeIn b) m p (store-held b h)
+
 pub two-images : TwoImages
 two-images node local v l xs b m d n p hb gb hd gd sb sd active alike shut-b shut-d =
     let agreed = two-copies node local product v l xs (held b m) (held d n) sb sd active alike shut-b shut-d in
@@ -56,6 +95,7 @@ two-images node local v l xs b m d n p hb gb hd gd sb sd active alike shut-b shu
       replies =
           ap (λ (r : RanOn). r .replies) (lists-are-runs xs b m p hb gb) ∙ agreed .replies
           ∙ sym (ap (λ (r : RanOn). r .replies) (lists-are-runs xs d n p hd gd));
+      places = places-are xs b m p hb gb ∙ ap parts (agreed .places) ∙ sym (places-are xs d n p hd gd);
       agreed = agreed;
     }
 

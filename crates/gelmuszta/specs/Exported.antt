@@ -1,6 +1,6 @@
 -- What an exported call gives and leaves: the store comes and goes as its image, the rest as document 01 has it.
 --     replyOf ..            the reply of these values, in the order of the record's fields, which shows no bytes
---     Exported              the reply, and the image and the memory that are left
+--     Exported              the reply, and the image and the memory that are left; where a look's part lies stands beside it
 --     returned ..           what an exported function gave and left: its number, two handles, count, length, buffer, image
 --                           and memory; where it gives no such value, zeros stand for it, as in every reply
 --     showing n bs ..       the same of a look: its number, and the bytes of the part that it told

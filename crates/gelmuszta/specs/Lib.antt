@@ -1,4 +1,5 @@
 pub mod Exported
+pub mod Looks
 pub mod Validation
 pub mod Fits
 pub mod Runs

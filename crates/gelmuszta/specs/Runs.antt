@@ -3,13 +3,15 @@
 --     followedBy r n     the reply r, and then the list's
 --     runOn xs b m       the list of the calls xs from the image b and the memory m on
 --     imagedRun n        a run of steps, the store at its end as its image
+--     placesOn xs b m    the parts that the looks of the list tell, in their order, each on the image and the memory that it
+--                        gets; they are not in the replies, which have the bytes
 --     refusedWith n      the reply of a refusal with n; image and memory are those given
 -- Statements:
 --     ListsAreRuns       on an image that holds a store a list gives and leaves what the run of steps on that store does, so
 --                        what is proved of runs, condition 3 with it, holds on images
 --     TwoImages          condition 3 of images: where the stores that two images hold, with their memories, differ only in
---                        one cluster's secrets, and no call shows a handle that opens it, the replies of a list are equal,
---                        and the runs agree as the copies of the stores do
+--                        one cluster's secrets, and no call presents a handle that opens it, the replies of a list are
+--                        equal and its looks tell the same parts, and the runs agree as the copies of the stores do
 --     RefusalLeaves      a call whose number is not 0 gives nothing else, and leaves image, memory and buffer as they were
 -- Assumes nothing.
 use mathlib.Core.Path.{_≡_}
@@ -17,17 +19,19 @@ use mathlib.Core.Logic.{_≢_}
 use mathlib.Core.Bool.{true}
 use mathlib.Core.List.{List, [], _∷_}
 use Prim.Native.Nat.{ℕ, _<_}
+use lib.ListN.{length}
 use Rattle.sizes.specs.Sizes.{nodes, clusters}
 use Rattle.handle.specs.Conversion.{product}
 use Rattle.bits.specs.Bytes.{Bytes}
 use Rattle.store.specs.Records.{tableAt}
-use Rattle.calls.specs.Calls.{Copy, Call, buffer}
+use Rattle.calls.specs.declared.Part.{Part}
+use Rattle.calls.specs.Calls.{Copy, Call, isLook, buffer}
 use Rattle.calls.specs.Steps.{Reply, Ran, plain, run}
 use Rattle.calls.specs.Answers.{copyOf}
-use Rattle.isolation.specs.Copies.{SoundCopy, setApart, Alike, AllShut}
+use Rattle.isolation.specs.Copies.{SoundCopy, setApart, Alike, AllShut, also}
 use Rattle.isolation.specs.Statements.{Agreed}
 use Rattle.image.specs.Images.{imageBytes, good, storeIn, imageOf}
-use Rattle.gelmuszta.specs.Exported.{Exported, exported}
+use Rattle.gelmuszta.specs.Exported.{Exported, exported, exportedPart}
 use Rattle.gelmuszta.specs.Fits.{AllFit}
 
 pub record RanOn : Type 0 where
@@ -42,6 +46,11 @@ abbrev pub runOn : List Call → List ℕ → List ℕ → RanOn
 runOn [] b m = record { replies = []; image = b; memory = m }
 runOn (x ∷ xs) b m = followedBy (exported x b m .reply) (runOn xs (exported x b m .image) (exported x b m .memory))
 
+abbrev pub placesOn : List Call → List ℕ → List ℕ → List Part
+placesOn [] b m = []
+placesOn (x ∷ xs) b m =
+    also (isLook (x .kind)) (exportedPart x b (length m)) (placesOn xs (exported x b m .image) (exported x b m .memory))
+
 abbrev pub imagedRun : Ran → RanOn
 imagedRun n = record { replies = n .replies; image = imageOf (n .copy .store); memory = n .copy .memory }
 
@@ -55,6 +64,7 @@ held b m = copyOf (storeIn b) m
 
 pub record ImagesAgree (node local : ℕ) (xs : List Call) (b m d n : List ℕ) : Type 0 where
   pub replies : runOn xs b m .replies ≡ runOn xs d n .replies
+  pub places : placesOn xs b m ≡ placesOn xs d n
   pub agreed : Agreed node local product xs (held b m) (held d n)
 
 abbrev pub TwoImages : Type 0

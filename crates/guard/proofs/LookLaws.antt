@@ -1,9 +1,11 @@
 -- A look: what the core tells of every store that has what was looked up, it tells of these records; the number and the part
--- of the memory are then the reply's, and the part lies inside the memory.
+-- of the memory are then the reply's, and the part lies inside the memory, where it says.
 -- Assumes nothing.
 use mathlib.Core.Path.{_≡_, sym, ap, subst, _∙_}
 use mathlib.Core.List.{List}
-use Prim.Native.Nat.{ℕ, _≤_}
+use Prim.Native.Nat.{ℕ, _+_, _≤_}
+use native.Mathlib.Omega.{arith}
+use borrow.Rule.Slice.Shared.{byByte}
 use lib.ListN.{length, replicate, length-replicate}
 use Rattle.handle.specs.Conversion.{product}
 use Rattle.store.specs.declared.Store.{Store}
@@ -16,6 +18,7 @@ use Rattle.calls.specs.Looks.{aesLooked}
 use Rattle.calls.proofs.LookLaws.{step-looked, part-inside}
 use Rattle.refusals.specs.Given.{Given}
 use Rattle.guard.specs.declared.Opened.{Opened}
+use Rattle.guard.specs.Places.{further}
 use Rattle.guard.specs.inner.Opens.{Opens}
 
 module _ (s : Store) (b : List ℕ) (current i : ℕ) where
@@ -45,6 +48,13 @@ module _ (s : Store) (b : List ℕ) (current i : ℕ) where
 
       pub part-ends : p .to ≤ length m
       part-ends = subst (λ (q : Part). q .to ≤ length m) (sym e) (part-inside product current i b (copyOf s m) .1)
+
+      -- a part begins as many bytes further as it says
+      pub part-lies : (at : ℕ × ℕ) → (at .0, byByte (p .from) (at .1))
+          ≡ further at (aesLooked (looking current i b) s (length m) .part .from)
+      part-lies at =
+          let n : byByte (p .from) (at .1) ≡ at .1 + p .from = omega arith in
+          ap (λ (k : ℕ). (at .0, k)) n ∙ ap (λ (q : Part). further at (q .from)) e
 
       pub part-shown : within p m ≡ aesStep (looking current i b) (copyOf s m) .reply .shown
       part-shown =

@@ -1,6 +1,7 @@
-// The calls of document 01 on a store and the memory that goes with it. Each entry point takes the records by value and
-// the memory lent, and gives what `step` gives: a refused call leaves all as it was. It looks up the record of the cluster
-// that the call is about, has the core (`cluster`) do the call on it, and puts the record back.
+// The calls of document 01, and the look of document 02, on a store and the memory that goes with it. Each entry point takes
+// the records by value and the memory lent, and gives what `step` gives: a refused call leaves all as it was. It looks up the
+// record of the cluster that the call is about, has the core (`cluster`) do the call on it, and puts the record back where
+// the call may change it.
 use calls::Answer;
 use calls::Left;
 use calls::Looked;
@@ -15,11 +16,14 @@ use store::Store;
 ghost use mathlib.Core.Path.{_≡_};
 ghost use mathlib.Core.List.{[]};
 ghost use Prim.Native.Nat.{_<_};
+ghost use denote.Ref.{ptr};
+ghost use lib.ListN.{length};
 ghost use Rattle.sizes.specs.Sizes.{records};
 ghost use Rattle.calls.specs.Calls as calls;
 ghost use Rattle.calls.specs.Steps.{aesStep};
 ghost use Rattle.calls.specs.Answers.{copyOf, ended};
 ghost use Rattle.calls.specs.Looks.{aesLooked};
+ghost use Rattle.guard.specs.Places.{further};
 ghost use Rattle.guard.specs.inner.Opens.{Opens, putBack};
 
 // Weakening looks at no store.
@@ -234,7 +238,7 @@ pub fn look_number(
 }
 
 // A look: the part of the memory that is the segment, for as long as the memory is lent; an empty part where it is refused.
-// Nothing is copied.
+// Nothing is copied: the part lies in the memory, where `look_part` says.
 pub fn look<'a>(
     store: Store,
     memory: &'a [u8],
@@ -242,7 +246,9 @@ pub fn look<'a>(
     segment: usize,
     bytes: HandleBytes,
 ) -> &'a [u8]
-    ensures { λ r. ⌜ now r ≡ aesStep (calls.looking current segment bytes) (copyOf store (now (memory .entry))) .reply .shown ⌝ }
+    ensures shown { λ r. ⌜ now r ≡ aesStep (calls.looking current segment bytes) (copyOf store (now (memory .entry))) .reply .shown ⌝ }
+    ensures place { λ r. ⌜ ptr r
+        ≡ further (ptr (memory .entry)) (aesLooked (calls.looking current segment bytes) store (length (now (memory .entry))) .part .from) ⌝ }
 {
     let part = look_part(store, memory.len(), current, segment, bytes);
     let from = part.from;

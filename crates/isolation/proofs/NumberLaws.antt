@@ -1,4 +1,4 @@
--- Both copies give a call the same number. Rows that see the call alone, or the tables, agree at once. Row 9 agrees: a
+-- Both copies give a call the same number, and a look the same part. Rows that see the call alone, or the tables, agree at once. Row 9 agrees: a
 -- handle of the cluster set apart validates in neither copy, one of another cluster meets equal records. Row 12 is
 -- looked at only where row 9 did not apply, so it is about another cluster.
 -- Assumes nothing.
@@ -20,6 +20,7 @@ use Rattle.store.specs.Sound.{sound}
 use Rattle.calls.specs.Calls.{Copy, Call, call, Arguments, Kind, newCluster, deleteCluster, newSegment, deleteSegment}
 use Rattle.calls.specs.Calls.{read, write, weaken, reduce, newPassword, validate, look, opens, needed}
 use Rattle.calls.specs.Calls.{handleOf, presented, anyOf, recordFor, recordNamed}
+use Rattle.calls.specs.Looks.{partBy, looked}
 use Rattle.calls.specs.Numbers.{unsound, noPlace, badField, gappedHandle, inUse, inactiveCluster, valid, violated}
 use Rattle.calls.specs.Numbers.{isOld, oldPassword, segmentPresent, segmentAbsent, short, fullNode}
 use Rattle.calls.specs.Numbers.{byTables, byRecords, rows, number}
@@ -36,8 +37,8 @@ module _ (f : Name → List ℕ → ℕ → List ℕ) (x : Call) (a b : Store) (
     (validation : noPlace x ≡ false → gappedHandle x ≡ false → badField x ≡ false → violated f x a ≡ violated f x b)
     (renewal : noPlace x ≡ false → gappedHandle x ≡ false → badField x ≡ false → violated f x a ≡ false
     → oldPassword x a ≡ oldPassword x b) where
-  looked : (n : ℕ) (t : Call → Tables → Bool) → byTables n t x a ≡ byTables n t x b
-  looked n t = ap (λ (ts : Tables). record { number = n; applies = t x ts }) same
+  tabled : (n : ℕ) (t : Call → Tables → Bool) → byTables n t x a ≡ byTables n t x b
+  tabled n t = ap (λ (ts : Tables). record { number = n; applies = t x ts }) same
 
   told : (n : ℕ) (t : Call → Store → Bool) → t x a ≡ t x b → byRecords n t x a ≡ byRecords n t x b
   told n t e = ap (λ (u : Bool). record { number = n; applies = u }) e
@@ -53,17 +54,17 @@ module _ (f : Name → List ℕ → ℕ → List ℕ) (x : Call) (a b : Store) (
       refl ▸ λ e3.
       refl ▸ λ e4.
       refl ▸ λ e5.
-      looked 6 inUse ▸ λ e6.
+      tabled 6 inUse ▸ λ e6.
       refl ▸ λ e7.
-      looked 8 inactiveCluster ▸ λ e8.
+      tabled 8 inactiveCluster ▸ λ e8.
       told 9 (violated f) (validation e2 e4 e3) ▸ λ e9.
       refl ▸ λ e10.
       refl ▸ λ e11.
       told 12 oldPassword (renewal e2 e4 e3 e9) ▸ λ e12.
-      looked 13 segmentPresent ▸ λ e13.
-      looked 14 segmentAbsent ▸ λ e14.
-      looked 15 short ▸ λ e15.
-      looked 16 fullNode ▸ λ e16.
+      tabled 13 segmentPresent ▸ λ e13.
+      tabled 14 segmentAbsent ▸ λ e14.
+      tabled 15 short ▸ λ e15.
+      tabled 16 fullNode ▸ λ e16.
       refl ▸ λ e21.
       refl ▸ λ e17. tt
 
@@ -164,3 +165,14 @@ module _ (node local : ℕ) (low : local < clusters) (f : Name → List ℕ → 
       (alike-tables node local a b al) (same-violated node local low f x a b al ha hb)
       (same-old (x .kind) (x .args) ha hb)
       ∙ ap (number f x (b .store)) (al .size)
+
+  -- so a look tells the same part: the number and the tables decide it
+  pub same-looked : (x : Call) → SoundCopy a → SoundCopy b → Shut node local f x (a .store)
+      → Shut node local f x (b .store)
+      → looked f x (a .store) (length (a .memory)) ≡ looked f x (b .store) (length (b .memory))
+  unfolding looked
+  same-looked x sa sb ha hb =
+      λ j. record {
+        number = same-number x sa sb ha hb j;
+        part = partBy (same-number x sa sb ha hb j) x (alike-tables node local a b al j);
+      }

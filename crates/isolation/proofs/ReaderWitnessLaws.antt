@@ -12,26 +12,26 @@ use Rattle.calls.specs.Steps.{Ran, effects, run}
 use Rattle.calls.proofs.Computing.{computing}
 use Rattle.isolation.specs.Copies.{Unaltered, keyed}
 use Rattle.isolation.specs.Witness.{one}
-use Rattle.isolation.specs.ReaderWitness.{looks, seen, LooksAlone, Unharmed}
+use Rattle.isolation.specs.ReaderWitness.{readerCalls, readerAnswers, ReadersList, Unharmed}
 use Rattle.isolation.proofs.RunLaws.{run-below, someBelow, unwritten-below}
 use Rattle.isolation.proofs.ReaderLaws.{readers-alter-nothing}
 use Rattle.isolation.proofs.WitnessLaws.{sound-one, four}
 
 module _ (f : Name → List ℕ → ℕ → List ℕ) where
-  unwritten : someBelow f (keyed 0 2 f writeMode) looks one ≡ false
+  unwritten : someBelow f (keyed 0 2 f writeMode) readerCalls one ≡ false
   unfolding keyed tests effects computing
   unwritten = refl
 
-  replies : run f looks one .replies ≡ seen
+  replies : run f readerCalls one .replies ≡ readerAnswers
   unfolding tests effects computing
-  replies = ap (λ (r : Ran). r .replies) (run-below f looks one sound-one) ∙ refl
+  replies = ap (λ (r : Ran). r .replies) (run-below f readerCalls one sound-one) ∙ refl
 
-  pub looks-alone : LooksAlone f
-  looks-alone = record { no-writer = unwritten-below f 0 2 looks one sound-one unwritten; replies = replies }
+  pub readers-list : ReadersList f
+  readers-list = record { no-writer = unwritten-below f 0 2 readerCalls one sound-one unwritten; replies = replies }
 
-  pub unaltered : Unaltered 0 2 one (run f looks one .copy)
+  pub unaltered : Unaltered 0 2 one (run f readerCalls one .copy)
   unaltered =
-      readers-alter-nothing 0 2 f (omega arith) (omega arith) looks one sound-one refl (looks-alone .no-writer)
+      readers-alter-nothing 0 2 f (omega arith) (omega arith) readerCalls one sound-one refl (readers-list .no-writer)
 
   pub unharmed : Unharmed f
   unharmed =

@@ -1,6 +1,6 @@
 -- Condition 3, by induction over the list. What holds before each call: the copies are alike, both are sound, and each
 -- holds the cluster set apart as it did at the start. A call gets the same number in both copies; refused, it changes
--- nothing; done, it is about another cluster, and leaves and gives alike.
+-- nothing; done, it is about another cluster, and leaves and gives alike. A look's part comes from the number and the tables.
 -- Assumes nothing.
 use mathlib.Core.Path.{_≡_, refl, sym, ap, ap₂, _∙_, subst}
 use Prim.Native.Nat.{ℕ, zero, suc, _<_}
@@ -12,17 +12,18 @@ use Rattle.sizes.specs.Sizes.{nodes, clusters}
 use Rattle.handle.specs.Handles.{Name}
 use Rattle.store.specs.declared.Cluster.{Cluster}
 use Rattle.store.specs.Records.{Table, tableOf, placeOf}
+use Rattle.calls.specs.declared.Looked.{Looked}
 use Rattle.calls.specs.Calls.{Copy, Call, call, Arguments, Kind, newCluster, deleteCluster, newSegment, deleteSegment}
-use Rattle.calls.specs.Calls.{read, write, weaken, reduce, newPassword, validate, look, opens, buffer}
+use Rattle.calls.specs.Calls.{read, write, weaken, reduce, newPassword, validate, look, isLook, opens, buffer}
 use Rattle.calls.specs.Numbers.{number}
 use Rattle.calls.specs.Steps.{Reply, plain, left, outcome, step, run}
-use Rattle.isolation.specs.Copies.{SoundCopy, Done, InPlace, setApart, Alike, Held, Shut, AllShut}
+use Rattle.isolation.specs.Copies.{SoundCopy, Done, InPlace, setApart, Alike, Held, Shut, AllShut, also, places}
 use Rattle.isolation.specs.Statements.{TwoCopies}
 use Rattle.isolation.proofs.AddressLaws.{place-outside}
 use Rattle.calls.proofs.DoneLaws.{new-away}
 use Rattle.isolation.proofs.AwayLaws.{shut-away}
 use Rattle.isolation.proofs.KeptLaws.{tables, facts, left-held, held-same, by-number, step-sound}
-use Rattle.isolation.proofs.NumberLaws.{same-number}
+use Rattle.isolation.proofs.NumberLaws.{same-number, same-looked}
 use Rattle.isolation.proofs.AlikeLaws.{left-alike, given-alike}
 
 module _ (node local : ℕ) (high : node < nodes) (low : local < clusters) (f : Name → List ℕ → ℕ → List ℕ) where
@@ -146,6 +147,14 @@ module _ (node local : ℕ) (high : node < nodes) (low : local < clusters) (f : 
         ap₂ {C = List Reply} (λ r rs. r ∷ rs) (same-reply a b v x (sa .0) (sb .0))
         (replies-run xs (step f x a .copy) (step f x b .copy) (kept a b v x (sa .0) (sb .0)) (sa .1) (sb .1))
 
+    places-run : (xs : List Call) (a b : Copy) → Invariant c d a b → AllShut node local f xs a
+        → AllShut node local f xs b → places f xs a ≡ places f xs b
+    places-run [] a b v sa sb = refl
+    places-run (x ∷ xs) a b v sa sb =
+        ap₂ {C = List Looked} (λ l ls. also (isLook (x .kind)) l ls)
+        (same-looked node local low f a b (v .alike) x (v .sound-first) (v .sound-second) (sa .0) (sb .0))
+        (places-run xs (step f x a .copy) (step f x b .copy) (kept a b v x (sa .0) (sb .0)) (sa .1) (sb .1))
+
 pub two-copies : (node local : ℕ) (f : Name → List ℕ → ℕ → List ℕ) → TwoCopies node local f
 two-copies node local f high low xs a b ka kb active al sa sb =
     let v : Invariant node local high low f a b a b =
@@ -159,6 +168,7 @@ two-copies node local f high low xs a b ka kb active al sa sb =
     let w = invariant-run node local high low f a b active xs a b v sa sb in
     record {
       replies = replies-run node local high low f a b active xs a b v sa sb;
+      places = places-run node local high low f a b active xs a b v sa sb;
       alike = w .alike;
       others = λ v l i p hv hl hi ne u.
           w .alike .bytes p

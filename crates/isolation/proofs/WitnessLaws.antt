@@ -28,9 +28,9 @@ use Rattle.calls.specs.Calls.{Copy, handleOf}
 use Rattle.calls.specs.Steps.{Ran, Outcome, effects, outcome, run}
 use Rattle.isolation.specs.Copies.{SixteenBytes, SoundCopy, InPlace, Outside, Alike, Held, keyed}
 use Rattle.isolation.specs.Statements.{Agreed}
-use Rattle.calls.specs.Literals.{sixteen, none, told}
-use Rattle.isolation.specs.Witness.{one, two, weakGiven, weakShown, before, last, tries, answersBefore, answers}
-use Rattle.isolation.specs.Witness.{holding, Still, Witnessed, Concluded, shown, seen, Bites}
+use Rattle.calls.specs.Literals.{sixteen, none, told, shows}
+use Rattle.isolation.specs.Witness.{one, two, weakGiven, weakShown, before, last, lastLook, tries, answersBefore, answers}
+use Rattle.isolation.specs.Witness.{holding, Still, Witnessed, Concluded, rightRead, rightLook, Bites}
 use Rattle.calls.proofs.StepLaws.{numberBelow, number-below}
 use Rattle.isolation.proofs.RunLaws.{stepBelow, step-below, runBelow, run-below, last-below, someBelow, isKeyed, shut-below}
 use Rattle.calls.specs.Numbers.{valid, violated, tests, otherTests}
@@ -110,26 +110,53 @@ module _ (f : Name → List ℕ → ℕ → List ℕ) where
       (λ k h.
       eq-eqb (weakByte k) (getD (tabulate 16 weakByte) k 0) (sym (getD-tabulate 16 weakByte 0 k h)))
 
-  not-violated : violated f (last f) records ≡ false
+  not-violated : (violated f (last f) records ≡ false) × (violated f (lastLook f) records ≡ false)
   unfolding violated
-  not-violated = ap (λ (b : Bool). not b || false) valid-last
+  not-violated = (ap (λ (b : Bool). not b || false) valid-last, ap (λ (b : Bool). not b || false) valid-last)
 
-  number-last : (size : ℕ) → numberBelow f (last f) records size ≡ 0
+  number-last : (size : ℕ) → (numberBelow f (last f) records size ≡ 0) × (numberBelow f (lastLook f) records size ≡ 0)
   unfolding otherTests computing tabulate
-  number-last size = ap (λ (b : Bool). cond {A = ℕ} b 9 0) not-violated
+  number-last size =
+      (ap (λ (b : Bool). cond {A = ℕ} b 9 0) (not-violated .0), ap (λ (b : Bool). cond {A = ℕ} b 9 0) (not-violated .1))
 
   step-last : stepBelow f (last f) left ≡ record { copy = left; reply = told 0 none none 0 2 (8 ∷ 9 ∷ 3 ∷ []) }
   unfolding tests effects computing tabulate
   step-last =
       ap (λ (s : Store). outcome f (numberBelow f (last f) s (length (left .memory))) (last f) left) records-before
-      ∙ ap (λ (n : ℕ). outcome f n (last f) left) (number-last (length (left .memory)))
+      ∙ ap (λ (n : ℕ). outcome f n (last f) left) (number-last (length (left .memory)) .0)
       ∙ refl
+
+  step-look : stepBelow f (lastLook f) left ≡ record { copy = left; reply = shows 0 (8 ∷ 9 ∷ []) }
+  unfolding tests effects computing tabulate
+  step-look =
+      ap (λ (s : Store). outcome f (numberBelow f (lastLook f) s (length (left .memory))) (lastLook f) left) records-before
+      ∙ ap (λ (n : ℕ). outcome f n (lastLook f) left) (number-last (length (left .memory)) .1)
+      ∙ refl
+
+  ended-last : runBelow f (before f ++ (last f ∷ [])) one
+      ≡ record { replies = answersBefore f ++ (told 0 none none 0 2 (8 ∷ 9 ∷ 3 ∷ []) ∷ []); copy = left }
+  ended-last =
+      last-below f (before f) (last f) one
+      ∙ (λ j. record { replies = replies-before j ++ (step-last j .reply ∷ []); copy = step-last j .copy })
 
   ended : run f (tries f) one ≡ record { replies = answers f; copy = left }
   ended =
       run-below f (tries f) one sound-one
-      ∙ last-below f (before f) (last f) one
-      ∙ (λ j. record { replies = replies-before j ++ (step-last j .reply ∷ []); copy = step-last j .copy })
+      ∙ last-below f (before f ++ (last f ∷ [])) (lastLook f) one
+      ∙ ap
+      (λ (r : Ran).
+      record {
+        replies = r .replies ++ (stepBelow f (lastLook f) (r .copy) .reply ∷ []);
+        copy = stepBelow f (lastLook f) (r .copy) .copy;
+      })
+      ended-last
+      ∙ ap
+      (λ (o : Outcome).
+      record {
+        replies = (answersBefore f ++ (told 0 none none 0 2 (8 ∷ 9 ∷ 3 ∷ []) ∷ [])) ++ (o .reply ∷ []);
+        copy = o .copy;
+      })
+      step-look
 
   -- no call is keyed, on what the rows below the first make of a copy
   unkeyed-one : someBelow f (isKeyed f 0 2) (tries f) one ≡ false
@@ -184,8 +211,8 @@ module _ (f : Name → List ℕ → ℕ → List ℕ) where
   unfolding tests effects computing
   bites =
       record {
-        done = number-below f shown (one .store) memory sound-one ∙ refl;
-        refused = number-below f shown (two .store) memory sound-two ∙ refl;
-        looked = ap (λ (o : Outcome). o .reply) (step-below f seen one sound-one);
-        hidden = ap (λ (o : Outcome). o .reply) (step-below f seen two sound-two);
+        done = number-below f rightRead (one .store) memory sound-one ∙ refl;
+        refused = number-below f rightRead (two .store) memory sound-two ∙ refl;
+        looked = ap (λ (o : Outcome). o .reply) (step-below f rightLook one sound-one);
+        hidden = ap (λ (o : Outcome). o .reply) (step-below f rightLook two sound-two);
       }

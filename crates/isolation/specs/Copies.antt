@@ -17,6 +17,10 @@
 --                       so that leaving them out asks less of a list
 --     Shut x s          it is keyed in neither mode
 --     AllShut, NoWriter    each call of a list is shut, or not keyed for writing, on the copy that it gets
+-- Of a list, for every conversion f:
+--     also t l ls       l before ls, where t is true
+--     places f xs c     what the looks of the list xs tell, in their order: each its number and the part of the memory, on
+--                       the copy that it gets
 -- Assumes nothing.
 use mathlib.Core.Path.{_≡_}
 use mathlib.Core.Logic.{_≢_}
@@ -35,9 +39,11 @@ use Rattle.store.specs.declared.Place.the-variants.{Absent, Present}
 use Rattle.store.specs.declared.Store.{Store}
 use Rattle.store.specs.Records.{Tables, recordOf, clusterAt, tableAt, placeAt, readMode, writeMode, address}
 use Rattle.store.specs.Sound.{sound}
-use Rattle.calls.specs.Calls.{Copy, Call, opens, presented, anyOf}
+use Rattle.calls.specs.declared.Looked.{Looked}
+use Rattle.calls.specs.Calls.{Copy, Call, isLook, opens, presented, anyOf}
 use Rattle.calls.specs.Numbers.{valid, number}
 use Rattle.calls.specs.Steps.{step}
+use Rattle.calls.specs.Looks.{looked}
 
 abbrev pub SoundCopy : Copy → Type 0
 SoundCopy c = sound (c .store) (length (c .memory)) ≡ true
@@ -48,6 +54,15 @@ InPlace v (Present base size) a = (address v base ≤ a) × (a < address v base 
 
 abbrev pub Done : (Name → List ℕ → ℕ → List ℕ) → Call → Copy → Type 0
 Done f x c = number f x (c .store) (length (c .memory)) ≡ 0
+
+abbrev pub also : {A : Type 0} → Bool → A → List A → List A
+also true l ls = l ∷ ls
+also false l ls = ls
+
+abbrev pub places : (Name → List ℕ → ℕ → List ℕ) → List Call → Copy → List Looked
+places f [] c = []
+places f (x ∷ xs) c =
+    also (isLook (x .kind)) (looked f x (c .store) (length (c .memory))) (places f xs (step f x c .copy))
 
 module _ (node local : ℕ) where
   abbrev pub setApart : ℕ

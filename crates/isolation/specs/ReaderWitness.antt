@@ -1,11 +1,11 @@
 -- That readers alter nothing is not empty: a list of calls by a holder of the read primary handle of the cluster set apart,
 -- on the copy `one` of the witness of condition 3. Handles and answers are written out.
---     looks              calls 5, 7, 8, 9, validation and a look done with that handle, and a read with the handle that call
+--     readerCalls        calls 5, 7, 8, 9, validation and a look done with that handle, and a read with the handle that call
 --                        9 gave; each call that writes, and a new write password, tried with it and refused; and the same
 --                        calls done for another cluster with its write primary handle
---     seen               what is answered
+--     readerAnswers      what is answered
 -- For every conversion f:
---     LooksAlone         no call shows a handle of the cluster that validates for writing, and the answers are computed
+--     ReadersList        no call presents a handle of the cluster that validates for writing, and the answers are computed
 --     Unharmed           what the theorem says of it: in the end the segment has its place and its bytes still, and the
 --                        write password is what it was
 -- Assumes nothing.
@@ -23,8 +23,8 @@ use Rattle.calls.specs.Literals.{sixteen, primary, none, told, shows}
 use Rattle.isolation.specs.Copies.{NoWriter}
 use Rattle.isolation.specs.Witness.{one}
 
-abbrev pub looks : List Call
-looks =
+abbrev pub readerCalls : List Call
+readerCalls =
     -- with the read handle of the cluster
     reading 5 (primary 0 2 17) (1 ∷ 2 ∷ 3 ∷ 4 ∷ 5 ∷ [])
     ∷ looking 0 5 (primary 0 2 17)
@@ -49,8 +49,8 @@ looks =
     ∷ deletingCluster 0 (primary 0 3 6)
     ∷ []
 
-abbrev pub seen : List Reply
-seen =
+abbrev pub readerAnswers : List Reply
+readerAnswers =
     told 0 none none 0 4 (7 ∷ 7 ∷ 7 ∷ 7 ∷ 5 ∷ [])
     ∷ shows 0 (7 ∷ 7 ∷ 7 ∷ 7 ∷ [])
     ∷ told 0 (primary 0 2 17) none 8 0 []
@@ -75,11 +75,11 @@ seen =
     ∷ []
 
 module _ (f : Name → List ℕ → ℕ → List ℕ) where
-  pub record LooksAlone : Type 0 where
-    pub no-writer : NoWriter 0 2 f looks one
-    pub replies : run f looks one .replies ≡ seen
+  pub record ReadersList : Type 0 where
+    pub no-writer : NoWriter 0 2 f readerCalls one
+    pub replies : run f readerCalls one .replies ≡ readerAnswers
 
   pub record Unharmed : Type 0 where
-    pub place : placeOn (tableAt (run f looks one .copy .store)) 0 2 5 ≡ Present 0 4
-    pub write : clusterAt (run f looks one .copy .store) 2 .write ≡ sixteen 34
-    pub bytes : (p : ℕ) → p < 4 → getD (run f looks one .copy .memory) p 0 ≡ 7
+    pub place : placeOn (tableAt (run f readerCalls one .copy .store)) 0 2 5 ≡ Present 0 4
+    pub write : clusterAt (run f readerCalls one .copy .store) 2 .write ≡ sixteen 34
+    pub bytes : (p : ℕ) → p < 4 → getD (run f readerCalls one .copy .memory) p 0 ≡ 7

@@ -3,12 +3,13 @@
 --     SoundKept               any list of calls leaves a sound copy sound
 --     Agreed xs a b           condition 3's conclusions, for the list xs on the copies a and b:
 --       replies                 the answers, the buffers and the bytes shown are equal, call by call
+--       places                  the looks tell the same places in the memory, and not only the same bytes
 --       alike                   at the end every other record is equal, and every byte outside the cluster's segments
 --       others                  at the end the bytes of every segment of another cluster are equal
 --       held-first, held-second    in each copy the cluster's record and segment bytes are what they were at the start
 --     TwoCopies               condition 3: two sound copies, alike but for the segment bytes and the passwords of one
---                             active cluster, of which no call shows a handle that validates in either copy
---     ReadersAlterNothing     where no call of a list shows a handle of a cluster that validates for writing, its
+--                             active cluster, of which no call presents a handle that validates in either copy
+--     ReadersAlterNothing     where no call of a list presents a handle of a cluster that validates for writing, its
 --                             table, its write password and its segments' bytes are at the end what they were
 --     Touched k x ts p        address p is a byte of the segment that the call x, of the kind k, makes or writes
 --     OnlyItsOwn x c          the call x on the copy c leaves every record but that of its own cluster as it was, and
@@ -29,7 +30,7 @@ use Rattle.calls.specs.Calls.{Copy, start, Call, Kind, newCluster, deleteCluste
 use Rattle.calls.specs.Calls.{read, write, weaken, reduce, newPassword, validate, look, nodeFor, localFor, recordFor}
 use Rattle.calls.specs.Calls.{placeFor}
 use Rattle.calls.specs.Steps.{newPlace, step, run}
-use Rattle.isolation.specs.Copies.{SoundCopy, InPlace, setApart, Alike, Held, Unaltered, AllShut, NoWriter}
+use Rattle.isolation.specs.Copies.{SoundCopy, InPlace, setApart, Alike, Held, Unaltered, AllShut, NoWriter, places}
 
 abbrev pub StartSound : Type 0
 StartSound = SoundCopy start
@@ -68,6 +69,7 @@ module _ (node local : ℕ) (f : Name → List ℕ → ℕ → List ℕ) where
 
   pub record Agreed (xs : List Call) (a b : Copy) : Type 0 where
     pub replies : run f xs a .replies ≡ run f xs b .replies
+    pub places : places f xs a ≡ places f xs b
     pub alike : Alike node local (run f xs a .copy) (run f xs b .copy)
     pub others : (v l i p : ℕ) → v < nodes → l < clusters → i < segments → recordOf v l ≢ setApart node local
         → InPlace v (placeOn (tableAt (run f xs a .copy .store)) v l i) p

@@ -2,15 +2,16 @@
 -- Handles and answers are written out, and no call shown here is left out of condition 3's lists.
 --     holding r w b       a copy in which its passwords are sixteen r and sixteen w, and its four bytes b
 --     one, two            two such copies that differ in all of these
---     shown, seen         a read and a look with the read primary handle of the copy one
+--     rightRead, rightLook    a read and a look with the read primary handle of the copy one
 -- For every conversion f:
 --     weakPassword        what the parameter 128 turns the read password of local number 2 of node 3 into
 --     weakGiven           the bytes of the handle with that password, whose subselector 0 is 128
 --     weakShown           with the first sixteen bytes of that password; the same, where f gives sixteen bytes
 --     before              each of the nine calls, validation and a look with a handle of the cluster that does not validate,
 --                         all refused, and a weakening of one that does; each of them done for a cluster of the same node;
---                         and some for one with the same local number, whose read handle is weakened
---     last                a read with the weakened handle
+--                         and some for one with the same local number, whose read handle is weakened, with looks from its
+--                         node, one of them with a handle of the cluster set apart
+--     last, lastLook      a read and a look with the weakened handle
 --     tries, answers      all these calls, and what both copies answer
 --     Witnessed           the copies and the list meet each hypothesis of condition 3, and the answers are computed
 --     Concluded           what condition 3 says of them: the other copy gives these answers too; the record and a byte
@@ -49,11 +50,11 @@ one = holding 17 34 7
 abbrev pub two : Copy
 two = holding 1 2 9
 
-abbrev pub shown : Call
-shown = reading 5 (primary 0 2 17) (replicate 6 9)
+abbrev pub rightRead : Call
+rightRead = reading 5 (primary 0 2 17) (replicate 6 9)
 
-abbrev pub seen : Call
-seen = looking 0 5 (primary 0 2 17)
+abbrev pub rightLook : Call
+rightLook = looking 0 5 (primary 0 2 17)
 
 -- what a copy that was holding these passwords and bytes has still
 pub record Still (c : Copy) (r w b : ℕ) : Type 0 where
@@ -102,14 +103,19 @@ module _ (f : Name → List ℕ → ℕ → List ℕ) where
       ∷ makingCluster 3 2 (sixteen 3) (sixteen 4)
       ∷ makingSegment 3 7 2 (primary 3 2 4)
       ∷ writing 7 (primary 3 2 4) (8 ∷ 9 ∷ [])
+      ∷ looking 3 7 (primary 3 2 3)
+      ∷ looking 3 5 (primary 0 2 5)
       ∷ weakeningBy 128 (primary 3 2 3)
       ∷ []
 
   abbrev pub last : Call
   last = reading 7 weakShown (1 ∷ 2 ∷ 3 ∷ [])
 
+  abbrev pub lastLook : Call
+  lastLook = looking 3 7 weakShown
+
   abbrev pub tries : List Call
-  tries = before ++ (last ∷ [])
+  tries = (before ++ (last ∷ [])) ++ (lastLook ∷ [])
 
   abbrev pub answersBefore : List Reply
   answersBefore =
@@ -141,11 +147,13 @@ module _ (f : Name → List ℕ → ℕ → List ℕ) where
       ∷ told 0 (primary 3 2 3) (primary 3 2 4) 0 0 []
       ∷ told 0 none none 0 0 []
       ∷ told 0 none none 0 0 (8 ∷ 9 ∷ [])
+      ∷ shows 0 (8 ∷ 9 ∷ [])
+      ∷ shows 5 []
       ∷ told 0 weakGiven none 1 0 []
       ∷ []
 
   abbrev pub answers : List Reply
-  answers = answersBefore ++ (told 0 none none 0 2 (8 ∷ 9 ∷ 3 ∷ []) ∷ [])
+  answers = (answersBefore ++ (told 0 none none 0 2 (8 ∷ 9 ∷ 3 ∷ []) ∷ [])) ++ (shows 0 (8 ∷ 9 ∷ []) ∷ [])
 
   pub record Witnessed : Type 0 where
     pub sound-one : SoundCopy one
@@ -165,7 +173,7 @@ module _ (f : Name → List ℕ → ℕ → List ℕ) where
     pub still-two : Still (run f tries two .copy) 1 2 9
 
   pub record Bites : Type 0 where
-    pub done : number f shown (one .store) memory ≡ 0
-    pub refused : number f shown (two .store) memory ≡ 9
-    pub looked : step f seen one .reply ≡ shows 0 (7 ∷ 7 ∷ 7 ∷ 7 ∷ [])
-    pub hidden : step f seen two .reply ≡ shows 9 []
+    pub done : number f rightRead (one .store) memory ≡ 0
+    pub refused : number f rightRead (two .store) memory ≡ 9
+    pub looked : step f rightLook one .reply ≡ shows 0 (7 ∷ 7 ∷ 7 ∷ 7 ∷ [])
+    pub hidden : step f rightLook two .reply ≡ shows 9 []
