@@ -14,7 +14,7 @@ use Rattle.store.specs.Records.{tableAt}
 use Rattle.calls.specs.declared.Part.{Part}
 use Rattle.calls.specs.declared.Looked.{Looked}
 use Rattle.calls.specs.Calls.{Call, looking}
-use Rattle.calls.specs.Steps.{Reply, within, aesStep}
+use Rattle.calls.specs.Steps.{Reply, within}
 use Rattle.calls.specs.Literals.{shows}
 use Rattle.calls.specs.LookWords.{LookInWords}
 use Rattle.calls.specs.Answers.{copyOf}
@@ -23,22 +23,22 @@ use Rattle.calls.proofs.LookLaws.{step-looked, part-inside, look-in-words}
 use Rattle.image.specs.Images.{good, storeIn, imageOf}
 use Rattle.gelmuszta.specs.Exported.{Exported, showing, damaged, exported, partFrom, exportedPart, imaged}
 use Rattle.gelmuszta.specs.Looks.{LookOnImage}
-use Rattle.gelmuszta.proofs.ExportLaws.{held-good, through, number-unsound}
+use Rattle.gelmuszta.proofs.ExportLaws.{picked, held-good, through, number-unsound}
+
+-- the part, where it is known whether the image is good
+abbrev pub placed : Call → List ℕ → ℕ → Bool → Part
+placed x b size g = elim g [ true ↦ aesLooked x (storeIn b) size .part | false ↦ nowhere ]
 
 module _ (b m : List ℕ) (current i : ℕ) (h : List ℕ) (sd : Bool)
     (es : sd ≡ (good b && sound (storeIn b) (length m))) where
   abbrev x : Call
   x = looking current i h
 
-  -- the part, where it is known whether the image is good
-  abbrev picked : Bool → Part
-  picked g = elim g [ true ↦ aesLooked x (storeIn b) (length m) .part | false ↦ nowhere ]
-
   pub hidden-unsound : not sd ≡ true → partFrom 0 0 ≡ exportedPart x b (length m)
   unfolding exportedPart looked
   hidden-unsound t = go (good b) (sym es ∙ not-true sd t)
     where
-      go : (g : Bool) → (g && sound (storeIn b) (length m)) ≡ false → nowhere ≡ picked g
+      go : (g : Bool) → (g && sound (storeIn b) (length m)) ≡ false → nowhere ≡ placed x b (length m) g
       go false f = λ j. nowhere
       go true f =
           sym (ap (λ (n : ℕ). partBy n x (tableAt (storeIn b)))
@@ -66,7 +66,7 @@ module _ (b m : List ℕ) (current i : ℕ) (h : List ℕ) (sd : Bool)
     look-placed =
         let r = look-rises in
         let n : p .from + (p .to - p .from) ≡ p .to = omega arith in
-        ap (λ (k : ℕ). record { from = p .from; to = k }) n ∙ told ∙ sym (ap picked (held-good b m sd es whole t))
+        ap (λ (k : ℕ). record { from = p .from; to = k }) n ∙ told ∙ sym (ap (placed x b (length m)) (held-good b m sd es whole t))
 
 -- ---- in words
 
@@ -79,16 +79,16 @@ module _ (v i : ℕ) (h b m : List ℕ) where
 
   -- what is done and told, where it is known whether the image is good
   abbrev done : Bool → Exported
-  done g = elim g [ true ↦ imaged (aesStep y (copyOf (storeIn b) m)) | false ↦ damaged y b m ]
+  done = picked y b m
 
-  abbrev placed : Bool → Part
-  placed g = elim g [ true ↦ aesLooked y (storeIn b) (length m) .part | false ↦ nowhere ]
+  abbrev told-at : Bool → Part
+  told-at = placed y b (length m)
 
   record On (g : Bool) : Type 0 where
-    refused : (done g .reply .number ≡ 0 → ⊥) → placed g ≡ nowhere
+    refused : (done g .reply .number ≡ 0 → ⊥) → told-at g ≡ nowhere
     damaged : g ≡ false → done g .reply ≡ shows 1 []
-    exact : done g .reply .shown ≡ within (placed g) m
-    inside : (placed g .from ≤ placed g .to) × (placed g .to ≤ length m)
+    exact : done g .reply .shown ≡ within (told-at g) m
+    inside : (told-at g .from ≤ told-at g .to) × (told-at g .to ≤ length m)
 
   on : (g : Bool) → On g
   on false =

@@ -11,7 +11,7 @@ use Rattle.store.specs.declared.Store.{Store}
 use Rattle.calls.specs.declared.Part.{Part}
 use Rattle.calls.specs.declared.Looked.{Looked}
 use Rattle.calls.specs.Calls.{Call, among, isLook}
-use Rattle.calls.specs.Looks.{nowhere, aesLooked}
+use Rattle.calls.specs.Looks.{aesLooked}
 use Rattle.calls.specs.Steps.{Outcome, run, aesStep}
 use Rattle.calls.specs.Answers.{copyOf}
 use Rattle.isolation.specs.Copies.{also, places}
@@ -23,9 +23,10 @@ use Rattle.image.proofs.TripLaws.{good-image, store-image, image-store}
 use Rattle.image.proofs.RangeLaws.{store-held}
 use Rattle.gelmuszta.specs.Exported.{Exported, damaged, imaged, exported, exportedPart}
 use Rattle.gelmuszta.specs.Fits.{AllFit}
-use Rattle.gelmuszta.specs.Runs.{RanOn, runOn, followedBy, placesOn, imagedRun, ListsAreRuns, held, TwoImages, refusedWith}
+use Rattle.gelmuszta.specs.Runs.{RanOn, runOn, followedBy, placesOn, imagedRun, ListsAreRuns, PlacesAreRuns, held, TwoImages, refusedWith}
 use Rattle.gelmuszta.specs.Runs.{RefusalLeaves}
 use Rattle.gelmuszta.proofs.ExportLaws.{damagedBy, picked, step-leaves}
+use Rattle.gelmuszta.proofs.LookLaws.{placed}
 use Rattle.gelmuszta.proofs.FitLaws.{step-fits}
 
 exported-good : (x : Call) (b m : List ℕ) → good b ≡ true → exported x b m ≡ imaged (aesStep x (copyOf (storeIn b) m))
@@ -62,7 +63,7 @@ part-image : (s : Store) → StoreFits s → (x : Call) (m : List ℕ)
     → exportedPart x (imageOf s) (length m) ≡ aesLooked x s (length m) .part
 unfolding exportedPart
 part-image s k x m =
-    ap (λ (g : Bool). elim g [ true ↦ aesLooked x (storeIn (imageOf s)) (length m) .part | false ↦ nowhere ]) (good-image s k)
+    ap (placed x (imageOf s) (length m)) (good-image s k)
     ∙ ap (λ (t : Store). aesLooked x t (length m) .part) (store-image s k)
 
 abbrev parts : List Looked → List Part
@@ -83,9 +84,8 @@ places-run (x ∷ xs) s m p k =
     (step-fits product x (copyOf s m) (p .0) k) j))
     ∙ sym (parts-also (isLook (x .kind)) (aesLooked x s (length m)) (places product xs (aesStep x (copyOf s m) .copy)))
 
-places-are : (xs : List Call) (b m : List ℕ) → AllFit xs → Bytes imageBytes b → good b ≡ true
-    → placesOn xs b m ≡ parts (places product xs (copyOf (storeIn b) m))
-places-are xs b m p h g =
+pub places-are-runs : PlacesAreRuns
+places-are-runs xs b m p h g =
     ap (λ (i : List ℕ). placesOn xs i m) (sym (image-store b h g)) ∙ places-run xs (storeIn b) m p (store-held b h)
 
 pub two-images : TwoImages
@@ -95,7 +95,7 @@ two-images node local v l xs b m d n p hb gb hd gd sb sd active alike shut-b shu
       replies =
           ap (λ (r : RanOn). r .replies) (lists-are-runs xs b m p hb gb) ∙ agreed .replies
           ∙ sym (ap (λ (r : RanOn). r .replies) (lists-are-runs xs d n p hd gd));
-      places = places-are xs b m p hb gb ∙ ap parts (agreed .places) ∙ sym (places-are xs d n p hd gd);
+      places = places-are-runs xs b m p hb gb ∙ ap parts (agreed .places) ∙ sym (places-are-runs xs d n p hd gd);
       agreed = agreed;
     }
 

@@ -9,6 +9,7 @@
 -- Statements:
 --     ListsAreRuns       on an image that holds a store a list gives and leaves what the run of steps on that store does, so
 --                        what is proved of runs, condition 3 with it, holds on images
+--     PlacesAreRuns      and the looks of the list tell the parts that they tell along that run
 --     TwoImages          condition 3 of images: where the stores that two images hold, with their memories, differ only in
 --                        one cluster's secrets, and no call presents a handle that opens it, the replies of a list are
 --                        equal and its looks tell the same parts, and the runs agree as the copies of the stores do
@@ -17,7 +18,7 @@
 use mathlib.Core.Path.{_≡_}
 use mathlib.Core.Logic.{_≢_}
 use mathlib.Core.Bool.{true}
-use mathlib.Core.List.{List, [], _∷_}
+use mathlib.Core.List.{List, [], _∷_, map}
 use Prim.Native.Nat.{ℕ, _<_}
 use lib.ListN.{length}
 use Rattle.sizes.specs.Sizes.{nodes, clusters}
@@ -25,10 +26,11 @@ use Rattle.handle.specs.Conversion.{product}
 use Rattle.bits.specs.Bytes.{Bytes}
 use Rattle.store.specs.Records.{tableAt}
 use Rattle.calls.specs.declared.Part.{Part}
+use Rattle.calls.specs.declared.Looked.{Looked}
 use Rattle.calls.specs.Calls.{Copy, Call, isLook, buffer}
 use Rattle.calls.specs.Steps.{Reply, Ran, plain, run}
 use Rattle.calls.specs.Answers.{copyOf}
-use Rattle.isolation.specs.Copies.{SoundCopy, setApart, Alike, AllShut, also}
+use Rattle.isolation.specs.Copies.{SoundCopy, setApart, Alike, AllShut, also, places}
 use Rattle.isolation.specs.Statements.{Agreed}
 use Rattle.image.specs.Images.{imageBytes, good, storeIn, imageOf}
 use Rattle.gelmuszta.specs.Exported.{Exported, exported, exportedPart}
@@ -58,6 +60,11 @@ abbrev pub ListsAreRuns : Type 0
 ListsAreRuns =
     (xs : List Call) (b m : List ℕ) → AllFit xs → Bytes imageBytes b → good b ≡ true
     → runOn xs b m ≡ imagedRun (run product xs (copyOf (storeIn b) m))
+
+abbrev pub PlacesAreRuns : Type 0
+PlacesAreRuns =
+    (xs : List Call) (b m : List ℕ) → AllFit xs → Bytes imageBytes b → good b ≡ true
+    → placesOn xs b m ≡ map (λ (l : Looked). l .part) (places product xs (copyOf (storeIn b) m))
 
 abbrev pub held : List ℕ → List ℕ → Copy
 held b m = copyOf (storeIn b) m

@@ -3,15 +3,17 @@
 -- Assumes nothing.
 use mathlib.Core.Path.{_≡_, refl, ap, _∙_}
 use Prim.Native.Nat.{ℕ}
-use mathlib.Core.Bool.{Bool, false, _||_}
+use mathlib.Core.Bool.{Bool, true, false, _||_}
 use mathlib.Core.List.{List, [], _∷_, _++_}
 use lib.ListN.{length}
 use Rattle.handle.specs.Handles.{Name}
 use Rattle.store.specs.declared.Store.{Store}
-use Rattle.store.specs.Records.{readMode, writeMode}
-use Rattle.calls.specs.Calls.{Copy, Call}
+use Rattle.store.specs.Records.{tableAt, readMode, writeMode}
+use Rattle.calls.specs.declared.Looked.{Looked}
+use Rattle.calls.specs.Calls.{Copy, Call, isLook}
 use Rattle.calls.specs.Steps.{Outcome, Ran, followed, outcome, step, run}
-use Rattle.isolation.specs.Copies.{SoundCopy, keyed, AllShut, NoWriter}
+use Rattle.calls.specs.Looks.{partBy, looked}
+use Rattle.isolation.specs.Copies.{SoundCopy, keyed, AllShut, NoWriter, also, places}
 use Rattle.calls.proofs.CallLaws.{or-left, or-right}
 use Rattle.calls.proofs.StepLaws.{numberBelow, number-below}
 use Rattle.isolation.proofs.KeptLaws.{step-sound}
@@ -43,6 +45,46 @@ module _ (f : Name → List ℕ → ℕ → List ℕ) where
       }
   last-below [] x c = refl
   last-below (y ∷ xs) x c = ap (followed (stepBelow y c .reply)) (last-below xs x (stepBelow y c .copy))
+
+  -- the places that the looks of a list tell
+  abbrev pub lookedBelow : Call → Copy → Looked
+  lookedBelow x c =
+      record {
+        number = numberBelow f x (c .store) (length (c .memory));
+        part = partBy (numberBelow f x (c .store) (length (c .memory))) x (tableAt (c .store));
+      }
+
+  abbrev pub placesBelow : List Call → Copy → List Looked
+  placesBelow [] c = []
+  placesBelow (x ∷ xs) c = also (isLook (x .kind)) (lookedBelow x c) (placesBelow xs (stepBelow x c .copy))
+
+  looked-below : (x : Call) (c : Copy) → SoundCopy c → looked f x (c .store) (length (c .memory)) ≡ lookedBelow x c
+  unfolding looked
+  looked-below x c k =
+      ap (λ (n : ℕ). record { number = n; part = partBy n x (tableAt (c .store)) })
+      (number-below f x (c .store) (length (c .memory)) k)
+
+  pub places-below : (xs : List Call) (c : Copy) → SoundCopy c → places f xs c ≡ placesBelow xs c
+  places-below [] c k = refl
+  places-below (x ∷ xs) c k =
+      ap (also (isLook (x .kind)) (looked f x (c .store) (length (c .memory))))
+      (places-below xs (step f x c .copy) (step-sound f x c k))
+      ∙ ap (λ (o : Outcome). also (isLook (x .kind)) (looked f x (c .store) (length (c .memory))) (placesBelow xs (o .copy)))
+      (step-below x c k)
+      ∙ ap (λ (l : Looked). also (isLook (x .kind)) l (placesBelow xs (stepBelow x c .copy))) (looked-below x c k)
+
+  also-append : (t : Bool) (l : Looked) (ls ms : List Looked) → also t l (ls ++ ms) ≡ also t l ls ++ ms
+  also-append true l ls ms = refl
+  also-append false l ls ms = refl
+
+  -- a list and one call more
+  pub last-place : (xs : List Call) (x : Call) (c : Copy)
+      → placesBelow (xs ++ (x ∷ [])) c
+      ≡ placesBelow xs c ++ also (isLook (x .kind)) (lookedBelow x (runBelow xs c .copy)) []
+  last-place [] x c = refl
+  last-place (y ∷ xs) x c =
+      ap (also (isLook (y .kind)) (lookedBelow y c)) (last-place xs x (stepBelow y c .copy))
+      ∙ also-append (isLook (y .kind)) (lookedBelow y c) (placesBelow xs (stepBelow y c .copy)) _
 
   -- some call of the list passes a test, on what the rows below the first make of a copy
   abbrev pub someBelow : (Call → Store → Bool) → List Call → Copy → Bool

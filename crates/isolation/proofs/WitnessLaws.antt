@@ -24,15 +24,19 @@ use Rattle.store.specs.Records.{startingStore, started, tableAt, placeOn, putRe
 use Rattle.store.specs.Sound.{inRanges, endsInside, inside, soundSegment, apart, nodeApart, zeroBytes, idle, settled}
 use Rattle.store.specs.Sound.{sound}
 use Rattle.store.proofs.ChangeLaws.{put-other}
+use Rattle.calls.specs.declared.Looked.{Looked}
 use Rattle.calls.specs.Calls.{Copy, handleOf}
 use Rattle.calls.specs.Steps.{Ran, Outcome, effects, outcome, run}
-use Rattle.isolation.specs.Copies.{SixteenBytes, SoundCopy, InPlace, Outside, Alike, Held, keyed}
+use Rattle.isolation.specs.Copies.{SixteenBytes, SoundCopy, InPlace, Outside, Alike, Held, keyed, places}
 use Rattle.isolation.specs.Statements.{Agreed}
 use Rattle.calls.specs.Literals.{sixteen, none, told, shows}
+use Rattle.calls.specs.Looks.{partBy}
+use Rattle.calls.specs.Written.{telling}
 use Rattle.isolation.specs.Witness.{one, two, weakGiven, weakShown, before, last, lastLook, tries, answersBefore, answers}
-use Rattle.isolation.specs.Witness.{holding, Still, Witnessed, Concluded, rightRead, rightLook, Bites}
+use Rattle.isolation.specs.Witness.{holding, toldPlaces, Still, Witnessed, Concluded, rightRead, rightLook, Bites}
 use Rattle.calls.proofs.StepLaws.{numberBelow, number-below}
 use Rattle.isolation.proofs.RunLaws.{stepBelow, step-below, runBelow, run-below, last-below, someBelow, isKeyed, shut-below}
+use Rattle.isolation.proofs.RunLaws.{lookedBelow, placesBelow, places-below, last-place}
 use Rattle.calls.specs.Numbers.{valid, violated, tests, otherTests}
 use Rattle.calls.proofs.Computing.{computing}
 use Rattle.isolation.proofs.TwoCopies.{two-copies}
@@ -158,6 +162,29 @@ module _ (f : Name → List ℕ → ℕ → List ℕ) where
       })
       step-look
 
+  -- the places that the looks tell
+  places-before : placesBelow f (before f) one ++ [] ≡ telling 9 0 0 ∷ telling 0 4 6 ∷ telling 0 12288 12290 ∷ telling 5 0 0 ∷ []
+  unfolding tests effects computing
+  places-before = refl
+
+  place-look : lookedBelow f (lastLook f) left ≡ telling 0 12288 12290
+  unfolding tests effects computing tabulate
+  place-look =
+      ap (λ (s : Store). lookedBelow f (lastLook f) (record { store = s; memory = left .memory })) records-before
+      ∙ ap (λ (n : ℕ). record { number = n; part = partBy n (lastLook f) (tableAt records) })
+      (number-last (length (left .memory)) .1)
+
+  placed : places f (tries f) one ≡ toldPlaces
+  placed =
+      places-below f (tries f) one sound-one
+      ∙ last-place f (before f ++ (last f ∷ [])) (lastLook f) one
+      ∙ ap (λ (ls : List Looked). ls ++ (lookedBelow f (lastLook f) (runBelow f (before f ++ (last f ∷ [])) one .copy) ∷ []))
+      (last-place f (before f) (last f) one)
+      ∙ ap
+      (λ (r : Ran). (placesBelow f (before f) one ++ []) ++ (lookedBelow f (lastLook f) (r .copy) ∷ []))
+      ended-last
+      ∙ (λ j. places-before j ++ (place-look j ∷ []))
+
   -- no call is keyed, on what the rows below the first make of a copy
   unkeyed-one : someBelow f (isKeyed f 0 2) (tries f) one ≡ false
   unfolding keyed tests effects computing tabulate
@@ -182,6 +209,7 @@ module _ (f : Name → List ℕ → ℕ → List ℕ) where
         shut-one = shut-below f 0 2 (tries f) one sound-one unkeyed-one;
         shut-two = shut-below f 0 2 (tries f) two sound-two unkeyed-two;
         replies = ap (λ (r : Ran). r .replies) ended;
+        places = placed;
         weak = weak;
       }
 
@@ -201,6 +229,7 @@ module _ (f : Name → List ℕ → ℕ → List ℕ) where
   concluded =
       record {
         replies = sym (agreed .replies) ∙ ap (λ (r : Ran). r .replies) ended;
+        places = sym (agreed .places) ∙ placed;
         other-record = agreed .alike .others 26 (λ e. omega arith);
         other-byte = agreed .others 3 2 7 12289 (omega arith) (omega arith) (omega arith) (λ e. omega arith) in-other;
         still-one = still 17 34 7 (run f (tries f) one .copy) (agreed .held-first);

@@ -3,6 +3,8 @@
 --     holding r w b       a copy in which its passwords are sixteen r and sixteen w, and its four bytes b
 --     one, two            two such copies that differ in all of these
 --     rightRead, rightLook    a read and a look with the read primary handle of the copy one
+--     toldPlaces          what the looks among the calls below tell in both copies: the number, and from where to where the
+--                         part goes
 -- For every conversion f:
 --     weakPassword        what the parameter 128 turns the read password of local number 2 of node 3 into
 --     weakGiven           the bytes of the handle with that password, whose subselector 0 is 128
@@ -14,9 +16,9 @@
 --     last, lastLook      a read and a look with the weakened handle
 --     tries, answers      all these calls, and what both copies answer
 --     Witnessed           the copies and the list meet each hypothesis of condition 3, and the answers are computed
---     Concluded           what condition 3 says of them: the other copy gives these answers too; the record and a byte
---                         of the last cluster, record 26, are equal in the end; and each copy has its passwords and
---                         bytes still
+--     Concluded           what condition 3 says of them: the other copy gives these answers and places too; the record
+--                         and a byte of the last cluster, record 26, are equal in the end; and each copy has its
+--                         passwords and bytes still
 --     Bites               the read is done on the copy one and refused with 9 on the other; the look shows the segment's
 --                         bytes on the one, and is refused on the other
 -- Assumes nothing.
@@ -35,7 +37,9 @@ use Rattle.calls.specs.Calls.{writing, weakeningBy, reducing, renewing, validat
 use Rattle.calls.specs.Numbers.{number}
 use Rattle.calls.specs.Steps.{Reply, step, run}
 use Rattle.calls.specs.Literals.{sixteen, handle, primary, none, told, shows}
-use Rattle.isolation.specs.Copies.{SixteenBytes, SoundCopy, setApart, Alike, AllShut}
+use Rattle.calls.specs.declared.Looked.{Looked}
+use Rattle.calls.specs.Written.{telling}
+use Rattle.isolation.specs.Copies.{SixteenBytes, SoundCopy, setApart, Alike, AllShut, places}
 
 abbrev pub holding : ℕ → ℕ → ℕ → Copy
 holding r w b =
@@ -61,6 +65,15 @@ pub record Still (c : Copy) (r w b : ℕ) : Type 0 where
   pub read : clusterAt (c .store) 2 .read ≡ sixteen r
   pub write : clusterAt (c .store) 2 .write ≡ sixteen w
   pub bytes : (p : ℕ) → p < 4 → getD (c .memory) p 0 ≡ b
+
+abbrev pub toldPlaces : List Looked
+toldPlaces =
+    telling 9 0 0
+    ∷ telling 0 4 6
+    ∷ telling 0 12288 12290
+    ∷ telling 5 0 0
+    ∷ telling 0 12288 12290
+    ∷ []
 
 module _ (f : Name → List ℕ → ℕ → List ℕ) where
   abbrev weakPassword : List ℕ
@@ -163,10 +176,12 @@ module _ (f : Name → List ℕ → ℕ → List ℕ) where
     pub shut-one : AllShut 0 2 f tries one
     pub shut-two : AllShut 0 2 f tries two
     pub replies : run f tries one .replies ≡ answers
+    pub places : places f tries one ≡ toldPlaces
     pub weak : SixteenBytes f → weakGiven ≡ weakShown
 
   pub record Concluded : Type 0 where
     pub replies : run f tries two .replies ≡ answers
+    pub places : places f tries two ≡ toldPlaces
     pub other-record : clusterAt (run f tries one .copy .store) 26 ≡ clusterAt (run f tries two .copy .store) 26
     pub other-byte : getD (run f tries one .copy .memory) 12289 0 ≡ getD (run f tries two .copy .memory) 12289 0
     pub still-one : Still (run f tries one .copy) 17 34 7
