@@ -157,6 +157,10 @@ fn call_in_words(call: &Call, data_length: u8, known: &Known) -> String {
         Call::Weaken { mask, .. } => format!("weaken {with} by mask {mask:#04x}"),
         Call::Reduce { mode, .. } => format!("reduce {with} {}", for_mode(mode)),
         Call::NewPassword { mode, .. } => format!("new password {} with {with}", for_mode(mode)),
+        // No list has these two: they have no code.
+        Call::Look { node, segment, .. } => {
+            format!("look at segment {segment} from node {node} with {with}")
+        }
         Call::Validate { mode, .. } => format!("validate {with} {}", for_mode(mode)),
     }
 }
