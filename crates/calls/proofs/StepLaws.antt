@@ -8,6 +8,7 @@ use lib.ListN.{length}
 use Rattle.loops.proofs.BelowLaws.{and-off}
 use Rattle.handle.specs.Handles.{Name, firstOf}
 use Rattle.store.specs.declared.Store.{Store}
+use Rattle.store.specs.Records.{tableAt}
 use Rattle.store.specs.Sound.{sound}
 use Rattle.calls.specs.Calls.{Copy, Call, Arguments, call, deleteCluster, deleteSegment, reduce}
 use Rattle.calls.specs.Calls.{validate}
@@ -15,6 +16,7 @@ use Rattle.calls.specs.Calls.{among, buffer}
 use Rattle.calls.specs.Numbers.{unsound, tests, Line, at}
 use Rattle.calls.specs.Numbers.{rows}
 use Rattle.calls.specs.Numbers.{number}
+use Rattle.calls.specs.Looks.{lookedBy, looked}
 use Rattle.calls.specs.Steps.{plain, clusterDeleted, segmentDeleted, left, given, outcome, step}
 
 module _ (f : Name → List ℕ → ℕ → List ℕ) (x : Call) (c : Copy) where
@@ -56,3 +58,9 @@ module _ (f : Name → List ℕ → ℕ → List ℕ) where
   number-below x s size e =
       ap (λ (t : Bool). cond t 1 (numberBelow x s size))
       (and-off (not (among (7 ∷ []) (x .kind))) (not (sound s size)) (ap not e))
+
+  -- and so is what a look tells
+  pub looked-below : (x : Call) (s : Store) (size : ℕ) → sound s size ≡ true
+      → looked f x s size ≡ lookedBy (numberBelow x s size) x (tableAt s)
+  unfolding looked
+  looked-below x s size e = ap (λ (n : ℕ). lookedBy n x (tableAt s)) (number-below x s size e)

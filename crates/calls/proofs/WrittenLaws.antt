@@ -3,22 +3,16 @@
 -- Assumes nothing.
 use mathlib.Core.Path.{_≡_, refl, ap, _∙_}
 use Prim.Native.Nat.{ℕ}
-use mathlib.Core.Bool.{true}
 use mathlib.Core.List.{List, [], _∷_, map}
 use Rattle.sizes.specs.Sizes.{memory}
-use Rattle.store.specs.declared.Store.{Store}
-use Rattle.store.specs.Records.{tableAt}
-use Rattle.store.specs.Sound.{sound}
-use Rattle.calls.specs.declared.Looked.{Looked}
 use Rattle.calls.specs.Calls.{Call}
 use Rattle.calls.specs.Numbers.{tests}
 use Rattle.calls.specs.Steps.{Reply, outcome, step, effects}
 use Rattle.calls.specs.Cases.{added, sample}
-use Rattle.calls.specs.Looks.{partBy, looked}
 use Rattle.calls.specs.Bounds.{edge}
 use Rattle.calls.specs.Written.{held, Answered, answered, EachAnswered, PartsTold}
 use Rattle.calls.proofs.Computing.{computing}
-use Rattle.calls.proofs.StepLaws.{numberBelow, number-below}
+use Rattle.calls.proofs.StepLaws.{numberBelow, number-below, looked-below}
 use Rattle.calls.proofs.CaseLaws.{sample-sound}
 use Rattle.calls.proofs.BoundLaws.{edge-sound}
 
@@ -43,20 +37,12 @@ each-answered = replies-below answered ∙ told-below
 
 -- ---- the parts
 
-abbrev lookedBy : ℕ → Call → Store → Looked
-lookedBy n x s = record { number = n; part = partBy n x (tableAt s) }
-
-looked-below : (x : Call) (s : Store) → sound s memory ≡ true
-    → looked added x s memory ≡ lookedBy (numberBelow added x s memory) x s
-unfolding looked
-looked-below x s e = ap (λ (n : ℕ). lookedBy n x s) (number-below added x s memory e)
-
 pub parts-told : PartsTold
 unfolding tests computing
 parts-told =
     record {
-      done = looked-below _ sample sample-sound;
-      elsewhere = looked-below _ sample sample-sound;
-      violated = looked-below _ sample sample-sound;
-      last = looked-below _ edge edge-sound;
+      done = looked-below added _ sample memory sample-sound;
+      elsewhere = looked-below added _ sample memory sample-sound;
+      violated = looked-below added _ sample memory sample-sound;
+      last = looked-below added _ edge memory edge-sound;
     }

@@ -1,8 +1,9 @@
 -- Document 02, §2: what a look tells. A refused look shows an empty part, and a second question tells its number.
 --     nowhere             a part of no bytes, from 0 to 0
 --     partBy n x ts       the part that the look x shows where its number is n: that of the segment, nowhere if it is refused
+--     lookedBy n x ts     the number n of the look x, and that part
 -- Over a conversion f:
---     looked f x s size   the number of a look, and that part: the records and the slice's length decide, and no byte of
+--     looked f x s size   the number of a look, and its part: the records and the slice's length decide, and no byte of
 --                         the memory is seen
 --     aesLooked           the same by the product's conversion
 -- Assumes nothing.
@@ -24,8 +25,11 @@ abbrev pub partBy : ℕ → Call → Tables → Part
 partBy zero x ts = partFor x ts
 partBy (suc n) x ts = nowhere
 
+abbrev pub lookedBy : ℕ → Call → Tables → Looked
+lookedBy n x ts = record { number = n; part = partBy n x ts }
+
 unfoldable pub looked : (Name → List ℕ → ℕ → List ℕ) → Call → Store → ℕ → Looked
-looked f x s size = record { number = number f x s size; part = partBy (number f x s size) x (tableAt s) }
+looked f x s size = lookedBy (number f x s size) x (tableAt s)
 
 abbrev pub aesLooked : Call → Store → ℕ → Looked
 aesLooked = looked product

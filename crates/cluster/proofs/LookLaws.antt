@@ -18,7 +18,7 @@ use Rattle.calls.specs.declared.Part.{Part}
 use Rattle.calls.specs.declared.Looked.{Looked}
 use Rattle.calls.specs.Calls.{Call, looking}
 use Rattle.calls.specs.Numbers.{number}
-use Rattle.calls.specs.Looks.{partBy, looked, aesLooked}
+use Rattle.calls.specs.Looks.{partBy, lookedBy, looked, aesLooked}
 use Rattle.calls.specs.Answers.{hiddenWith}
 use Rattle.refusals.specs.Rows.{sharedRows, after}
 use Rattle.refusals.specs.Given.{Given}
@@ -48,7 +48,7 @@ module _ (s : Store) (m b : List ℕ) (current i n : ℕ) where
 
   -- what a look tells whose number is t
   abbrev tells : ℕ → Looked
-  tells t = record { number = t; part = partBy t x (tableAt s) }
+  tells t = lookedBy t x (tableAt s)
 
   -- the place that was looked up, the node as the code has it, and the number told of them
   module _ (p : Place) (ep : p ≡ placeOf (tableOf e) i) (v : ℕ) (ev : v ≡ nodeOf k)

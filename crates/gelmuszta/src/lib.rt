@@ -1,7 +1,8 @@
 // The guard for callers in C or Rust: the calls of document 01, and the look of document 02, over bytes alone. The store is
 // its image of 2,080 bytes, the memory a lent slice; a handle is 23 bytes, a password sixteen. Each function returns the
 // number of the table, and gives zero handles, counts, lengths and places with a refusal. An image that holds no store is
-// refused with 1. A call judges soundness on the image's bytes, reads the record of its cluster, has the core (`cluster`) do the call on it, and writes it back.
+// refused with 1. A call judges soundness on the image's bytes, reads the record of its cluster, has the core (`cluster`) do
+// the call on it, and writes it back.
 use calls::RecordLeft;
 use handle::Handle;
 use handle::HandleBytes;

@@ -20,7 +20,7 @@ use Rattle.store.specs.Sound.{sound}
 use Rattle.calls.specs.Calls.{Copy, Call, call, Arguments, Kind, newCluster, deleteCluster, newSegment, deleteSegment}
 use Rattle.calls.specs.Calls.{read, write, weaken, reduce, newPassword, validate, look, opens, needed}
 use Rattle.calls.specs.Calls.{handleOf, presented, anyOf, recordFor, recordNamed}
-use Rattle.calls.specs.Looks.{partBy, looked}
+use Rattle.calls.specs.Looks.{lookedBy, looked}
 use Rattle.calls.specs.Numbers.{unsound, noPlace, badField, gappedHandle, inUse, inactiveCluster, valid, violated}
 use Rattle.calls.specs.Numbers.{isOld, oldPassword, segmentPresent, segmentAbsent, short, fullNode}
 use Rattle.calls.specs.Numbers.{byTables, byRecords, rows, number}
@@ -172,7 +172,4 @@ module _ (node local : ℕ) (low : local < clusters) (f : Name → List ℕ → 
       → looked f x (a .store) (length (a .memory)) ≡ looked f x (b .store) (length (b .memory))
   unfolding looked
   same-looked x sa sb ha hb =
-      λ j. record {
-        number = same-number x sa sb ha hb j;
-        part = partBy (same-number x sa sb ha hb j) x (alike-tables node local a b al j);
-      }
+      λ j. lookedBy (same-number x sa sb ha hb j) x (alike-tables node local a b al j)

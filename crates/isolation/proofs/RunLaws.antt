@@ -12,10 +12,10 @@ use Rattle.store.specs.Records.{tableAt, readMode, writeMode}
 use Rattle.calls.specs.declared.Looked.{Looked}
 use Rattle.calls.specs.Calls.{Copy, Call, isLook}
 use Rattle.calls.specs.Steps.{Outcome, Ran, followed, outcome, step, run}
-use Rattle.calls.specs.Looks.{partBy, looked}
+use Rattle.calls.specs.Looks.{lookedBy, looked}
 use Rattle.isolation.specs.Copies.{SoundCopy, keyed, AllShut, NoWriter, also, places}
 use Rattle.calls.proofs.CallLaws.{or-left, or-right}
-use Rattle.calls.proofs.StepLaws.{numberBelow, number-below}
+use Rattle.calls.proofs.StepLaws.{numberBelow, number-below, looked-below}
 use Rattle.isolation.proofs.KeptLaws.{step-sound}
 
 module _ (f : Name → List ℕ → ℕ → List ℕ) where
@@ -48,21 +48,11 @@ module _ (f : Name → List ℕ → ℕ → List ℕ) where
 
   -- the places that the looks of a list tell
   abbrev pub lookedBelow : Call → Copy → Looked
-  lookedBelow x c =
-      record {
-        number = numberBelow f x (c .store) (length (c .memory));
-        part = partBy (numberBelow f x (c .store) (length (c .memory))) x (tableAt (c .store));
-      }
+  lookedBelow x c = lookedBy (numberBelow f x (c .store) (length (c .memory))) x (tableAt (c .store))
 
   abbrev pub placesBelow : List Call → Copy → List Looked
   placesBelow [] c = []
   placesBelow (x ∷ xs) c = also (isLook (x .kind)) (lookedBelow x c) (placesBelow xs (stepBelow x c .copy))
-
-  looked-below : (x : Call) (c : Copy) → SoundCopy c → looked f x (c .store) (length (c .memory)) ≡ lookedBelow x c
-  unfolding looked
-  looked-below x c k =
-      ap (λ (n : ℕ). record { number = n; part = partBy n x (tableAt (c .store)) })
-      (number-below f x (c .store) (length (c .memory)) k)
 
   pub places-below : (xs : List Call) (c : Copy) → SoundCopy c → places f xs c ≡ placesBelow xs c
   places-below [] c k = refl
@@ -71,7 +61,8 @@ module _ (f : Name → List ℕ → ℕ → List ℕ) where
       (places-below xs (step f x c .copy) (step-sound f x c k))
       ∙ ap (λ (o : Outcome). also (isLook (x .kind)) (looked f x (c .store) (length (c .memory))) (placesBelow xs (o .copy)))
       (step-below x c k)
-      ∙ ap (λ (l : Looked). also (isLook (x .kind)) l (placesBelow xs (stepBelow x c .copy))) (looked-below x c k)
+      ∙ ap (λ (l : Looked). also (isLook (x .kind)) l (placesBelow xs (stepBelow x c .copy)))
+      (looked-below f x (c .store) (length (c .memory)) k)
 
   also-append : (t : Bool) (l : Looked) (ls ms : List Looked) → also t l (ls ++ ms) ≡ also t l ls ++ ms
   also-append true l ls ms = refl

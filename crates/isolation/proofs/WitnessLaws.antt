@@ -30,7 +30,7 @@ use Rattle.calls.specs.Steps.{Ran, Outcome, effects, outcome, run}
 use Rattle.isolation.specs.Copies.{SixteenBytes, SoundCopy, InPlace, Outside, Alike, Held, keyed, places}
 use Rattle.isolation.specs.Statements.{Agreed}
 use Rattle.calls.specs.Literals.{sixteen, none, told, shows}
-use Rattle.calls.specs.Looks.{partBy}
+use Rattle.calls.specs.Looks.{lookedBy}
 use Rattle.calls.specs.Written.{telling}
 use Rattle.isolation.specs.Witness.{one, two, weakGiven, weakShown, before, last, lastLook, tries, answersBefore, answers}
 use Rattle.isolation.specs.Witness.{holding, toldPlaces, Still, Witnessed, Concluded, rightRead, rightLook, Bites}
@@ -171,7 +171,7 @@ module _ (f : Name → List ℕ → ℕ → List ℕ) where
   unfolding tests effects computing tabulate
   place-look =
       ap (λ (s : Store). lookedBelow f (lastLook f) (record { store = s; memory = left .memory })) records-before
-      ∙ ap (λ (n : ℕ). record { number = n; part = partBy n (lastLook f) (tableAt records) })
+      ∙ ap (λ (n : ℕ). lookedBy n (lastLook f) (tableAt records))
       (number-last (length (left .memory)) .1)
 
   placed : places f (tries f) one ≡ toldPlaces
