@@ -17,7 +17,7 @@ use Rattle.store.specs.declared.Segment.{Segment}
 use Rattle.store.specs.declared.Cluster.{Cluster}
 use Rattle.store.specs.declared.Store.{Store}
 use Rattle.sizes.specs.Sizes.{nodes, clusters, segments, records}
-use Rattle.store.specs.Records.{absentSegment, inactive, started}
+use Rattle.store.specs.Records.{segmentAt, absentSegment, inactive, started}
 use Rattle.store.specs.Records.{Table, Tables, tableOf, recordOf, noCluster, clusterAt, tableAt}
 use Rattle.store.specs.Records.{segmentOf, placeOf, placeOn}
 use Rattle.store.specs.Records.{putRecord, withPlace}
@@ -180,7 +180,7 @@ module _ (s : Store) (size : ℕ) (e : sound s size ≡ true) (node local : ℕ)
     c = clusterAt s (recordOf node local)
 
     -- segment i replaced by one that lies inside and is apart from all segments of the node
-    one : (p : Place) → soundSegment (record { place = p }) ≡ true
+    one : (p : Place) → soundSegment (segmentAt p) ≡ true
         → ((m j : ℕ) → m < clusters → j < segments → apart p (placeOn (tableAt s) node m j) ≡ true)
         → sound (putRecord s (recordOf node local) (withPlace c i p)) size ≡ true
     one p t f =
@@ -188,7 +188,7 @@ module _ (s : Store) (size : ℕ) (e : sound s size ≡ true) (node local : ℕ)
         (λ k h. fate k (ℕ-discrete k i) (decLt i (length (c .segments))))
       where
         g : Segment
-        g = record { place = p }
+        g = segmentAt p
 
         fate : (k : ℕ) → Dec (k ≡ i) → Dec (i < length (c .segments))
             → Fate s node (recordOf node local) i k (segmentOf (tableOf (withPlace c i p)) k)

@@ -14,15 +14,16 @@ use Rattle.loops.proofs.BelowLaws.{and-left, and-right, and-both, tests-equal}
 use Rattle.loops.proofs.BelowLaws.{every-in, every-at, every-pair-in, every-pair-at}
 use Rattle.loops.proofs.RunningLaws.{Running, running-all}
 use Rattle.store.specs.declared.Place.{Place}
+use Rattle.store.specs.declared.Segment.{Segment}
 use Rattle.store.specs.declared.Store.{Store}
 use Rattle.sizes.specs.Sizes.{nodes, clusters, segments, memory}
-use Rattle.store.specs.Records.{recordOf, clusterAt, tableAt, placeAt, placeOn}
+use Rattle.store.specs.Records.{recordOf, clusterAt, tableAt, segmentOf, segmentOn, placeOn}
 use Rattle.store.specs.Sound.{inside, soundSegment, apart, settled, sound}
 use Rattle.store.specs.inner.Passes.{free, claimable, claims, nodeMap, clusterSound}
 use Rattle.store.proofs.PlaceLaws.{apart-sym}
 use Rattle.store.proofs.MapLaws.{mapAt, Before, beside, above, unmarked-out, unmarked-in}
 use Rattle.store.proofs.MapLaws.{free-apart, free-in, apart-leaves}
-use Rattle.store.proofs.SoundLaws.{Sound, sound-out, sound-in}
+use Rattle.store.proofs.SoundLaws.{Sound, segment-inside, sound-out, sound-in}
 
 -- what the code works out
 abbrev tested : Store → ℕ → Bool
@@ -31,6 +32,9 @@ tested s size = eqb size memory && every nodes (λ node. every clusters (cluster
 module _ (s : Store) (size : ℕ) where
   abbrev place : ℕ → ℕ → ℕ → Place
   place node l i = placeOn (tableAt s) node l i
+
+  abbrev segment : ℕ → ℕ → ℕ → Segment
+  segment node l i = segmentOn (tableAt s) node l i
 
   -- ---- from the code's test to the facts
 
@@ -41,19 +45,22 @@ module _ (s : Store) (size : ℕ) where
         (and-right (eqb size memory) (every nodes (λ node. every clusters (clusterSound s node))) e)
 
     module _ (node l i : ℕ) (hv : node < nodes) (hl : l < clusters) (hi : i < segments) where
-      claimed : (inside (place node l i) && free (place node l i) (mapAt (tableAt s) node l i)) ≡ true
+      claimed : (soundSegment (segment node l i) && free (place node l i) (mapAt (tableAt s) node l i)) ≡ true
       unfolding clusterSound claims claimable mapAt
       claimed =
-          every-at segments (λ i. claimable (place node l i) (mapAt (tableAt s) node l i))
+          every-at segments (λ i. claimable (segment node l i) (mapAt (tableAt s) node l i))
           (and-right (settled (clusterAt s (recordOf node l)))
-          (claims segments (placeOn (tableAt s) node l) (nodeMap (tableAt s) node l))
+          (claims segments (segmentOn (tableAt s) node l) (nodeMap (tableAt s) node l))
           (cluster node l hv hl)) i hi
 
+      claimed-sound : soundSegment (segment node l i) ≡ true
+      claimed-sound = and-left (soundSegment (segment node l i)) (free (place node l i) (mapAt (tableAt s) node l i)) claimed
+
       claimed-inside : inside (place node l i) ≡ true
-      claimed-inside = and-left (inside (place node l i)) (free (place node l i) (mapAt (tableAt s) node l i)) claimed
+      claimed-inside = segment-inside (segment node l i) claimed-sound
 
       claimed-free : free (place node l i) (mapAt (tableAt s) node l i) ≡ true
-      claimed-free = and-right (inside (place node l i)) (free (place node l i) (mapAt (tableAt s) node l i)) claimed
+      claimed-free = and-right (soundSegment (segment node l i)) (free (place node l i) (mapAt (tableAt s) node l i)) claimed
 
     apart-before : (node l i m j : ℕ) → node < nodes → l < clusters → i < segments → m < clusters → j < segments
         → Before l i m j → apart (place node l i) (place node m j) ≡ true
@@ -87,13 +94,13 @@ module _ (s : Store) (size : ℕ) where
     split n = omega arith
 
     tested-sound : Sound s size
-    unfolding soundSegment clusterSound
+    unfolding clusterSound
     tested-sound =
         record {
           whole = eqb-true size memory (and-left (eqb size memory) _ e);
           ranged = λ n i hn hi.
-              subst (λ (k : ℕ). inside (placeAt (tableAt s) k i) ≡ true) (split n)
-              (claimed-inside (n / clusters) (n % clusters) i (omega arith) (omega arith) hi);
+              subst (λ (k : ℕ). soundSegment (segmentOf (tableAt s k) i) ≡ true) (split n)
+              (claimed-sound (n / clusters) (n % clusters) i (omega arith) (omega arith) hi);
           apartness = λ node l i m j hv hl hi hm hj d. either node l i m j hv hl hi hm hj (ordered l i m j hi hj d);
           settling = λ n hn.
               subst (λ (k : ℕ). settled (clusterAt s k) ≡ true) (split n)
@@ -110,9 +117,8 @@ module _ (s : Store) (size : ℕ) where
   -- ---- from the facts to the code's test
 
   module _ (r : Sound s size) where
-    sound-inside : (node l i : ℕ) → node < nodes → l < clusters → i < segments → inside (place node l i) ≡ true
-    unfolding soundSegment
-    sound-inside node l i hv hl hi = r .ranged (recordOf node l) i (omega arith) hi
+    sound-segment : (node l i : ℕ) → node < nodes → l < clusters → i < segments → soundSegment (segment node l i) ≡ true
+    sound-segment node l i hv hl hi = r .ranged (recordOf node l) i (omega arith) hi
 
     sound-free : (node l i : ℕ) → node < nodes → l < clusters → i < segments
         → free (place node l i) (mapAt (tableAt s) node l i) ≡ true
@@ -132,8 +138,8 @@ module _ (s : Store) (size : ℕ) where
         and-both (eqb size memory) _ (eq-eqb size memory (r .whole))
         (every-pair-in nodes clusters (clusterSound s) (λ node l hv hl.
         and-both (settled (clusterAt s (recordOf node l))) _ (r .settling (recordOf node l) (omega arith))
-        (every-in segments (λ i. claimable (place node l i) (mapAt (tableAt s) node l i)) (λ i hi.
-        and-both (inside (place node l i)) _ (sound-inside node l i hv hl hi) (sound-free node l i hv hl hi)))))
+        (every-in segments (λ i. claimable (segment node l i) (mapAt (tableAt s) node l i)) (λ i hi.
+        and-both (soundSegment (segment node l i)) _ (sound-segment node l i hv hl hi) (sound-free node l i hv hl hi)))))
 
   tested-is : tested s size ≡ sound s size
   tested-is =

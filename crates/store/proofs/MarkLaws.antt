@@ -2,7 +2,7 @@
 -- refused; any other place has its own bytes marked, and is told free exactly if none of them was. Segments, and the
 -- clusters of a node, then have their turns one after the other.
 -- Assumes nothing.
-use mathlib.Core.Path.{_≡_, refl, sym, ap, _∙_, subst}
+use mathlib.Core.Path.{_≡_, refl, sym, ap, ap₂, _∙_, subst}
 use mathlib.Core.Logic.{inl, inr}
 use mathlib.Core.Bool.{Bool, true, false, not, _&&_, _||_}
 use mathlib.Core.List.{List}
@@ -19,21 +19,23 @@ use Rattle.spans.specs.Spans.{wordBits, marks, within, Stamped, Marked}
 use Rattle.spans.proofs.SpanLaws.{marks-none}
 use Rattle.store.specs.declared.Place.{Place}
 use Rattle.store.specs.declared.Place.the-variants.{Absent, Present}
+use Rattle.store.specs.declared.Segment.{Segment}
 use Rattle.store.specs.declared.Cluster.{Cluster}
 use Rattle.store.specs.declared.Store.{Store}
 use Rattle.sizes.specs.Sizes.{clusters, segments}
-use Rattle.store.specs.Records.{tableOf, recordOf, clusterAt, tableAt, placeOf, placeOn}
-use Rattle.store.specs.Sound.{inside, inRanges, endsInside, settled}
+use Rattle.store.specs.Records.{tableOf, recordOf, clusterAt, tableAt, segmentOf, segmentOn, placeOf, placeOn}
+use Rattle.store.specs.Sound.{inside, inRanges, endsInside, soundSegment, settled}
 use Rattle.store.specs.inner.Passes.{Map, mapWords, holds, free, stamped, claimable, stampedBy, claims}
 use Rattle.store.specs.inner.Passes.{Claimed, ClaimedAll, blank, nodeMap, clusterSound}
 use Rattle.store.proofs.PlaceLaws.{inside-in, inside-out, holds-in, holds-out}
 use Rattle.store.proofs.MapLaws.{free-in, free-out}
+use Rattle.store.proofs.SoundLaws.{segment-present}
 
 -- ---- one place
 
-pub claim-absent : (p : Place) (map : Map) → p ≡ Absent → Claimed p map true map
-unfolding claimable stamped inside inRanges endsInside free
-claim-absent p map e = rw e (record { told = refl; left = refl })
+pub claim-absent : (g : Segment) (map : Map) → g .place ≡ Absent → Claimed g map true map
+unfolding claimable soundSegment stamped inside inRanges endsInside free
+claim-absent g map e = rw e (record { told = refl; left = refl })
 
 module _ (base size : ℕ) (ws : List ℕ) (r : Bool) (after : List ℕ) where
   abbrev here : Place
@@ -66,36 +68,40 @@ module _ (base size : ℕ) (ws : List ℕ) (r : Bool) (after : List ℕ) where
     marked x true p false q = s .kept x (inr (ltb-false x (base + size) q))
     marked x false p u q = s .kept x (inl (leb-false base x p))
 
-  pub claim-mark : (p : Place) → p ≡ Present base size → length ws ≡ mapWords → Marked base (base + size) ws r after
-      → Claimed p (marks ws) r (marks after)
+  pub claim-mark : (g : Segment) → g .place ≡ Present base size → length ws ≡ mapWords → Marked base (base + size) ws r after
+      → Claimed g (marks ws) r (marks after)
   unfolding claimable stamped
-  claim-mark p e long m = rw e (go (inside here) refl)
+  claim-mark g e long m =
+      let c = go (inside here) refl in
+      record {
+        told = c .0 ∙ ap₂ (λ (t : Bool) (p : Place). t && free p (marks ws)) (sym (segment-present g base size e)) (sym e);
+        left = c .1 ∙ ap (λ (p : Place). stamped p (marks ws)) (sym e);
+      }
     where
       tested : within base (base + size) (length ws) ≡ inside here
       tested = ap (within base (base + size)) long ∙ within-inside
 
-      go : (t : Bool) → inside here ≡ t → Claimed here (marks ws) r (marks after)
+      go : (t : Bool) → inside here ≡ t
+          → (r ≡ inside here && free here (marks ws)) × (marks after ≡ stamped here (marks ws))
       go true on =
-          let s = m .inside (tested ∙ on) in
-          record {
-            told = told-free s ∙ ap (λ (t : Bool). t && free here (marks ws)) (sym on);
-            left = λ j x.
+          let s = m .inside (tested ∙ on) in (
+            told-free s ∙ ap (λ (t : Bool). t && free here (marks ws)) (sym on),
+            λ j x.
                 (marked s x (leb base x) refl (ltb x (base + size)) refl
-                ∙ ap (λ (t : Bool). t && holds x here || marks ws x) (sym on)) j;
-          }
+                ∙ ap (λ (t : Bool). t && holds x here || marks ws x) (sym on)) j,
+          )
       go false off =
-          let o = m .outside (tested ∙ off) in
-          record {
-            told = o .0 ∙ ap (λ (t : Bool). t && free here (marks ws)) (sym off);
-            left = λ j x.
-                (ap (λ (l : List ℕ). marks l x) (o .1) ∙ ap (λ (t : Bool). t && holds x here || marks ws x) (sym off)) j;
-          }
+          let o = m .outside (tested ∙ off) in (
+            o .0 ∙ ap (λ (t : Bool). t && free here (marks ws)) (sym off),
+            λ j x.
+                (ap (λ (l : List ℕ). marks l x) (o .1) ∙ ap (λ (t : Bool). t && holds x here || marks ws x) (sym off)) j,
+          )
 
 -- ---- the segments of a cluster
 
 -- the places of i segments had their turn: `ok` tells whether each was claimable then
 pub record Claiming (c : Cluster) (before : Map) (i : ℕ) (ok : Bool) (map : Map) : Type 0 where
-  pub told : Running segments (λ k. claimable (placeOf (tableOf c) k) (stampedBy k (placeOf (tableOf c)) before)) i ok
+  pub told : Running segments (λ k. claimable (segmentOf (tableOf c) k) (stampedBy k (placeOf (tableOf c)) before)) i ok
   pub left : Turning segments (λ k. stamped (placeOf (tableOf c) k)) before i map
 
 pub claiming-none : (c : Cluster) (before : Map) → Claiming c before 0 true before
@@ -103,14 +109,14 @@ claiming-none c before = record { told = running-none _ _; left = turning-none _
 
 module _ (c : Cluster) (before : Map) (i : ℕ) (ok : Bool) (map : Map) (w : Claiming c before i ok map) where
   pub claiming-more : (r : Bool) (after : Map) → i < segments
-      → Claimed (placeOf (tableOf c) i) map r after
+      → Claimed (segmentOf (tableOf c) i) map r after
       → Claiming c before (i + 1) (r && ok) after
   unfolding stampedBy
   claiming-more r after h e =
       record {
         told =
             running-more _ _ i ok (w .told) r h
-            (e .told ∙ ap (λ (m : Map). claimable (placeOf (tableOf c) i) m) (w .left .told));
+            (e .told ∙ ap (λ (m : Map). claimable (segmentOf (tableOf c) i) m) (w .left .told));
         left = turning-more _ _ before i map (w .left) after h (e .left);
       }
 
@@ -143,7 +149,7 @@ module _ (s : Store) (node l : ℕ) (ok : Bool) (map : Map) (w : Passing s node 
             running-more _ _ l ok (w .told) (a && b) h
             (ap (λ (x : Bool). x && b) e
             ∙ ap (λ (x : Bool). settled (clusterAt s (recordOf node l)) && x)
-            (f .told ∙ ap (λ (m : Map). claims segments (placeOn (tableAt s) node l) m) (w .left .told)));
+            (f .told ∙ ap (λ (m : Map). claims segments (segmentOn (tableAt s) node l) m) (w .left .told)));
         left = turning-more _ _ blank l map (w .left) after h (f .left);
       }
 

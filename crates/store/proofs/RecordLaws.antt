@@ -12,7 +12,7 @@ use Rattle.store.specs.declared.Place.{Place}
 use Rattle.store.specs.declared.Place.the-variants.{Absent}
 use Rattle.store.specs.declared.Segment.{Segment}
 use Rattle.store.specs.declared.Cluster.{Cluster}
-use Rattle.store.specs.Records.{absentSegment, tableOf, placeOf, withPlace, recordAt, readMode, primaryOf}
+use Rattle.store.specs.Records.{segmentAt, absentSegment, tableOf, placeOf, withPlace, recordAt, readMode, primaryOf}
 use Rattle.store.specs.declared.Store.{Store}
 use Rattle.store.specs.Records.{noCluster, clusterAt, putRecord, withPassword}
 
@@ -39,7 +39,7 @@ module _ (c : Cluster) (i : ℕ) (e : length (c .segments) ≡ segments) (h : se
 
   pub with-beyond : (p : Place) → c ≡ withPlace c i p
   with-beyond p = ap (λ (l : List Segment). record { active = c .active; read = c .read; write = c .write; segments = l })
-      (sym (set-out (c .segments) i (record { place = p }) (rw e h)))
+      (sym (set-out (c .segments) i (segmentAt p) (rw e h)))
 
 -- ---- the primary password of a mode
 

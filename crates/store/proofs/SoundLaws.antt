@@ -12,6 +12,7 @@ use lib.ListN.{getD-replicate}
 use borrow.Author.Tests.{eqb-true, eq-eqb}
 use Rattle.loops.specs.Below.{every}
 use Rattle.loops.proofs.BelowLaws.{and-left, and-right, and-both, every-in, every-at, every-pair-in, every-pair-at}
+use Rattle.store.specs.declared.Place.the-variants.{Present}
 use Rattle.store.specs.declared.Segment.{Segment}
 use Rattle.store.specs.declared.Cluster.{Cluster}
 use Rattle.store.specs.declared.Store.{Store}
@@ -28,6 +29,17 @@ pub record Sound (s : Store) (size : ℕ) : Type 0 where
   pub apartness : (node l i m j : ℕ) → node < nodes → l < clusters → i < segments → m < clusters → j < segments
       → (l ≢ m) ⊎ (i ≢ j) → apart (placeOn (tableAt s) node l i) (placeOn (tableAt s) node m j) ≡ true
   pub settling : (n : ℕ) → n < records → settled (clusterAt s n) ≡ true
+
+-- a segment that is sound by itself lies inside its node's memory
+pub segment-inside : (g : Segment) → soundSegment g ≡ true → inside (g .place) ≡ true
+unfolding soundSegment
+segment-inside g e = e
+
+-- of a present segment that is all
+pub segment-present : (g : Segment) (base length : ℕ) → g .place ≡ Present base length
+    → soundSegment g ≡ inside (Present base length)
+unfolding soundSegment
+segment-present g base length e = ap inside e
 
 pub settled-active : (c : Cluster) → c .active ≡ true → settled c ≡ true
 unfolding settled

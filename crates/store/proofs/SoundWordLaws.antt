@@ -18,14 +18,14 @@ use Rattle.store.specs.declared.Place.the-variants.{Absent, Present}
 use Rattle.store.specs.declared.Cluster.{Cluster}
 use Rattle.store.specs.declared.Store.{Store}
 use Rattle.sizes.specs.Sizes.{segments, passwordBytes}
-use Rattle.store.specs.Records.{tableOf, clusterAt, tableAt, placeOf, placeAt, placeOn}
+use Rattle.store.specs.Records.{tableOf, clusterAt, tableAt, segmentOf, placeOf, placeAt, placeOn}
 use Rattle.store.specs.Sound.{inRanges, endsInside, inside, soundSegment, apart, isAbsent, zeroBytes, idle, settled}
 use Rattle.store.specs.Sound.{sound}
 use Rattle.store.specs.SoundWords.{ByteOf, ZeroPassword, SoundInWords}
 use Rattle.store.proofs.PlaceLaws.{Inside, inside-out, inside-in, holds-in, holds-out, Shared}
 use Rattle.store.specs.inner.Passes.{holds}
 use Rattle.store.proofs.PlaceLaws.{apart-shares-none, not-apart-shares}
-use Rattle.store.proofs.SoundLaws.{Sound, sound-out, sound-in}
+use Rattle.store.proofs.SoundLaws.{Sound, segment-inside, sound-out, sound-in}
 
 -- ---- places
 
@@ -114,7 +114,6 @@ module _ (c : Cluster) where
 
 module _ (s : Store) (size : ℕ) where
   words-of : Sound s size → SoundInWords s size
-  unfolding soundSegment
   words-of r =
       record {
         slice = r .whole;
@@ -130,7 +129,8 @@ module _ (s : Store) (size : ℕ) where
     where
       bounds : (n i base length : ℕ) → n < 32 → i < 8 → placeAt (tableAt s) n i ≡ Present base length
           → Inside base length
-      bounds n i base length hn hi e = inside-out base length (ap inside (sym e) ∙ r .ranged n i hn hi)
+      bounds n i base length hn hi e =
+          inside-out base length (ap inside (sym e) ∙ segment-inside (segmentOf (tableAt s n) i) (r .ranged n i hn hi))
 
   pub inside-words : SoundInWords s size → (n i : ℕ) → n < 32 → i < 8 → inside (placeAt (tableAt s) n i) ≡ true
   inside-words w n i hn hi =

@@ -1,4 +1,5 @@
 -- Document 01, "The store": the nodes, the clusters' records and how a segment is found in them.
+--     segmentAt                    a segment at a place
 --     absentSegment, inactive      an absent segment, and a cluster's record as in the starting store
 --     startingStore                all clusters inactive
 --     started                      the record of a new cluster with these passwords
@@ -7,6 +8,7 @@
 --     noCluster                    what a read past the last record gives: inactive, with no bytes and no segments
 --     clusterAt, tableAt           record n of the store, and its table
 --     segmentOf, placeOf           segment i of a table, and its place
+--     segmentOn                    segment i of a node's cluster
 --     placeAt, placeOn             the place of segment i of record n, and of a node's cluster
 --     putRecord                    the store with record n replaced
 --     withSegment, withPlace       the record with segment i, or its place, replaced
@@ -31,8 +33,11 @@ use Rattle.store.specs.declared.Store.{Store}
 
 -- ---- the starting store
 
+abbrev pub segmentAt : Place → Segment
+segmentAt p = record { place = p }
+
 abbrev pub absentSegment : Segment
-absentSegment = record { place = Absent }
+absentSegment = segmentAt Absent
 
 abbrev pub inactive : Cluster
 inactive =
@@ -80,6 +85,9 @@ segmentOf t i = getD (t .segments) i absentSegment
 abbrev pub placeOf : Table → ℕ → Place
 placeOf t i = segmentOf t i .place
 
+abbrev pub segmentOn : Tables → ℕ → ℕ → ℕ → Segment
+segmentOn ts node local i = segmentOf (ts (recordOf node local)) i
+
 abbrev pub placeAt : Tables → ℕ → ℕ → Place
 placeAt ts n i = placeOf (ts n) i
 
@@ -120,7 +128,7 @@ abbrev pub withSegment : Cluster → ℕ → Segment → Cluster
 withSegment c i g = record { active = c .active; read = c .read; write = c .write; segments = set (c .segments) i g }
 
 abbrev pub withPlace : Cluster → ℕ → Place → Cluster
-withPlace c i p = withSegment c i (record { place = p })
+withPlace c i p = withSegment c i (segmentAt p)
 
 abbrev pub withPassword : Cluster → ℕ → List ℕ → Cluster
 withPassword c mode p =

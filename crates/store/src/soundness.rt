@@ -10,6 +10,7 @@ ghost use Rattle.store.specs.Sound as sound-spec;
 ghost use Rattle.store.specs.inner.Passes as passes;
 use crate::Cluster;
 use crate::Place;
+use crate::Segment;
 use crate::Store;
 use crate::absent;
 use sizes::CLUSTERS;
@@ -22,13 +23,14 @@ use sizes::SEGMENTS;
 // Words of the map of a node: a bit for each byte of its memory.
 pub const MAP_WORDS: usize = 64;
 
-// Marks the bytes of a place in its node's map: false if it is out of range or shares a byte with one marked before. What
+// Marks the bytes of a segment in its node's map: false if it is out of range or shares a byte with one marked before. What
 // does not lie inside the map does not lie inside the node's memory. The end is worked out in usize, where the sum of two
 // u16 does not wrap.
-fn claim(place: Place, map: &mut [u64]) -> bool
+fn claim(segment: Segment, map: &mut [u64]) -> bool
     requires { ⌜ length (now map) ≡ passes.mapWords ⌝ }
-    ensures { λ r. ⌜ passes.Claimed place (marks (now (map .entry))) r (marks (now (map .exit))) ⌝ }
+    ensures { λ r. ⌜ passes.Claimed segment (marks (now (map .entry))) r (marks (now (map .exit))) ⌝ }
 {
+    let place = segment.place;
     match place {
         Place::Absent => true,
         Place::Present { base, length } => {
@@ -49,8 +51,7 @@ fn claim_all(cluster: Cluster, map: &mut [u64]) -> bool
     let mut i: usize = 0;
     while i < SEGMENTS {
         let segment = cluster.segments[i];
-        let place = segment.place;
-        ok = claim(place, map) & ok;
+        ok = claim(segment, map) & ok;
         i += 1;
     }
     ok

@@ -3,11 +3,11 @@
 --     mapWords                  the words of a map in the code, a bit for each byte
 --     holds x p                 byte x is one of the place's
 --     free p map                no byte of the place is marked in the map
---     claimable p map           the place lies inside the node's memory and is free
+--     claimable g map           the segment is sound by itself, and its place is free
 --     stamped p map             the map after the place's turn: its bytes are marked too, if the place lies inside
 --     stampedBy n ps map        the map after n places
---     claims n ps map           each of n places was claimable when its turn came
---     Claimed, ClaimedAll       what is told of a place, and of a cluster's segments, and how the map is left
+--     claims n gs map           each of n segments was claimable when its turn came
+--     Claimed, ClaimedAll       what is told of a segment, and of a cluster's segments, and how the map is left
 --     blank, nodeMap            a node's map with no byte marked, and after the segments of l clusters
 --     clusterSound s node l     cluster l of a node is settled, and its segments were claimable
 --     endOf p                   where the bytes of a present place end
@@ -23,12 +23,13 @@ use Rattle.loops.specs.Below.{every}
 use Rattle.loops.specs.Turns.{turns}
 use Rattle.store.specs.declared.Place.{Place}
 use Rattle.store.specs.declared.Place.the-variants.{Absent, Present}
+use Rattle.store.specs.declared.Segment.{Segment}
 use Rattle.store.specs.declared.Cluster.{Cluster}
 use Rattle.store.specs.declared.Store.{Store}
 use Rattle.sizes.specs.Sizes.{clusters, segments}
 use Rattle.store.specs.Records.{Tables, tableOf, recordOf, clusterAt, tableAt}
-use Rattle.store.specs.Records.{placeOf, placeOn}
-use Rattle.store.specs.Sound.{inside, apart, settled}
+use Rattle.store.specs.Records.{segmentOf, segmentOn, placeOf, placeOn}
+use Rattle.store.specs.Sound.{inside, soundSegment, apart, settled}
 
 -- ---- marking bytes
 
@@ -46,8 +47,8 @@ unfoldable pub free : Place → Map → Bool
 free Absent map = true
 free (Present base length) map = every length (λ i. not (map (base + i)))
 
-unfoldable pub claimable : Place → Map → Bool
-claimable p map = inside p && free p map
+unfoldable pub claimable : Segment → Map → Bool
+claimable g map = soundSegment g && free (g .place) map
 
 unfoldable pub stamped : Place → Map → Map
 stamped p map x = inside p && holds x p || map x
@@ -55,15 +56,15 @@ stamped p map x = inside p && holds x p || map x
 unfoldable pub stampedBy : ℕ → (ℕ → Place) → Map → Map
 stampedBy n ps map = turns n (λ i. stamped (ps i)) map
 
-unfoldable pub claims : ℕ → (ℕ → Place) → Map → Bool
-claims n ps map = every n (λ i. claimable (ps i) (stampedBy i ps map))
+unfoldable pub claims : ℕ → (ℕ → Segment) → Map → Bool
+claims n gs map = every n (λ i. claimable (gs i) (stampedBy i (λ k. gs k .place) map))
 
-pub record Claimed (p : Place) (before : Map) (r : Bool) (after : Map) : Type 0 where
-  pub told : r ≡ claimable p before
-  pub left : after ≡ stamped p before
+pub record Claimed (g : Segment) (before : Map) (r : Bool) (after : Map) : Type 0 where
+  pub told : r ≡ claimable g before
+  pub left : after ≡ stamped (g .place) before
 
 pub record ClaimedAll (c : Cluster) (before : Map) (r : Bool) (after : Map) : Type 0 where
-  pub told : r ≡ claims segments (placeOf (tableOf c)) before
+  pub told : r ≡ claims segments (segmentOf (tableOf c)) before
   pub left : after ≡ stampedBy segments (placeOf (tableOf c)) before
 
 abbrev pub blank : Map
@@ -75,7 +76,7 @@ nodeMap ts node l = turns l (λ m. stampedBy segments (placeOn ts node m)) blank
 unfoldable pub clusterSound : Store → ℕ → ℕ → Bool
 clusterSound s node l =
     settled (clusterAt s (recordOf node l))
-    && claims segments (placeOn (tableAt s) node l) (nodeMap (tableAt s) node l)
+    && claims segments (segmentOn (tableAt s) node l) (nodeMap (tableAt s) node l)
 
 -- ---- jumping from end to end
 
