@@ -1,13 +1,14 @@
--- Soundness after a change of one record. Each segment of the new record is as it was, or absent, or the one new
+-- Soundness after a change of one record. Each segment of the new record lies where it lay, or is absent, or is the one new
 -- segment, which lies inside and is apart from all segments of its node: so any two are apart again.
 -- Assumes nothing.
-use mathlib.Core.Path.{_≡_, refl, sym, ap, _∙_}
+use mathlib.Core.Path.{_≡_, refl, sym, ap, _∙_, subst}
 use mathlib.Core.Logic.{_≢_, _⊎_, inl, inr}
-use mathlib.Core.Bool.{true}
+use mathlib.Core.Bool.{Bool, true, false, not, _&&_}
 use mathlib.Core.List.{List}
 use mathlib.Core.Option.{some}
 use Prim.Native.Nat.{ℕ, _≤_, _<_}
 use native.Mathlib.Omega.{arith}
+use Rattle.loops.proofs.BelowLaws.{and-both}
 use native.Mathlib.Decide.{ℕ-discrete, decLt}
 use lib.ListN.{length, getD, set, replicate, getD-replicate}
 use lib.Seq.{getD-set-same, getD-set-other, set-out}
@@ -19,13 +20,14 @@ use Rattle.store.specs.declared.Store.{Store}
 use Rattle.sizes.specs.Sizes.{nodes, clusters, segments, records}
 use Rattle.store.specs.Records.{segmentAt, absentSegment, inactive, started}
 use Rattle.store.specs.Records.{Table, Tables, tableOf, recordOf, noCluster, clusterAt, tableAt}
-use Rattle.store.specs.Records.{segmentOf, placeOf, placeOn}
-use Rattle.store.specs.Records.{putRecord, withPlace}
-use Rattle.store.specs.Sound.{inRanges, endsInside, inside, soundSegment, apart, settled, sound}
+use Rattle.store.specs.Records.{segmentOf, placeOf, placeAt, placeOn}
+use Rattle.store.specs.Records.{putRecord, withSegment, withPlace, withMark}
+use Rattle.store.specs.Sound.{inRanges, endsInside, inside, isAbsent, soundMark, soundSegment, apart, settled, sound}
 use Rattle.store.specs.Placement.{newBase}
 use Rattle.store.proofs.PlaceLaws.{apart-sym}
 use Rattle.store.proofs.PlacementLaws.{newBase-fits}
-use Rattle.store.proofs.SoundLaws.{Sound, sound-out, sound-in, settled-active, settled-inactive}
+use Rattle.store.proofs.SoundLaws.{Sound, segment-inside, segment-mark, segment-present, sound-out, sound-in}
+use Rattle.store.proofs.SoundLaws.{settled-active, settled-inactive}
 
 -- ---- one record replaced
 
@@ -41,7 +43,7 @@ module _ (s : Store) (n : ℕ) (c : Cluster) where
 
 -- how segment i of a new record at n comes about, where segment new may be another
 data Fate (s : Store) (node n new i : ℕ) (g : Segment) : Type 0 where
-  kept : g ≡ segmentOf (tableAt s n) i → Fate s node n new i g
+  kept : g .place ≡ placeAt (tableAt s) n i → soundMark g ≡ true → Fate s node n new i g
   gone : g ≡ absentSegment → Fate s node n new i g
   fresh : i ≡ new → soundSegment g ≡ true
       → ((m j : ℕ) → m < clusters → j < segments → apart (g .place) (placeOn (tableAt s) node m j) ≡ true)
@@ -56,15 +58,17 @@ module _ (s : Store) (size : ℕ) (r : Sound s size) (node local new : ℕ) (hv 
   n = recordOf node local
 
   fate-sound : (i : ℕ) (g : Segment) → i < segments → Fate s node n new i g → soundSegment g ≡ true
-  unfolding soundSegment inside inRanges endsInside
-  fate-sound i g hi (kept e) = ap soundSegment e ∙ r .ranged n i (omega arith) hi
+  unfolding soundSegment soundMark inside inRanges endsInside
+  fate-sound i g hi (kept e m) =
+      and-both (inside (g .place)) (soundMark g)
+      (ap inside e ∙ segment-inside (segmentOf (tableAt s n) i) (r .ranged n i (omega arith) hi)) m
   fate-sound i g hi (gone e) = ap soundSegment e
   fate-sound i g hi (fresh q t f) = t
 
   fate-other : (i m j : ℕ) (g : Segment) → i < segments → m < clusters → j < segments → m ≢ local
       → Fate s node n new i g → apart (g .place) (placeOn (tableAt s) node m j) ≡ true
   unfolding apart
-  fate-other i m j g hi hm hj d (kept e) = rw e (r .apartness node local i m j hv hl hi hm hj (inl (λ q. d (sym q))))
+  fate-other i m j g hi hm hj d (kept e k) = rw e (r .apartness node local i m j hv hl hi hm hj (inl (λ q. d (sym q))))
   fate-other i m j g hi hm hj d (gone e) = rw e refl
   fate-other i m j g hi hm hj d (fresh q t f) = f m j hm hj
 
@@ -72,11 +76,11 @@ module _ (s : Store) (size : ℕ) (r : Sound s size) (node local new : ℕ) (hv 
       → Fate s node n new i g → Fate s node n new j h → apart (g .place) (h .place) ≡ true
   unfolding apart
   fate-own i j g h hi hj d (gone e) w = rw e refl
-  fate-own i j g h hi hj d (kept e) (gone e′) = rw e′ (absent-apart (g .place))
+  fate-own i j g h hi hj d (kept e k) (gone e′) = rw e′ (absent-apart (g .place))
   fate-own i j g h hi hj d (fresh q t f) (gone e) = rw e (absent-apart (g .place))
-  fate-own i j g h hi hj d (kept e) (kept e′) = rw (e, e′) (r .apartness node local i local j hv hl hi hl hj (inr d))
-  fate-own i j g h hi hj d (kept e) (fresh q t f) = rw e (apart-sym _ (h .place) ∙ f local i hl hi)
-  fate-own i j g h hi hj d (fresh q t f) (kept e) = rw e (f local j hl hj)
+  fate-own i j g h hi hj d (kept e k) (kept e′ k′) = rw (e, e′) (r .apartness node local i local j hv hl hi hl hj (inr d))
+  fate-own i j g h hi hj d (kept e k) (fresh q t f) = rw e (apart-sym _ (h .place) ∙ f local i hl hi)
+  fate-own i j g h hi hj d (fresh q t f) (kept e k) = rw e (f local j hl hj)
   fate-own i j g h hi hj d (fresh q t f) (fresh q′ t′ f′) = absurd (d (q ∙ sym q′))
 
   module _ (c : Cluster) (calm : settled c ≡ true)
@@ -156,10 +160,19 @@ module _ (s : Store) (size : ℕ) (e : sound s size ≡ true) (node local : ℕ)
       → sound (putRecord s (recordOf node local) c) size ≡ true
   put new c t f = sound-in _ size (sound-put s size (sound-out s size e) node local new hv hl c t f)
 
+  -- a segment that is as it was
+  stays : (new i : ℕ) → i < segments → (g : Segment) → g ≡ segmentOf (tableAt s (recordOf node local)) i
+      → Fate s node (recordOf node local) new i g
+  stays new i h g q =
+      kept (ap (λ (x : Segment). x .place) q)
+      (ap soundMark q
+      ∙ segment-mark (segmentOf (tableAt s (recordOf node local)) i)
+      (sound-out s size e .ranged (recordOf node local) i (omega arith) h))
+
   -- a record with the same table: call 9
   pub sound-same : (c : Cluster) → settled c ≡ true → tableOf c ≡ tableAt s (recordOf node local)
       → sound (putRecord s (recordOf node local) c) size ≡ true
-  sound-same c t q = put 0 c t (λ i h. kept (ap (λ (x : Table). segmentOf x i) q))
+  sound-same c t q = put 0 c t (λ i h. stays 0 i h _ (ap (λ (x : Table). segmentOf x i) q))
 
   -- a record with absent segments alone: calls 1 and 2
   pub sound-empty : (c : Cluster) → settled c ≡ true → c .segments ≡ replicate segments absentSegment
@@ -179,25 +192,21 @@ module _ (s : Store) (size : ℕ) (e : sound s size ≡ true) (node local : ℕ)
     abbrev c : Cluster
     c = clusterAt s (recordOf node local)
 
-    -- segment i replaced by one that lies inside and is apart from all segments of the node
-    one : (p : Place) → soundSegment (segmentAt p) ≡ true
-        → ((m j : ℕ) → m < clusters → j < segments → apart p (placeOn (tableAt s) node m j) ≡ true)
-        → sound (putRecord s (recordOf node local) (withPlace c i p)) size ≡ true
-    one p t f =
-        put i (withPlace c i p) (settled-active (withPlace c i p) active)
-        (λ k h. fate k (ℕ-discrete k i) (decLt i (length (c .segments))))
+    -- segment i replaced by one whose fate is good
+    one : (g : Segment) → Fate s node (recordOf node local) i i g
+        → sound (putRecord s (recordOf node local) (withSegment c i g)) size ≡ true
+    one g f =
+        put i (withSegment c i g) (settled-active (withSegment c i g) active)
+        (λ k h. fate k h (ℕ-discrete k i) (decLt i (length (c .segments))))
       where
-        g : Segment
-        g = segmentAt p
-
-        fate : (k : ℕ) → Dec (k ≡ i) → Dec (i < length (c .segments))
-            → Fate s node (recordOf node local) i k (segmentOf (tableOf (withPlace c i p)) k)
-        fate k (no q) d = kept (getD-set-other (c .segments) i k g absentSegment q)
-        fate k (yes q) (no d) =
-            kept (ap (λ (l : List Segment). getD l k absentSegment) (set-out (c .segments) i g (omega arith)))
-        fate k (yes q) (yes d) = rw new (fresh q t f)
+        fate : (k : ℕ) → k < segments → Dec (k ≡ i) → Dec (i < length (c .segments))
+            → Fate s node (recordOf node local) i k (segmentOf (tableOf (withSegment c i g)) k)
+        fate k h (no q) d = stays i k h _ (getD-set-other (c .segments) i k g absentSegment q)
+        fate k h (yes q) (no d) =
+            stays i k h _ (ap (λ (l : List Segment). getD l k absentSegment) (set-out (c .segments) i g (omega arith)))
+        fate k h (yes q) (yes d) = rw new (subst (λ (x : ℕ). Fate s node (recordOf node local) i x g) (sym q) f)
           where
-            new : segmentOf (tableOf (withPlace c i p)) k ≡ g
+            new : segmentOf (tableOf (withSegment c i g)) k ≡ g
             new =
                 ap (λ (x : ℕ). getD (set (c .segments) i g) x absentSegment) q
                 ∙ getD-set-same (c .segments) i g absentSegment d
@@ -206,13 +215,19 @@ module _ (s : Store) (size : ℕ) (e : sound s size ≡ true) (node local : ℕ)
     pub sound-made : (base length : ℕ) → newBase (tableAt s) node length ≡ some base
         → sound (putRecord s (recordOf node local) (withPlace (clusterAt s (recordOf node local)) i (Present base length)))
         size ≡ true
-    unfolding soundSegment
     sound-made base length q =
         let f = newBase-fits (tableAt s) node length base q in
-        one (Present base length) (f .within) (f .free)
+        one (segmentAt (Present base length))
+        (fresh refl (segment-present (segmentAt (Present base length)) base length refl ∙ f .within) (f .free))
 
     -- a segment deleted: call 4
     pub sound-removed : sound (putRecord s (recordOf node local) (withPlace (clusterAt s (recordOf node local)) i Absent))
         size ≡ true
-    unfolding soundSegment inside inRanges endsInside apart
-    sound-removed = one Absent refl (λ m j a b. refl)
+    sound-removed = one absentSegment (gone refl)
+
+    -- a present segment frozen: call 10
+    pub sound-frozen : isAbsent (placeOf (tableOf c) i) ≡ false
+        → sound (putRecord s (recordOf node local) (withMark c i)) size ≡ true
+    unfolding soundMark
+    sound-frozen h =
+        one (record { place = placeOf (tableOf c) i; frozen = true }) (kept refl (ap (λ (t : Bool). not (t && true)) h))

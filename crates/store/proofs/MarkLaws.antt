@@ -4,7 +4,7 @@
 -- Assumes nothing.
 use mathlib.Core.Path.{_≡_, refl, sym, ap, ap₂, _∙_, subst}
 use mathlib.Core.Logic.{inl, inr}
-use mathlib.Core.Bool.{Bool, true, false, not, _&&_, _||_}
+use mathlib.Core.Bool.{Bool, true, false, not, _&&_, _||_, and-true}
 use mathlib.Core.List.{List}
 use Prim.Native.Nat.{ℕ, _+_, _*_, _≤_, _<_}
 use native.Mathlib.Omega.{arith}
@@ -24,7 +24,7 @@ use Rattle.store.specs.declared.Cluster.{Cluster}
 use Rattle.store.specs.declared.Store.{Store}
 use Rattle.sizes.specs.Sizes.{clusters, segments}
 use Rattle.store.specs.Records.{tableOf, recordOf, clusterAt, tableAt, segmentOf, segmentOn, placeOf, placeOn}
-use Rattle.store.specs.Sound.{inside, inRanges, endsInside, soundSegment, settled}
+use Rattle.store.specs.Sound.{inside, inRanges, endsInside, soundMark, soundSegment, settled}
 use Rattle.store.specs.inner.Passes.{Map, mapWords, holds, free, stamped, claimable, stampedBy, claims}
 use Rattle.store.specs.inner.Passes.{Claimed, ClaimedAll, blank, nodeMap, clusterSound}
 use Rattle.store.proofs.PlaceLaws.{inside-in, inside-out, holds-in, holds-out}
@@ -33,9 +33,9 @@ use Rattle.store.proofs.SoundLaws.{segment-present}
 
 -- ---- one place
 
-pub claim-absent : (g : Segment) (map : Map) → g .place ≡ Absent → Claimed g map true map
-unfolding claimable soundSegment stamped inside inRanges endsInside free
-claim-absent g map e = rw e (record { told = refl; left = refl })
+pub claim-absent : (g : Segment) (map : Map) → g .place ≡ Absent → Claimed g map (not (g .frozen)) map
+unfolding claimable soundSegment soundMark stamped inside inRanges endsInside free
+claim-absent g map e = rw e (record { told = sym (and-true (not (g .frozen))); left = refl })
 
 module _ (base size : ℕ) (ws : List ℕ) (r : Bool) (after : List ℕ) where
   abbrev here : Place

@@ -12,7 +12,7 @@ use Rattle.store.specs.declared.Place.{Place}
 use Rattle.store.specs.declared.Place.the-variants.{Absent}
 use Rattle.store.specs.declared.Segment.{Segment}
 use Rattle.store.specs.declared.Cluster.{Cluster}
-use Rattle.store.specs.Records.{segmentAt, absentSegment, tableOf, placeOf, withPlace, recordAt, readMode, primaryOf}
+use Rattle.store.specs.Records.{segmentAt, absentSegment, tableOf, placeOf, frozenOf, withSegment, withPlace, withMark, recordAt, readMode, primaryOf}
 use Rattle.store.specs.declared.Store.{Store}
 use Rattle.store.specs.Records.{noCluster, clusterAt, putRecord, withPassword}
 
@@ -28,7 +28,7 @@ module _ (node local : ℕ) where
   pub at-record : node < nodes → local < clusters → node * clusters + local ≡ recordAt node local
   at-record h l = simp (lt-leb nodes node h, lt-leb clusters local l)
 
--- ---- the place of a segment
+-- ---- the place of a segment, and its mark
 
 pub length-mapped : {A B : Type 0} (f : A → B) (l : List A) (n : ℕ) → length (map f l) ≡ n → length l ≡ n
 length-mapped f l n e = sym (length-map l f) ∙ e
@@ -37,9 +37,18 @@ module _ (c : Cluster) (i : ℕ) (e : length (c .segments) ≡ segments) (h : se
   pub place-beyond : Absent ≡ placeOf (tableOf c) i
   place-beyond = sym (ap (λ (g : Segment). g .place) (List·getD-eq-default (c .segments) absentSegment (rw e h)))
 
+  pub beyond : (g : Segment) → c ≡ withSegment c i g
+  beyond g = ap (λ (l : List Segment). record { active = c .active; read = c .read; write = c .write; segments = l })
+      (sym (set-out (c .segments) i g (rw e h)))
+
   pub with-beyond : (p : Place) → c ≡ withPlace c i p
-  with-beyond p = ap (λ (l : List Segment). record { active = c .active; read = c .read; write = c .write; segments = l })
-      (sym (set-out (c .segments) i (segmentAt p) (rw e h)))
+  with-beyond p = beyond (segmentAt p)
+
+  pub frozen-beyond : false ≡ frozenOf (tableOf c) i
+  frozen-beyond = sym (ap (λ (g : Segment). g .frozen) (List·getD-eq-default (c .segments) absentSegment (rw e h)))
+
+  pub mark-beyond : c ≡ withMark c i
+  mark-beyond = beyond (record { place = placeOf (tableOf c) i; frozen = true })
 
 -- ---- the primary password of a mode
 

@@ -3,7 +3,7 @@
 -- Assumes nothing.
 use mathlib.Core.Path.{_≡_, refl, ap, _∙_}
 use mathlib.Core.Logic.{_≢_, _⊎_, inl, inr}
-use mathlib.Core.Bool.{Bool, true, false, _&&_, _||_, or-true}
+use mathlib.Core.Bool.{Bool, true, false, not, _&&_, _||_, or-true, and-true}
 use Prim.Native.Nat.{ℕ, _<_}
 use native.Mathlib.Omega.{arith}
 use native.Mathlib.Decide.{ℕ-discrete}
@@ -12,6 +12,7 @@ use lib.ListN.{getD-replicate}
 use borrow.Author.Tests.{eqb-true, eq-eqb}
 use Rattle.loops.specs.Below.{every}
 use Rattle.loops.proofs.BelowLaws.{and-left, and-right, and-both, every-in, every-at, every-pair-in, every-pair-at}
+use Rattle.store.specs.declared.Place.{Place}
 use Rattle.store.specs.declared.Place.the-variants.{Present}
 use Rattle.store.specs.declared.Segment.{Segment}
 use Rattle.store.specs.declared.Cluster.{Cluster}
@@ -19,7 +20,7 @@ use Rattle.store.specs.declared.Store.{Store}
 use Rattle.sizes.specs.Sizes.{nodes, clusters, segments, records, memory}
 use Rattle.store.specs.Records.{absentSegment, inactive, startingStore}
 use Rattle.store.specs.Records.{tableOf, recordOf, noCluster, clusterAt, tableAt, segmentOf, placeOn}
-use Rattle.store.specs.Sound.{inRanges, endsInside, inside, soundSegment, apart, nodeApart}
+use Rattle.store.specs.Sound.{inRanges, endsInside, inside, isAbsent, soundMark, soundSegment, apart, nodeApart}
 use Rattle.store.specs.Sound.{zeroBytes, idle, settled, sound}
 
 -- the facts of soundness, in the order of its clauses
@@ -33,13 +34,19 @@ pub record Sound (s : Store) (size : ℕ) : Type 0 where
 -- a segment that is sound by itself lies inside its node's memory
 pub segment-inside : (g : Segment) → soundSegment g ≡ true → inside (g .place) ≡ true
 unfolding soundSegment
-segment-inside g e = e
+segment-inside g e = and-left (inside (g .place)) (soundMark g) e
 
--- of a present segment that is all
+-- and is not frozen if it is absent
+pub segment-mark : (g : Segment) → soundSegment g ≡ true → soundMark g ≡ true
+unfolding soundSegment
+segment-mark g e = and-right (inside (g .place)) (soundMark g) e
+
+-- of a present one the mark is not asked
 pub segment-present : (g : Segment) (base length : ℕ) → g .place ≡ Present base length
     → soundSegment g ≡ inside (Present base length)
-unfolding soundSegment
-segment-present g base length e = ap inside e
+unfolding soundSegment soundMark
+segment-present g base length e =
+    ap (λ (p : Place). inside p && not (isAbsent p && g .frozen)) e ∙ and-true (inside (Present base length))
 
 pub settled-active : (c : Cluster) → c .active ≡ true → settled c ≡ true
 unfolding settled
@@ -136,7 +143,7 @@ module _ (s : Store) (size : ℕ) where
 -- ---- the starting store
 
 pub sound-starting : sound startingStore memory ≡ true
-unfolding soundSegment inside inRanges endsInside apart
+unfolding soundSegment soundMark inside inRanges endsInside apart
 sound-starting =
     sound-in startingStore memory (record {
       whole = refl;

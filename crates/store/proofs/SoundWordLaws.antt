@@ -4,28 +4,29 @@
 -- Assumes nothing.
 use mathlib.Core.Path.{_≡_, refl, sym, ap, _∙_}
 use mathlib.Core.Logic.{_↔_}
-use mathlib.Core.Bool.{Bool, true, false, _&&_, _||_, false≢true}
+use mathlib.Core.Bool.{Bool, true, false, not, _&&_, _||_, false≢true}
 use mathlib.Core.List.{List}
 use Prim.Native.Nat.{ℕ, _+_, _*_, _≤_, _<_}
 use native.Mathlib.Omega.{arith}
 use lib.Dec.{eqb}
 use lib.ListN.{getD}
-use borrow.Author.Tests.{eqb-true, eq-eqb}
+use borrow.Author.Tests.{eqb-true, eq-eqb, not-true}
 use Rattle.loops.specs.Below.{every}
 use Rattle.loops.proofs.BelowLaws.{and-left, and-right, and-both, every-in, every-at}
 use Rattle.store.specs.declared.Place.{Place}
 use Rattle.store.specs.declared.Place.the-variants.{Absent, Present}
+use Rattle.store.specs.declared.Segment.{Segment}
 use Rattle.store.specs.declared.Cluster.{Cluster}
 use Rattle.store.specs.declared.Store.{Store}
 use Rattle.sizes.specs.Sizes.{segments, passwordBytes}
 use Rattle.store.specs.Records.{tableOf, clusterAt, tableAt, segmentOf, placeOf, placeAt, placeOn}
-use Rattle.store.specs.Sound.{inRanges, endsInside, inside, soundSegment, apart, isAbsent, zeroBytes, idle, settled}
+use Rattle.store.specs.Sound.{inRanges, endsInside, inside, soundMark, soundSegment, apart, isAbsent, zeroBytes, idle, settled}
 use Rattle.store.specs.Sound.{sound}
 use Rattle.store.specs.SoundWords.{ByteOf, ZeroPassword, SoundInWords}
 use Rattle.store.proofs.PlaceLaws.{Inside, inside-out, inside-in, holds-in, holds-out, Shared}
 use Rattle.store.specs.inner.Passes.{holds}
 use Rattle.store.proofs.PlaceLaws.{apart-shares-none, not-apart-shares}
-use Rattle.store.proofs.SoundLaws.{Sound, segment-inside, sound-out, sound-in}
+use Rattle.store.proofs.SoundLaws.{Sound, segment-inside, segment-mark, sound-out, sound-in}
 
 -- ---- places
 
@@ -61,6 +62,18 @@ words-inside (Present base length) h =
 absent-words : (p : Place) → isAbsent p ≡ true → p ≡ Absent
 absent-words Absent e = refl
 absent-words (Present base length) e = absurd (false≢true e)
+
+mark-words : (g : Segment) → soundMark g ≡ true → g .place ≡ Absent → g .frozen ≡ false
+unfolding soundMark
+mark-words g e q = not-true (g .frozen) (ap (λ (p : Place). not (isAbsent p && g .frozen)) (sym q) ∙ e)
+
+words-mark : (g : Segment) → (g .place ≡ Absent → g .frozen ≡ false) → soundMark g ≡ true
+unfolding soundMark
+words-mark g h = go (g .place) refl
+  where
+    go : (p : Place) → g .place ≡ p → not (isAbsent p && g .frozen) ≡ true
+    go Absent q = ap not (h q)
+    go (Present base length) q = refl
 
 -- ---- an inactive cluster
 
@@ -125,6 +138,8 @@ module _ (s : Store) (size : ℕ) where
         noRead = λ n h q. read-words (clusterAt s n) (r .settling n h) q;
         noWrite = λ n h q. write-words (clusterAt s n) (r .settling n h) q;
         noSegment = λ n i h hi q. segment-words (clusterAt s n) (r .settling n h) q i hi;
+        noMark = λ n i hn hi e.
+            mark-words (segmentOf (tableAt s n) i) (segment-mark (segmentOf (tableAt s n) i) (r .ranged n i hn hi)) e;
       }
     where
       bounds : (n i base length : ℕ) → n < 32 → i < 8 → placeAt (tableAt s) n i ≡ Present base length
@@ -142,7 +157,9 @@ module _ (s : Store) (size : ℕ) where
   of-words w =
       record {
         whole = w .slice;
-        ranged = inside-words w;
+        ranged = λ n i hn hi.
+            and-both (inside (placeAt (tableAt s) n i)) (soundMark (segmentOf (tableAt s n) i)) (inside-words w n i hn hi)
+            (words-mark (segmentOf (tableAt s n) i) (w .noMark n i hn hi));
         apartness = λ v l i m j hv hl hi hm hj d.
             words-apart (placeOn (tableAt s) v l i) (placeOn (tableAt s) v m j)
             (inside-words w (v * 8 + l) i (omega arith) hi) (inside-words w (v * 8 + m) j (omega arith) hj)

@@ -1,5 +1,6 @@
--- Document 01, "The store": the nodes, the clusters' records and how a segment is found in them.
---     segmentAt                    a segment at a place
+-- Document 01, "The store": the nodes, the clusters' records and how a segment is found in them. With the mark of document
+-- 02, §3: a segment is frozen or not.
+--     segmentAt                    a segment at a place, not frozen
 --     absentSegment, inactive      an absent segment, and a cluster's record as in the starting store
 --     startingStore                all clusters inactive
 --     started                      the record of a new cluster with these passwords
@@ -9,9 +10,12 @@
 --     clusterAt, tableAt           record n of the store, and its table
 --     segmentOf, placeOf           segment i of a table, and its place
 --     segmentOn                    segment i of a node's cluster
+--     frozenOf, noneFrozen         segment i of a table is frozen; no segment of it is
 --     placeAt, placeOn             the place of segment i of record n, and of a node's cluster
 --     putRecord                    the store with record n replaced
---     withSegment, withPlace       the record with segment i, or its place, replaced
+--     withSegment                  the record with segment i replaced
+--     withPlace                    the record with segment i at another place, and not frozen
+--     withMark                     the record with segment i frozen where it lies
 --     baseOf, lengthOf             of a place; zero where it is absent
 --     address                      where byte k of a node's memory stands in the slice: node 0 first
 --     readMode, writeMode          the two modes
@@ -20,10 +24,11 @@
 --     recordAt                     the number of a cluster's record; the first where there is no such place
 -- Assumes nothing.
 use Prim.Native.Nat.{ℕ, _+_, _*_}
-use mathlib.Core.Bool.{Bool, true, false, _||_, cond}
+use mathlib.Core.Bool.{Bool, true, false, not, _||_, cond}
 use mathlib.Core.List.{List, []}
 use lib.Dec.{eqb, leb}
 use lib.ListN.{getD, set, replicate}
+use Rattle.loops.specs.Below.{every}
 use Rattle.sizes.specs.Sizes.{nodes, clusters, records, segments, nodeMemory, passwordBytes}
 use Rattle.store.specs.declared.Place.{Place}
 use Rattle.store.specs.declared.Place.the-variants.{Absent, Present}
@@ -34,7 +39,7 @@ use Rattle.store.specs.declared.Store.{Store}
 -- ---- the starting store
 
 abbrev pub segmentAt : Place → Segment
-segmentAt p = record { place = p }
+segmentAt p = record { place = p; frozen = false }
 
 abbrev pub absentSegment : Segment
 absentSegment = segmentAt Absent
@@ -88,6 +93,12 @@ placeOf t i = segmentOf t i .place
 abbrev pub segmentOn : Tables → ℕ → ℕ → ℕ → Segment
 segmentOn ts node local i = segmentOf (ts (recordOf node local)) i
 
+abbrev pub frozenOf : Table → ℕ → Bool
+frozenOf t i = segmentOf t i .frozen
+
+unfoldable pub noneFrozen : Table → Bool
+noneFrozen t = every segments (λ i. not (frozenOf t i))
+
 abbrev pub placeAt : Tables → ℕ → ℕ → Place
 placeAt ts n i = placeOf (ts n) i
 
@@ -129,6 +140,9 @@ withSegment c i g = record { active = c .active; read = c .read; write = c .writ
 
 abbrev pub withPlace : Cluster → ℕ → Place → Cluster
 withPlace c i p = withSegment c i (segmentAt p)
+
+abbrev pub withMark : Cluster → ℕ → Cluster
+withMark c i = withSegment c i (record { place = placeOf (tableOf c) i; frozen = true })
 
 abbrev pub withPassword : Cluster → ℕ → List ℕ → Cluster
 withPassword c mode p =

@@ -1,7 +1,9 @@
--- Document 01, "The store", the sentence that begins "Sound:", clause by clause and in its order.
+-- Document 01, "The store", the sentence that begins "Sound:", clause by clause and in its order. With document 02, §3: an
+-- absent segment is never frozen in a sound store.
 --     sound s size    the records and a slice of that many bytes are sound:
 --       memory          the slice has as many bytes as the four memories
---       soundSegment    its base and length lie in their ranges, and base plus length inside the node's memory
+--       soundSegment    its base and length lie in their ranges, and base plus length inside the node's memory; and it is
+--                       not frozen if it is absent
 --       nodeApart       present segments of one node share no byte
 --       settled         an inactive cluster has zero passwords and only absent segments
 --     inRanges        base from 0 to 4,095, length from 1 to 4,096
@@ -10,11 +12,12 @@
 --     apart           two places, of at least one byte each, share no byte: one ends where the other begins, or
 --                     before it
 --     isAbsent        the place is that of an absent segment
+--     soundMark       the segment is not both absent and frozen
 --     zeroBytes       every byte of the password is zero
 --     idle            zero passwords and only absent segments
 -- Assumes nothing.
 use Prim.Native.Nat.{ℕ, _+_}
-use mathlib.Core.Bool.{Bool, true, false, _&&_, _||_}
+use mathlib.Core.Bool.{Bool, true, false, not, _&&_, _||_}
 use mathlib.Core.List.{List}
 use lib.Dec.{leb, ltb, eqb}
 use lib.ListN.{getD}
@@ -38,8 +41,15 @@ endsInside (Present base length) = leb (base + length) nodeMemory
 unfoldable pub inside : Place → Bool
 inside p = inRanges p && endsInside p
 
+abbrev pub isAbsent : Place → Bool
+isAbsent Absent = true
+isAbsent (Present base length) = false
+
+unfoldable pub soundMark : Segment → Bool
+soundMark g = not (isAbsent (g .place) && g .frozen)
+
 unfoldable pub soundSegment : Segment → Bool
-soundSegment g = inside (g .place)
+soundSegment g = inside (g .place) && soundMark g
 
 unfoldable pub apart : Place → Place → Bool
 apart Absent q = true
@@ -54,10 +64,6 @@ nodeApart ts node =
     (λ i. every clusters
     (λ m. every segments
     (λ j. eqb l m && eqb i j || apart (placeOn ts node l i) (placeOn ts node m j)))))
-
-abbrev pub isAbsent : Place → Bool
-isAbsent Absent = true
-isAbsent (Present base length) = false
 
 unfoldable pub zeroBytes : List ℕ → Bool
 zeroBytes password = every passwordBytes (λ i. eqb (getD password i 0) 0)

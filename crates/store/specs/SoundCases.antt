@@ -17,7 +17,7 @@ use Rattle.store.specs.declared.Place.{Place}
 use Rattle.store.specs.declared.Place.the-variants.{Present}
 use Rattle.store.specs.declared.Cluster.{Cluster}
 use Rattle.store.specs.declared.Store.{Store}
-use Rattle.store.specs.Records.{inactive, startingStore, started, putRecord, withPlace}
+use Rattle.store.specs.Records.{inactive, startingStore, started, putRecord, withPlace, withMark}
 use Rattle.store.specs.Sound.{sound}
 
 pub record Case : Type 0 where
@@ -70,6 +70,10 @@ damaged =
     ∷ unsound (on 31 (quiet 1 0))
     ∷ unsound (on 31 (quiet 0 1))
     ∷ unsound (on 31 (withPlace inactive 7 (Present 0 1)))
+    -- frozen and absent: beside a present segment, in a cluster with none, in an inactive one
+    ∷ unsound (on 31 (withMark (last (Present 0 1)) 0))
+    ∷ unsound (on 0 (withMark (started (sixteen 1) (sixteen 2)) 7))
+    ∷ unsound (on 31 (withMark inactive 7))
     ∷ []
 
 unfoldable pub whole : List Case
@@ -80,4 +84,7 @@ whole =
     -- two that touch; the same bytes of two nodes
     ∷ fine (on 31 (holding (Present 0 10) (Present 10 4086)))
     ∷ fine (both 23 (last (Present 0 4096)) 31 (last (Present 0 4096)))
+    -- frozen and present, the last segment of the last cluster and the first of the first
+    ∷ fine (on 31 (withMark (last (Present 0 4096)) 7))
+    ∷ fine (on 0 (withMark (holding (Present 0 1) (Present 1 1)) 0))
     ∷ []

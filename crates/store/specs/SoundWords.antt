@@ -1,5 +1,6 @@
 -- Document 01, "The store", the sentence that begins "Sound:", in its own words and with its own numbers; `sound` is held
--- to it both ways. Records are numbered by node: the cluster of node v and local number l is record v * 8 + l.
+-- to it both ways. Records are numbered by node: the cluster of node v and local number l is record v * 8 + l. With document
+-- 02, §3, at the end.
 --     ByteOf k p               byte k of a node's memory is one of the place's, which is present: one of the length
 --                              bytes from the base on
 --     ZeroPassword p           each of the sixteen bytes is zero
@@ -10,6 +11,7 @@
 --       apart                    present segments of one node share no byte, be they of one cluster or of two
 --       noRead, noWrite          an inactive cluster has zero passwords
 --       noSegment                and only absent segments
+--       noMark                   an absent segment is never frozen
 -- Assumes nothing.
 use mathlib.Core.Path.{_≡_}
 use mathlib.Core.Logic.{_≢_, _⊎_}
@@ -20,7 +22,7 @@ use lib.ListN.{getD}
 use Rattle.store.specs.declared.Place.{Place}
 use Rattle.store.specs.declared.Place.the-variants.{Absent, Present}
 use Rattle.store.specs.declared.Store.{Store}
-use Rattle.store.specs.Records.{clusterAt, tableAt, placeAt}
+use Rattle.store.specs.Records.{clusterAt, tableAt, segmentOf, placeAt}
 
 abbrev pub ByteOf : ℕ → Place → Type 0
 ByteOf k Absent = ⊥
@@ -41,3 +43,4 @@ pub record SoundInWords (s : Store) (size : ℕ) : Type 0 where
   pub noRead : (n : ℕ) → n < 32 → clusterAt s n .active ≡ false → ZeroPassword (clusterAt s n .read)
   pub noWrite : (n : ℕ) → n < 32 → clusterAt s n .active ≡ false → ZeroPassword (clusterAt s n .write)
   pub noSegment : (n i : ℕ) → n < 32 → i < 8 → clusterAt s n .active ≡ false → placeAt (tableAt s) n i ≡ Absent
+  pub noMark : (n i : ℕ) → n < 32 → i < 8 → placeAt (tableAt s) n i ≡ Absent → segmentOf (tableAt s n) i .frozen ≡ false

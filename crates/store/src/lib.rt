@@ -9,14 +9,17 @@ pub use records::READ_MODE;
 pub use records::WRITE_MODE;
 pub use records::absent;
 pub use records::base_of;
+pub use records::frozen_of;
 pub use records::inactive_cluster;
 pub use records::length_of;
+pub use records::none_frozen;
 pub use records::password_in;
 pub use records::place_of;
 pub use records::primary;
 pub use records::record_at;
 pub use records::started;
 pub use records::starting;
+pub use records::with_mark;
 pub use records::with_password;
 pub use records::with_place;
 use sizes::Password;
@@ -31,8 +34,10 @@ pub enum Place {
     Present { base: u16, length: u16 },
 }
 
+// Where a segment lies, and its mark: frozen or not. In a sound store an absent one is not.
 pub struct Segment {
     pub place: Place,
+    pub frozen: bool,
 }
 
 // A cluster's record: whether it is active, its two primary passwords, its segments.

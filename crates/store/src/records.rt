@@ -28,6 +28,7 @@ pub fn inactive_cluster() -> Cluster
 {
     let segment = Segment {
         place: Place::Absent,
+        frozen: false,
     };
     Cluster {
         active: false,
@@ -111,7 +112,33 @@ pub fn place_of(cluster: Cluster, segment: usize) -> Place
     found.place
 }
 
-// The record with the place of a segment replaced.
+// Whether a segment of a cluster is frozen; above the last none is.
+pub fn frozen_of(cluster: Cluster, segment: usize) -> bool
+    ensures { λ r. ⌜ r ≡ spec.frozenOf (spec.tableOf cluster) segment ⌝ }
+{
+    if SEGMENTS <= segment {
+        return false;
+    }
+    let found = cluster.segments[segment];
+    found.frozen
+}
+
+// Whether no segment of a cluster is frozen.
+pub fn none_frozen(cluster: Cluster) -> bool
+    ensures { λ r. ⌜ r ≡ spec.noneFrozen (spec.tableOf cluster) ⌝ }
+{
+    let mut ok = true;
+    let mut i: usize = 0;
+    while i < SEGMENTS {
+        let segment = cluster.segments[i];
+        let frozen = segment.frozen;
+        ok = !frozen & ok;
+        i += 1;
+    }
+    ok
+}
+
+// The record with the place of a segment replaced; the segment is not frozen then.
 pub fn with_place(cluster: Cluster, segment: usize, place: Place) -> Cluster
     ensures { λ r. ⌜ r ≡ spec.withPlace cluster segment place ⌝ }
 {
@@ -119,7 +146,27 @@ pub fn with_place(cluster: Cluster, segment: usize, place: Place) -> Cluster
     if SEGMENTS <= segment {
         return changed;
     }
-    changed.segments[segment] = Segment { place };
+    changed.segments[segment] = Segment {
+        place,
+        frozen: false,
+    };
+    changed
+}
+
+// The record with a segment frozen where it lies.
+pub fn with_mark(cluster: Cluster, segment: usize) -> Cluster
+    ensures { λ r. ⌜ r ≡ spec.withMark cluster segment ⌝ }
+{
+    let mut changed = cluster;
+    if SEGMENTS <= segment {
+        return changed;
+    }
+    let found = changed.segments[segment];
+    let place = found.place;
+    changed.segments[segment] = Segment {
+        place,
+        frozen: true,
+    };
     changed
 }
 

@@ -23,16 +23,17 @@ use sizes::SEGMENTS;
 // Words of the map of a node: a bit for each byte of its memory.
 pub const MAP_WORDS: usize = 64;
 
-// Marks the bytes of a segment in its node's map: false if it is out of range or shares a byte with one marked before. What
-// does not lie inside the map does not lie inside the node's memory. The end is worked out in usize, where the sum of two
-// u16 does not wrap.
+// Marks the bytes of a segment in its node's map: false if it is out of range or shares a byte with one marked before, or
+// if it is absent and frozen. What does not lie inside the map does not lie inside the node's memory. The end is worked
+// out in usize, where the sum of two u16 does not wrap.
 fn claim(segment: Segment, map: &mut [u64]) -> bool
     requires { ⌜ length (now map) ≡ passes.mapWords ⌝ }
     ensures { λ r. ⌜ passes.Claimed segment (marks (now (map .entry))) r (marks (now (map .exit))) ⌝ }
 {
     let place = segment.place;
+    let frozen = segment.frozen;
     match place {
-        Place::Absent => true,
+        Place::Absent => !frozen,
         Place::Present { base, length } => {
             let from = base as usize;
             let size = length as usize;
