@@ -1,4 +1,4 @@
--- The calls at their bounds are done: the stores are sound, and below the first row the numbers are computed.
+-- The calls at their bounds are told as they say: the stores are sound, and below the first row the numbers are computed.
 -- Assumes nothing.
 use mathlib.Core.Path.{_≡_, refl, _∙_}
 use mathlib.Core.Bool.{true}
@@ -12,7 +12,7 @@ use Rattle.store.proofs.SoundLaws.{sound-starting}
 use Rattle.calls.specs.Calls.{Call}
 use Rattle.calls.specs.Numbers.{tests}
 use Rattle.calls.specs.Cases.{added, Case, calls, named}
-use Rattle.calls.specs.Bounds.{bare, edge, free, empty, full, BoundsDone}
+use Rattle.calls.specs.Bounds.{bare, edge, sealed, free, empty, full, frozen, BoundsDone}
 use Rattle.calls.proofs.CaseLaws.{numbers-below}
 use Rattle.calls.proofs.Computing.{computing, sounding}
 use Rattle.calls.proofs.StepLaws.{numberBelow}
@@ -28,6 +28,10 @@ pub edge-sound : sound edge memory ≡ true
 unfolding sounding
 edge-sound = refl
 
+sealed-sound : sound sealed memory ≡ true
+unfolding sounding
+sealed-sound = refl
+
 free-below : below startingStore free ≡ named free
 unfolding tests computing
 free-below = refl
@@ -40,10 +44,15 @@ full-below : below edge full ≡ named full
 unfolding tests computing
 full-below = refl
 
+frozen-below : below sealed frozen ≡ named frozen
+unfolding tests computing
+frozen-below = refl
+
 pub bounds-done : BoundsDone
 bounds-done =
     record {
       free = numbers-below startingStore sound-starting (calls free) ∙ free-below;
       empty = numbers-below bare bare-sound (calls empty) ∙ empty-below;
       full = numbers-below edge edge-sound (calls full) ∙ full-below;
+      frozen = numbers-below sealed sealed-sound (calls frozen) ∙ frozen-below;
     }

@@ -15,7 +15,7 @@ use Rattle.handle.specs.Handles.{Name, nodeOf, widthOf, noSuchPlace}
 use Rattle.store.specs.declared.Store.{Store}
 use Rattle.store.specs.Records.{Tables, recordOf, readMode, writeMode}
 use Rattle.calls.specs.Calls.{Call, call, Arguments, Kind, newCluster, deleteCluster, newSegment, deleteSegment}
-use Rattle.calls.specs.Calls.{read, write, weaken, reduce, newPassword, validate, look, among, opens, uses}
+use Rattle.calls.specs.Calls.{read, write, weaken, reduce, newPassword, freeze, validate, look, among, opens, uses}
 use Rattle.calls.specs.Calls.{needed, handleOf, presented, anyOf, nodeFor, localFor}
 use Rattle.calls.specs.Calls.{recordFor}
 use Rattle.calls.specs.Calls.{recordNamed}
@@ -51,6 +51,7 @@ opened-kind write g e = record { one = refl; node = refl; local = refl }
 opened-kind weaken g e = absurd (false≢true e)
 opened-kind reduce g e = record { one = refl; node = refl; local = refl }
 opened-kind newPassword g e = record { one = refl; node = refl; local = refl }
+opened-kind freeze g e = record { one = refl; node = refl; local = refl }
 opened-kind validate g e = record { one = refl; node = refl; local = refl }
 opened-kind look g e = record { one = refl; node = refl; local = refl }
 
@@ -88,6 +89,7 @@ range-kind write g e = range-handle (handleOf (call write g)) false false e
 range-kind weaken g e = range-handle (handleOf (call weaken g)) false false e
 range-kind reduce g e = range-handle (handleOf (call reduce g)) false false e
 range-kind newPassword g e = range-handle (handleOf (call newPassword g)) false false e
+range-kind freeze g e = range-handle (handleOf (call freeze g)) (leb nodes (g .current)) false e
 range-kind validate g e = range-handle (handleOf (call validate g)) false false e
 range-kind look g e = range-handle (handleOf (call look g)) (leb nodes (g .current)) false e
 

@@ -2,7 +2,7 @@
 -- is computed once.
 -- Assumes nothing.
 use mathlib.Core.Path.{_≡_, refl, _∙_}
-use Prim.Native.Nat.{_-_}
+use Prim.Native.Nat.{ℕ, _-_}
 use mathlib.Core.Bool.{true}
 use mathlib.Core.List.{List, [], _∷_, map}
 use Rattle.bits.specs.Sets.{has, setOf, count}
@@ -13,14 +13,18 @@ use Rattle.store.specs.declared.Store.{Store}
 use Rattle.store.specs.Sound.{sound}
 use Rattle.calls.specs.Calls.{Call}
 use Rattle.calls.specs.Numbers.{number, tests}
-use Rattle.calls.specs.Cases.{added, sample, Case, calls, named, damaged, refusals, NumbersGiven}
-use Rattle.calls.specs.Orders.{Order, orders, applies, OrdersGiven}
+use Rattle.calls.specs.Cases.{added, sample, marked, Case, calls, named, damaged, refusals, frozen, NumbersGiven}
+use Rattle.calls.specs.Orders as order
 use Rattle.calls.proofs.Computing.{computing, sounding}
 use Rattle.calls.proofs.StepLaws.{numberBelow, number-below}
 
 pub sample-sound : sound sample memory ≡ true
 unfolding sounding
 sample-sound = refl
+
+marked-sound : sound marked memory ≡ true
+unfolding sounding
+marked-sound = refl
 
 -- the numbers of calls on a sound store are those below the first row
 module _ (s : Store) (e : sound s memory ≡ true) where
@@ -29,18 +33,35 @@ module _ (s : Store) (e : sound s memory ≡ true) where
   numbers-below [] = refl
   numbers-below (x ∷ xs) = λ j. number-below added x s memory e j ∷ numbers-below xs j
 
-refusals-below : map (λ (x : Call). numberBelow added x sample memory) (calls refusals) ≡ named refusals
+abbrev below : Store → List Call → List ℕ
+below s xs = map (λ (x : Call). numberBelow added x s memory) xs
+
+abbrev asked : List order.Order → List Call
+asked os = map (λ (o : order.Order). o .call) os
+
+refusals-below : below sample (calls refusals) ≡ named refusals
 unfolding tests computing
 refusals-below = refl
 
-orders-below : map (λ (x : Call). numberBelow added x sample memory) (map (λ (o : Order). o .call) orders)
-    ≡ map (λ (o : Order). o .upper) orders
+frozen-below : below marked (calls frozen) ≡ named frozen
+unfolding tests computing
+frozen-below = refl
+
+orders-below : below sample (asked order.orders) ≡ order.uppers order.orders
 unfolding tests computing
 orders-below = refl
 
-orders-meet : map (λ (o : Order). applies (o .lower) (o .call)) orders ≡ map (λ (o : Order). true) orders
+orders-meet : order.Meet sample order.orders
 unfolding tests computing
 orders-meet = refl
+
+frozen-orders-below : below marked (asked order.frozen) ≡ order.uppers order.frozen
+unfolding tests computing
+frozen-orders-below = refl
+
+frozen-orders-meet : order.Meet marked order.frozen
+unfolding tests computing
+frozen-orders-meet = refl
 
 damaged-told : map (λ (c : Case). number added (c .call) sample (memory - 1)) damaged
     ≡ map (λ (c : Case). c .number) damaged
@@ -52,11 +73,14 @@ numbers-given =
     record {
       damaged = damaged-told;
       refusals = numbers-below sample sample-sound (calls refusals) ∙ refusals-below;
+      frozen = numbers-below marked marked-sound (calls frozen) ∙ frozen-below;
     }
 
-pub orders-given : OrdersGiven
+pub orders-given : order.OrdersGiven
 orders-given =
     record {
-      told = numbers-below sample sample-sound (map (λ (o : Order). o .call) orders) ∙ orders-below;
+      told = numbers-below sample sample-sound (asked order.orders) ∙ orders-below;
       meet = orders-meet;
+      told-frozen = numbers-below marked marked-sound (asked order.frozen) ∙ frozen-orders-below;
+      meet-frozen = frozen-orders-meet;
     }

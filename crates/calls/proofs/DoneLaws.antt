@@ -21,8 +21,8 @@ use Rattle.calls.specs.Calls.{Call, call, Arguments, newCluster, newSegm
 use Rattle.calls.specs.Calls.{needed, handleOf, nodeFor, localFor, recordFor, recordNamed, placeFor}
 use Rattle.calls.specs.Numbers.{unsound, noPlace, badMode, badSegment, badSize, badField, gappedHandle, elsewhere}
 use Rattle.calls.specs.Numbers.{inUse, twins, inactiveCluster, valid, violated, notPrimary, notReferenced, at}
-use Rattle.calls.specs.Numbers.{oldPassword}
-use Rattle.calls.specs.Numbers.{segmentPresent, segmentAbsent, short, fullNode, emptyHandle, spentHandle, rows, number}
+use Rattle.calls.specs.Numbers.{clusterFrozen, oldPassword}
+use Rattle.calls.specs.Numbers.{segmentPresent, segmentAbsent, segmentFrozen, short, fullNode, emptyHandle, spentHandle, rows, number}
 use Rattle.calls.specs.Steps.{newBaseFor}
 use Rattle.calls.specs.Clear.{Clear}
 use Rattle.calls.proofs.FirstLaws.{first-clear}
@@ -47,10 +47,12 @@ module _ (f : Name → List ℕ → ℕ → List ℕ) where
     pub inactiveCluster : inactiveCluster x (tableAt s) ≡ false
     pub violated : violated f x s ≡ false
     pub notPrimary : notPrimary x ≡ false
+    pub clusterFrozen : clusterFrozen x (tableAt s) ≡ false
     pub notReferenced : notReferenced x ≡ false
     pub oldPassword : oldPassword x s ≡ false
     pub segmentPresent : segmentPresent x (tableAt s) ≡ false
     pub segmentAbsent : segmentAbsent x (tableAt s) ≡ false
+    pub segmentFrozen : segmentFrozen x (tableAt s) ≡ false
     pub short : short x (tableAt s) ≡ false
     pub fullNode : fullNode x (tableAt s) ≡ false
     pub emptyHandle : emptyHandle x ≡ false
@@ -70,10 +72,12 @@ module _ (f : Name → List ℕ → ℕ → List ℕ) where
           inactiveCluster = search;
           violated = search;
           notPrimary = search;
+          clusterFrozen = search;
           notReferenced = search;
           oldPassword = search;
           segmentPresent = search;
           segmentAbsent = search;
+          segmentFrozen = search;
           short = search;
           fullNode = search;
           emptyHandle = search;

@@ -19,5 +19,6 @@ pub mod ReadWordLaws
 pub mod LookLaws
 pub mod LookReadLaws
 pub mod MadeWordLaws
+pub mod FreezeLaws
 pub mod WrittenLaws
 pub mod EmptyWordLaws

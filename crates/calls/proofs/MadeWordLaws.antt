@@ -15,7 +15,7 @@ use Rattle.handle.specs.Handles.{Name, nodeOf}
 use Rattle.store.specs.declared.Segment.{Segment}
 use Rattle.store.specs.declared.Cluster.{Cluster}
 use Rattle.store.specs.declared.Store.{Store}
-use Rattle.store.specs.Records.{absentSegment, noCluster, tableOf, clusterAt, tableAt, placeOf, withPlace}
+use Rattle.store.specs.Records.{segmentAt, absentSegment, noCluster, tableOf, clusterAt, tableAt, placeOf, withPlace}
 use Rattle.store.specs.Sound.{sound}
 use Rattle.store.specs.SoundWords.{SoundInWords}
 use Rattle.store.specs.Placement.{placedAt, newBase, placement}
@@ -98,7 +98,7 @@ module _ (f : Name → List ℕ → ℕ → List ℕ) (g : Arguments) (c : Copy)
               (put-same (c .store) (recordFor x) made
               (active-in (c .store) (recordFor x) (done-active f x (c .store) (length (c .memory)) e refl)))
               ∙ ap (λ (z : Segment). z .place)
-              (getD-set-same (about x c .segments) (g .segment) (record { place = newPlace x (tableAt (c .store)) })
+              (getD-set-same (about x c .segments) (g .segment) (segmentAt (newPlace x (tableAt (c .store))))
               absentSegment low);
           room = smallest .0;
           smallest = smallest .1;

@@ -15,8 +15,8 @@ use Rattle.calls.specs.Words.{Taken, Entry, Nothing, Told, table, TableI
 use Rattle.calls.proofs.FirstLaws.{Numbered}
 use Rattle.calls.proofs.TestLaws.{Is}
 use Rattle.calls.proofs.WordLaws.{unsound-is, noPlace-is, badField-is, gapped-row, elsewhere-is, inUse-is, twins-is}
-use Rattle.calls.proofs.WordLaws.{inactive-is, notPrimary-is, notReferenced-is, oldPassword-is, present-is}
-use Rattle.calls.proofs.WordLaws.{absent-is, short-is, fullNode-is, empty-row, spent-row}
+use Rattle.calls.proofs.WordLaws.{inactive-is, notPrimary-is, clusterFrozen-is, notReferenced-is, oldPassword-is, present-is}
+use Rattle.calls.proofs.WordLaws.{absent-is, segmentFrozen-is, short-is, fullNode-is, empty-row, spent-row}
 use Rattle.calls.proofs.ValidWords.{violated-is}
 
 -- rows and entries with equal numbers, each test the words', where no words above hold
@@ -72,10 +72,12 @@ module _ (f : Name → List ℕ → ℕ → List ℕ) (x : Call) (s : Store) (si
       next (inactive-is x s) λ r8.
       next (violated-is f x s t c) λ r9.
       next (notPrimary-is x t) λ r10.
+      next (clusterFrozen-is x s) λ r22.
       next (notReferenced-is x t) λ r11.
       next (oldPassword-is x s) λ r12.
       next (present-is x s) λ r13.
       next (absent-is x s) λ r14.
+      next (segmentFrozen-is x s) λ q22.
       next (short-is x s) λ r15.
       next (fullNode-is x s size a b c) λ r16.
       next (empty-row x t) λ r21.

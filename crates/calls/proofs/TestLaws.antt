@@ -3,7 +3,8 @@
 -- Assumes nothing.
 use mathlib.Core.Path.{_≡_, refl, sym, ap, _∙_}
 use mathlib.Core.Logic.{_⊎_, inl, inr}
-use Prim.Native.Nat.{ℕ, _≤_, _<_}
+use Prim.Native.Nat.{ℕ, zero, suc, _≤_, _<_}
+use native.Mathlib.Omega.{arith}
 use mathlib.Core.Bool.{Bool, true, false, not, _&&_, _||_, false≢true}
 use lib.Dec.{eqb, leb, ltb}
 use borrow.Author.Tests.{not-true, eqb-true, eq-eqb, leb-true, le-leb, ltb-true, lt-ltb}
@@ -87,3 +88,24 @@ every-is n p P h =
       out = λ e k l. h k .out (every-at n p e k l);
       into = λ f. every-in n p (λ k l. h k .into (f k l));
     }
+
+-- where not every number fails, one passes
+passing : (n : ℕ) (p : ℕ → Bool) → every n (λ k. not (p k)) ≡ false → (k : ℕ) × (k < n) × (p k ≡ true)
+unfolding every
+passing zero p e = absurd (false≢true (sym e))
+passing (suc n) p e = go (p n) refl e (passing n p)
+  where
+    go : (t : Bool) → p n ≡ t → not t && every n (λ k. not (p k)) ≡ false
+        → (every n (λ k. not (p k)) ≡ false → (k : ℕ) × (k < n) × (p k ≡ true)) → (k : ℕ) × (k < suc n) × (p k ≡ true)
+    go true q e ih = (n, omega arith, q)
+    go false q e ih = let r = ih e in (r .0, let l = r .1 in omega arith, r .2)
+
+pub some-is : (n : ℕ) (p : ℕ → Bool) → Is (not (every n (λ k. not (p k)))) ((k : ℕ) × (k < n) × (p k ≡ true))
+some-is n p = go (every n (λ k. not (p k))) refl
+  where
+    none : (e : every n (λ k. not (p k)) ≡ true) → ((k : ℕ) × (k < n) × (p k ≡ true)) → ⊥
+    none e r = false≢true (sym (not-true (p (r .0)) (every-at n (λ k. not (p k)) e (r .0) (r .1))) ∙ r .2)
+
+    go : (t : Bool) → every n (λ k. not (p k)) ≡ t → Is (not t) ((k : ℕ) × (k < n) × (p k ≡ true))
+    go true e = record { out = λ q. absurd (false≢true q); into = λ r. absurd (none e r) }
+    go false e = record { out = λ q. passing n p e; into = λ r. refl }

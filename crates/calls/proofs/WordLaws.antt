@@ -17,7 +17,7 @@ use Rattle.handle.specs.Handles.{nodeOf, widthOf, noSuchPlace}
 use Rattle.store.specs.declared.Place.{Place}
 use Rattle.store.specs.declared.Place.the-variants.{Absent, Present}
 use Rattle.store.specs.declared.Store.{Store}
-use Rattle.store.specs.Records.{clusterAt, tableAt, placeAt, lengthOf}
+use Rattle.store.specs.Records.{tableOf, clusterAt, tableAt, placeAt, frozenOf, noneFrozen, lengthOf}
 use Rattle.store.specs.Sound.{isAbsent, sound}
 use Rattle.store.specs.Placement.{placement}
 use Rattle.store.specs.SoundWords.{SoundInWords}
@@ -28,13 +28,13 @@ use Rattle.calls.specs.Calls.{Call, newCluster, newSegment, read, write,
 use Rattle.calls.specs.Calls.{among, isLook, opens, uses, handleOf, presented, anyOf}
 use Rattle.calls.specs.Calls.{buffer, nodeFor, recordFor, recordNamed, placeFor}
 use Rattle.calls.specs.Numbers.{unsound, noPlace, badMode, badSegment, badSize, badField, gappedHandle, elsewhere}
-use Rattle.calls.specs.Numbers.{inUse, twins, inactiveCluster, notPrimary, notReferenced, isOld, oldPassword}
-use Rattle.calls.specs.Numbers.{segmentPresent, segmentAbsent, short, fullNode, emptyHandle, spentHandle}
+use Rattle.calls.specs.Numbers.{inUse, twins, inactiveCluster, notPrimary, clusterFrozen, notReferenced, isOld, oldPassword}
+use Rattle.calls.specs.Numbers.{segmentPresent, segmentAbsent, segmentFrozen, short, fullNode, emptyHandle, spentHandle}
 use Rattle.calls.specs.Words.{Named, Handled, Taken, Opening, clusterOf, place, Unsound, NoSuchPlace, Field}
 use Rattle.calls.specs.Words.{Gapped, Elsewhere, InUse, Twins, Inactive, NotPrimary, NotReferenced, OldPassword}
-use Rattle.calls.specs.Words.{SegmentPresent, SegmentAbsent, Short, NoRoom, Empty, Spent}
+use Rattle.calls.specs.Words.{ClusterFrozen, SegmentPresent, SegmentAbsent, SegmentFrozen, Short, NoRoom, Empty, Spent}
 use Rattle.calls.proofs.TestLaws.{Is, map-is, same-is, off-is, not-is, then-is, and-is, or-is, three-is, holds-is}
-use Rattle.calls.proofs.TestLaws.{fails-is, eq-is, le-is, lt-is}
+use Rattle.calls.proofs.TestLaws.{fails-is, eq-is, le-is, lt-is, some-is}
 use Rattle.calls.proofs.KindLaws.{kind-is, but-is, other-kind}
 use Rattle.calls.proofs.SelectorWords.{references-is, other-is, gapped-is, empty-is, spent-is, password-is, four}
 
@@ -121,7 +121,7 @@ module _ (x : Call) where
   pub elsewhere-is : Is (elsewhere x) (Elsewhere x)
   unfolding elsewhere
   elsewhere-is =
-      then-is (kind-is (λ k. among (2 ∷ 3 ∷ 4 ∷ []) k || isLook k) _ refl x) (λ n.
+      then-is (kind-is (λ k. among (2 ∷ 3 ∷ 4 ∷ 10 ∷ []) k || isLook k) _ refl x) (λ n.
       same-is (ap (λ (v : ℕ). not (eqb (x .args .current) v)) (handle-node (other-kind _ refl x n)))
       (not-is (eq-is (x .args .current) (nodeOf (handleOf x)))))
 
@@ -139,7 +139,7 @@ module _ (x : Call) where
     pub notPrimary-is : Is (notPrimary x) (NotPrimary x)
     unfolding notPrimary
     notPrimary-is =
-        named-is (kind-is (among (2 ∷ 3 ∷ 4 ∷ 9 ∷ [])) _ refl x) (other-kind _ refl x)
+        named-is (kind-is (among (2 ∷ 3 ∷ 4 ∷ 9 ∷ 10 ∷ [])) _ refl x) (other-kind _ refl x)
         (λ h. not (allFlat (widthOf h) (h .selector))) (λ n. other-is x (four x t (other-kind _ refl x n)))
 
     pub notReferenced-is : Is (notReferenced x) (NotReferenced x)
@@ -202,12 +202,26 @@ module _ (x : Call) where
     pub absent-is : Is (segmentAbsent x (tableAt s)) (SegmentAbsent x s)
     unfolding segmentAbsent
     absent-is =
-        then-is (kind-is (among (4 ∷ 5 ∷ 6 ∷ [])) _ refl x) (λ n.
+        then-is (kind-is (among (4 ∷ 5 ∷ 6 ∷ 10 ∷ [])) _ refl x) (λ n.
         same-is (ap isAbsent (handle-place s (other-kind _ refl x n))) (go (place x s)))
       where
         go : (p : Place) → Is (isAbsent p) (p ≡ Absent)
         go Absent = record { out = λ e. refl; into = λ r. refl }
         go (Present base length) = record { out = λ e. absurd (false≢true e); into = λ r. ap isAbsent r }
+
+    pub clusterFrozen-is : Is (clusterFrozen x (tableAt s)) (ClusterFrozen x s)
+    unfolding clusterFrozen noneFrozen
+    clusterFrozen-is =
+        then-is (kind-is (among (2 ∷ [])) _ refl x) (λ n.
+        same-is (ap (λ (k : ℕ). not (noneFrozen (tableAt s k))) (handle-record (other-kind _ refl x n)))
+        (some-is 8 (frozenOf (tableOf (clusterOf x s)))))
+
+    pub segmentFrozen-is : Is (segmentFrozen x (tableAt s)) (SegmentFrozen x s)
+    unfolding segmentFrozen
+    segmentFrozen-is =
+        then-is (kind-is (among (4 ∷ 6 ∷ [])) _ refl x) (λ n.
+        same-is (ap (λ (k : ℕ). frozenOf (tableAt s k) (x .args .segment)) (handle-record (other-kind _ refl x n)))
+        (holds-is _))
 
     pub short-is : Is (short x (tableAt s)) (Short x s)
     unfolding short

@@ -3,8 +3,10 @@
 -- argument. The shorthands are those of the numbers' lists.
 --     corner b             the primary handle, with sixteen bytes b, of node 3 and local number 7
 --     bare, edge           stores with that cluster: no segment; segment 7, the last three bytes of the node's memory
+--     sealed               that store with segment 7 frozen
 --     free, empty, full    calls done on the starting store, on the bare one, and on the one with the segment
---     BoundsDone           all these are done
+--     frozen               calls on the sealed one: 22 at the last segment of the last cluster, and what is done
+--     BoundsDone           all these are told as they say
 -- Assumes nothing.
 use mathlib.Core.Path.{_≡_}
 use Prim.Native.Nat.{ℕ}
@@ -14,9 +16,9 @@ use Rattle.handle.specs.Selectors.{flats}
 use Rattle.store.specs.declared.Place.the-variants.{Present}
 use Rattle.store.specs.declared.Cluster.{Cluster}
 use Rattle.store.specs.declared.Store.{Store}
-use Rattle.store.specs.Records.{startingStore, started, putRecord, withPlace}
+use Rattle.store.specs.Records.{startingStore, started, putRecord, withPlace, withMark}
 use Rattle.calls.specs.Calls.{makingCluster, deletingCluster, makingSegment, deletingSegment, reading}
-use Rattle.calls.specs.Calls.{writing, weakeningBy, reducing, renewing, validating, looking}
+use Rattle.calls.specs.Calls.{writing, weakeningBy, reducing, renewing, freezing, validating, looking}
 use Rattle.calls.specs.Cases.{sixteen, shown, room, Case, gives, toldOn, named}
 
 abbrev corner : ℕ → List ℕ
@@ -30,6 +32,9 @@ bare = putRecord startingStore 31 owned
 
 abbrev pub edge : Store
 edge = putRecord startingStore 31 (withPlace owned 7 (Present 4093 3))
+
+abbrev pub sealed : Store
+sealed = putRecord startingStore 31 (withMark (withPlace owned 7 (Present 4093 3)) 7)
 
 abbrev pub free : List Case
 free = gives 0 (makingCluster 3 7 (sixteen 1) (sixteen 2)) ∷ []
@@ -55,8 +60,19 @@ full =
     ∷ gives 0 (reducing 2 (corner 4))
     ∷ gives 0 (renewing 1 (corner 3) (sixteen 8))
     ∷ gives 0 (renewing 2 (corner 4) (sixteen 8))
+    ∷ gives 0 (freezing 3 7 (corner 4))
     ∷ gives 0 (validating 1 (corner 3))
     ∷ gives 0 (validating 2 (corner 4))
+    ∷ gives 0 (looking 3 7 (corner 3))
+    ∷ []
+
+abbrev pub frozen : List Case
+frozen =
+    gives 22 (deletingCluster 3 (corner 4))
+    ∷ gives 22 (deletingSegment 3 7 (corner 4))
+    ∷ gives 22 (writing 7 (corner 4) room)
+    ∷ gives 0 (freezing 3 7 (corner 4))
+    ∷ gives 0 (reading 7 (corner 3) room)
     ∷ gives 0 (looking 3 7 (corner 3))
     ∷ []
 
@@ -64,3 +80,4 @@ pub record BoundsDone : Type 0 where
   pub free : toldOn startingStore memory free ≡ named free
   pub empty : toldOn bare memory empty ≡ named empty
   pub full : toldOn edge memory full ≡ named full
+  pub frozen : toldOn sealed memory frozen ≡ named frozen

@@ -1,8 +1,8 @@
--- Document 01, "The calls" and the first sentences of "Two copies", with the look of document 02, §2: what a call carries
--- and what it looks at.
+-- Document 01, "The calls" and the first sentences of "Two copies", with the look of document 02, §2, and its §3, call 10:
+-- what a call carries and what it looks at.
 --     Copy                    the records of all clusters and the bytes of the slice
 --     start                   the starting store, with a memory of zeros
---     Kind                    the nine calls, validation and the look
+--     Kind                    the ten calls, validation and the look
 --     Arguments               what a call may carry: handles as 23 bytes, passwords as sixteen; `bytes` are a read's
 --                             buffer or a write's data
 --     Call, call              a kind and its arguments
@@ -21,6 +21,7 @@
 --                             else by its handle
 --     recordFor, recordNamed  its record's number; that of the cluster that a handle names
 --     placeFor                the place of the segment that a call is about
+--     frozenFor               that segment is frozen
 --     startFor                where the segment that a call is about begins in the slice
 --     partFor                 where it begins and ends there: decided by the call and the tables, never by a byte
 --     anyOf                   some handle of a list passes
@@ -35,7 +36,8 @@ use Rattle.handle.specs.declared.Handle.{Handle}
 use Rattle.handle.specs.Handles.{nodeOf, decoded}
 use Rattle.store.specs.declared.Place.{Place}
 use Rattle.store.specs.declared.Store.{Store}
-use Rattle.store.specs.Records.{Tables, startingStore, recordOf, placeAt, baseOf, lengthOf, address, readMode, writeMode}
+use Rattle.store.specs.Records.{Tables, startingStore, recordOf, placeAt, frozenOf, baseOf, lengthOf, address, readMode}
+use Rattle.store.specs.Records.{writeMode}
 use Rattle.calls.specs.declared.Part.{Part}
 
 pub record Copy : Type 0 where
@@ -48,7 +50,7 @@ start = record { store = startingStore; memory = replicate memory 0 }
 -- ---- calls
 
 pub data Kind : Type 0 where
-  newCluster deleteCluster newSegment deleteSegment read write weaken reduce newPassword validate look : Kind
+  newCluster deleteCluster newSegment deleteSegment read write weaken reduce newPassword freeze validate look : Kind
 
 pub record Arguments : Type 0 where
   pub current : ℕ
@@ -112,6 +114,9 @@ reducing mode handle = call reduce (arguments 0 0 mode 0 0 0 handle [] [] [])
 abbrev pub renewing : ℕ → List ℕ → List ℕ → Call
 renewing mode handle password = call newPassword (arguments 0 0 mode 0 0 0 handle password [] [])
 
+abbrev pub freezing : ℕ → ℕ → List ℕ → Call
+freezing current segment handle = call freeze (arguments current 0 0 segment 0 0 handle [] [] [])
+
 abbrev pub validating : ℕ → List ℕ → Call
 validating mode handle = call validate (arguments 0 0 mode 0 0 0 handle [] [] [])
 
@@ -128,6 +133,7 @@ code write = 6
 code weaken = 7
 code reduce = 8
 code newPassword = 9
+code freeze = 10
 code validate = 8
 code look = 5
 
@@ -145,11 +151,12 @@ isLook write = false
 isLook weaken = false
 isLook reduce = false
 isLook newPassword = false
+isLook freeze = false
 isLook validate = false
 isLook look = true
 
 abbrev pub opens : Kind → Bool
-opens k = among (2 ∷ 3 ∷ 4 ∷ 5 ∷ 6 ∷ 8 ∷ 9 ∷ []) k
+opens k = among (2 ∷ 3 ∷ 4 ∷ 5 ∷ 6 ∷ 8 ∷ 9 ∷ 10 ∷ []) k
 
 -- ---- what a kind looks at
 
@@ -198,6 +205,7 @@ uses write = columns o o o x o o x o o x
 uses weaken = columns o o o o o x x o o o
 uses reduce = columns o o x o o o x o o o
 uses newPassword = columns o o x o o o x x o o
+uses freeze = columns x o o x o o x o o o
 uses validate = columns o o x o o o x o o o
 uses look = columns x o o x o o x o o o
 
@@ -237,6 +245,9 @@ recordNamed h = recordOf (nodeOf h) (h .local)
 
 abbrev pub placeFor : Call → Tables → Place
 placeFor x ts = placeAt ts (recordFor x) (x .args .segment)
+
+abbrev pub frozenFor : Call → Tables → Bool
+frozenFor x ts = frozenOf (ts (recordFor x)) (x .args .segment)
 
 abbrev pub startFor : Call → Tables → ℕ
 startFor x ts = address (nodeFor x) (baseOf (placeFor x ts))

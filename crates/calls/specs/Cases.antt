@@ -1,4 +1,4 @@
--- Document 01, "Numbers a call may be turned down with", with document 02's 21, as computed lists. The conversion adds
+-- Document 01, "Numbers a call may be turned down with", with document 02's 21 and 22, as computed lists. The conversion adds
 -- its parameter to the first byte, and gives sixteen such bytes.
 --     added                     that conversion
 --     sixteen b                 sixteen bytes b
@@ -10,12 +10,15 @@
 --     nothing                   a selector that references nothing
 --     room, tight               buffers of three bytes and of two
 --     sample                    a store with that cluster: passwords of sixteen 3 and sixteen 4, and three bytes at 0
+--     marked                    that store with its segment frozen
 --     Case, gives               a number and a call that gets it
 --     damaged                   a call of every kind on a slice that lacks a byte: weakening alone does not get 1
---     refusals                  for each number from 2 on, a call of each kind that its row names; and a look done
+--     refusals                  for each number from 2 on but 22, a call of each kind that its row names; a look and a freeze
+--                               done
+--     frozen                    where the segment is frozen: 22 for each call that its rows name, and all others as ever
 --     toldOn s size cs          the numbers that the calls of the cases cs get on a store
 --     calls cs, named cs        the calls of the cases, and the numbers that they name
---     NumbersGiven              all these numbers are given, on that store
+--     NumbersGiven              all these numbers are given, on these stores
 -- Assumes nothing.
 use mathlib.Core.Path.{_≡_}
 use Prim.Native.Nat.{ℕ, _+_, _-_}
@@ -26,9 +29,9 @@ use Rattle.handle.specs.Selectors.{flats, inFirst}
 use Rattle.handle.specs.Handles.{Name, encoded}
 use Rattle.store.specs.declared.Place.the-variants.{Present}
 use Rattle.store.specs.declared.Store.{Store}
-use Rattle.store.specs.Records.{startingStore, started, recordOf, putRecord, withPlace}
+use Rattle.store.specs.Records.{startingStore, started, recordOf, putRecord, withPlace, withMark}
 use Rattle.calls.specs.Calls.{Call, makingCluster, deletingCluster, makingSegment, deletingSegment, reading}
-use Rattle.calls.specs.Calls.{writing, weakeningBy, reducing, renewing, validating, looking}
+use Rattle.calls.specs.Calls.{writing, weakeningBy, reducing, renewing, freezing, validating, looking}
 use Rattle.calls.specs.Numbers.{number}
 
 abbrev pub added : Name → List ℕ → ℕ → List ℕ
@@ -78,6 +81,9 @@ nothing = 240 ∷ 15 ∷ 255 ∷ 255 ∷ []
 abbrev pub sample : Store
 sample = putRecord startingStore (recordOf 1 2) (withPlace (started (sixteen 3) (sixteen 4)) 5 (Present 0 3))
 
+abbrev pub marked : Store
+marked = putRecord startingStore (recordOf 1 2) (withMark (withPlace (started (sixteen 3) (sixteen 4)) 5 (Present 0 3)) 5)
+
 abbrev pub room : List ℕ
 room = 0 ∷ 0 ∷ 0 ∷ []
 
@@ -103,6 +109,7 @@ damaged =
     ∷ gives 21 (weakeningBy 0 (primary 3))
     ∷ gives 1 (reducing 1 (primary 3))
     ∷ gives 1 (renewing 1 (primary 3) (sixteen 8))
+    ∷ gives 1 (freezing 1 5 (primary 4))
     ∷ gives 1 (validating 1 (primary 3))
     ∷ gives 1 (looking 1 5 (primary 3))
     -- 1 above 2, and above 3 and 9
@@ -114,6 +121,7 @@ damaged =
     ∷ gives 1 (writing 5 high room)
     ∷ gives 1 (reducing 1 far)
     ∷ gives 1 (renewing 1 high (sixteen 8))
+    ∷ gives 1 (freezing 4 5 far)
     ∷ gives 1 (validating 1 far)
     ∷ gives 1 (looking 4 5 far)
     ∷ gives 1 (reducing 3 (primary 9))
@@ -135,6 +143,9 @@ refusals =
     ∷ gives 2 (weakeningBy 0 high)
     ∷ gives 2 (reducing 1 far)
     ∷ gives 2 (renewing 1 high (sixteen 8))
+    ∷ gives 2 (freezing 4 5 (primary 4))
+    ∷ gives 2 (freezing 1 5 far)
+    ∷ gives 2 (freezing 1 5 high)
     ∷ gives 2 (validating 1 far)
     ∷ gives 2 (looking 4 5 (primary 3))
     ∷ gives 2 (looking 1 5 far)
@@ -148,6 +159,7 @@ refusals =
     ∷ gives 3 (reducing 0 (primary 3))
     ∷ gives 3 (reducing 3 (primary 3))
     ∷ gives 3 (renewing 3 (primary 3) (sixteen 8))
+    ∷ gives 3 (freezing 1 8 (primary 4))
     ∷ gives 3 (validating 3 (primary 3))
     ∷ gives 3 (looking 1 8 (primary 3))
     ∷ gives 4 (deletingCluster 1 gap)
@@ -158,11 +170,13 @@ refusals =
     ∷ gives 4 (weakeningBy 0 gap)
     ∷ gives 4 (reducing 1 gap)
     ∷ gives 4 (renewing 1 gap (sixteen 8))
+    ∷ gives 4 (freezing 1 5 gap)
     ∷ gives 4 (validating 1 gap)
     ∷ gives 4 (looking 1 5 gap)
     ∷ gives 5 (deletingCluster 0 (primary 4))
     ∷ gives 5 (makingSegment 0 6 2 (primary 4))
     ∷ gives 5 (deletingSegment 0 5 (primary 4))
+    ∷ gives 5 (freezing 0 5 (primary 4))
     ∷ gives 5 (looking 0 5 (primary 3))
     ∷ gives 6 (makingCluster 1 2 (sixteen 1) (sixteen 2))
     ∷ gives 7 (makingCluster 1 3 (sixteen 1) (sixteen 1))
@@ -173,6 +187,7 @@ refusals =
     ∷ gives 8 (writing 5 idle room)
     ∷ gives 8 (reducing 1 idle)
     ∷ gives 8 (renewing 1 idle (sixteen 8))
+    ∷ gives 8 (freezing 1 5 idle)
     ∷ gives 8 (validating 1 idle)
     ∷ gives 8 (looking 1 5 idle)
     ∷ gives 9 (deletingCluster 1 (primary 3))
@@ -182,6 +197,7 @@ refusals =
     ∷ gives 9 (writing 5 (primary 3) room)
     ∷ gives 9 (reducing 1 (primary 4))
     ∷ gives 9 (renewing 2 (primary 3) (sixteen 8))
+    ∷ gives 9 (freezing 1 5 (primary 3))
     ∷ gives 9 (validating 1 (weak 4))
     ∷ gives 9 (looking 1 5 (primary 4))
     ∷ gives 9 (looking 1 5 (weak 4))
@@ -189,6 +205,7 @@ refusals =
     ∷ gives 10 (makingSegment 1 6 2 (weak 4))
     ∷ gives 10 (deletingSegment 1 5 (weak 4))
     ∷ gives 10 (renewing 1 (weak 3) (sixteen 8))
+    ∷ gives 10 (freezing 1 5 (weak 4))
     ∷ gives 11 (reading 5 (other 3) room)
     ∷ gives 11 (writing 5 (other 4) room)
     ∷ gives 11 (looking 1 5 (other 3))
@@ -200,17 +217,42 @@ refusals =
     ∷ gives 14 (deletingSegment 1 6 (primary 4))
     ∷ gives 14 (reading 6 (primary 3) room)
     ∷ gives 14 (writing 6 (primary 4) room)
+    ∷ gives 14 (freezing 1 6 (primary 4))
     ∷ gives 14 (looking 1 6 (primary 3))
     ∷ gives 15 (reading 5 (weak 3) tight)
     ∷ gives 15 (writing 5 (weak 4) tight)
     -- a look brings no buffer that could be short
     ∷ gives 0 (looking 1 5 (weak 3))
+    ∷ gives 0 (freezing 1 5 (primary 4))
     ∷ gives 16 (makingSegment 1 6 4094 (primary 4))
     ∷ gives 17 (weakeningBy 239 (shown 1 2 3 spent))
     ∷ gives 21 (weakeningBy 0 (primary 3))
     ∷ gives 21 (weakeningBy 223 (weak 3))
     ∷ gives 21 (weakeningBy 255 (shown 1 2 3 nothing))
     ∷ gives 21 (weakeningBy 255 (shown 1 2 3 (240 ∷ 15 ∷ 254 ∷ 253 ∷ [])))
+    ∷ []
+
+abbrev pub frozen : List Case
+frozen =
+    gives 22 (deletingCluster 1 (primary 4))
+    ∷ gives 22 (deletingSegment 1 5 (primary 4))
+    ∷ gives 22 (writing 5 (primary 4) room)
+    ∷ gives 22 (writing 5 (weak 4) room)
+    -- the segments beside it are absent as ever, and it is present
+    ∷ gives 14 (deletingSegment 1 6 (primary 4))
+    ∷ gives 14 (writing 6 (primary 4) room)
+    ∷ gives 14 (freezing 1 6 (primary 4))
+    ∷ gives 13 (makingSegment 1 5 2 (primary 4))
+    -- frozen twice, and all that does not alter it
+    ∷ gives 0 (freezing 1 5 (primary 4))
+    ∷ gives 0 (makingSegment 1 6 2 (primary 4))
+    ∷ gives 0 (reading 5 (primary 3) room)
+    ∷ gives 15 (reading 5 (primary 3) tight)
+    ∷ gives 0 (weakeningBy 32 (primary 4))
+    ∷ gives 0 (reducing 2 (weak 4))
+    ∷ gives 0 (renewing 2 (primary 4) (sixteen 8))
+    ∷ gives 0 (validating 2 (weak 4))
+    ∷ gives 0 (looking 1 5 (weak 3))
     ∷ []
 
 abbrev pub calls : List Case → List Call
@@ -225,3 +267,4 @@ named cs = map (λ (c : Case). c .number) cs
 pub record NumbersGiven : Type 0 where
   pub damaged : toldOn sample (memory - 1) damaged ≡ named damaged
   pub refusals : toldOn sample memory refusals ≡ named refusals
+  pub frozen : toldOn marked memory frozen ≡ named frozen

@@ -8,6 +8,7 @@ pub mod Literals
 pub mod ReadWords
 pub mod MadeWords
 pub mod LookWords
+pub mod FreezeWords
 pub mod EmptyWords
 pub mod Examples
 pub mod Cases

@@ -1,19 +1,22 @@
--- Document 01, "Numbers a call may be turned down with": the rows 1 to 17, and document 02's 21, a test for each, in the
--- order in which they are looked at. Where a row names call 5, a look is meant too, except in row 15; and a look has row 5.
+-- Document 01, "Numbers a call may be turned down with": the rows 1 to 17, and document 02's 21 and 22, a test for each, in
+-- the order in which they are looked at; 22 stands in two places. Where a row names call 5, a look is meant too, except in
+-- row 15; and a look has row 5. Call 10 has the rows that document 01 gives to call 4.
 --     unsound              1, all but 7: the store is not sound
 --     noPlace              2: a node above 3 or a local number above 7, in a handle or in the call
 --     badField             3: badMode, not 1 or 2; badSegment, above 7; badSize, 0 or above 4,096
 --     gappedHandle         4: a handle's selector is gapped
---     elsewhere            5, for 2, 3, 4 and a look: the current node is not the handle's
+--     elsewhere            5, for 2, 3, 4, 10 and a look: the current node is not the handle's
 --     inUse                6, for 1: the cluster is active
 --     twins                7, for 1: the two passwords are equal
---     inactiveCluster      8, for 2 to 6, 8, 9: a handle's cluster is inactive
---     violated             9, for 2 to 6, 8, 9: a handle does not validate in the mode needed
---     notPrimary           10, for 2, 3, 4, 9: some subselector is not flat
+--     inactiveCluster      8, for 2 to 6, 8, 9, 10: a handle's cluster is inactive
+--     violated             9, for 2 to 6, 8, 9, 10: a handle does not validate in the mode needed
+--     notPrimary           10, for 2, 3, 4, 9, 10: some subselector is not flat
+--     clusterFrozen        22, for 2: some segment of the cluster is frozen
 --     notReferenced        11, for 5, 6: the handle does not reference the segment
 --     oldPassword          12, for 9: the new password isOld: it equals either current primary password
 --     segmentPresent       13, for 3: the segment is present
---     segmentAbsent        14, for 4, 5, 6: the segment is absent
+--     segmentAbsent        14, for 4, 5, 6, 10: the segment is absent
+--     segmentFrozen        22, for 4, 6: the segment is frozen
 --     short                15, for 5, 6: the buffer or the data is shorter than the segment; a look brings neither
 --     fullNode             16, for 3: no base exists
 --     emptyHandle          21, for 7: no segment is both referenced and kept by the mask
@@ -39,13 +42,13 @@ use Rattle.handle.specs.Selectors.{references, allFlat, gapped, keepsNone, spen
 use Rattle.handle.specs.Handles.{Name, nameOf, widthOf, samePassword, noSuchPlace, Row, firstOf, validates}
 use Rattle.store.specs.declared.Cluster.{Cluster}
 use Rattle.store.specs.declared.Store.{Store}
-use Rattle.store.specs.Records.{Tables, clusterAt, tableAt, readMode, writeMode, lengthOf, primaryOf}
+use Rattle.store.specs.Records.{Tables, clusterAt, tableAt, noneFrozen, readMode, writeMode, lengthOf, primaryOf}
 use Rattle.store.specs.Sound.{isAbsent, sound}
 use Rattle.numbers.specs.Numbers.{noRoomNumber}
 use Rattle.store.specs.Placement.{placement}
 use Rattle.calls.specs.Calls.{Call, among, isLook, opens, uses, needed}
 use Rattle.calls.specs.Calls.{handleOf, presented, anyOf, buffer, nodeFor, recordFor, recordNamed}
-use Rattle.calls.specs.Calls.{placeFor}
+use Rattle.calls.specs.Calls.{placeFor, frozenFor}
 
 -- ---- tests of the call alone
 
@@ -72,14 +75,14 @@ gappedHandle x = anyOf (λ h. gapped (widthOf h) (h .selector)) (presented x)
 
 unfoldable pub elsewhere : Call → Bool
 elsewhere x =
-    (among (2 ∷ 3 ∷ 4 ∷ []) (x .kind) || isLook (x .kind)) && not (eqb (x .args .current) (nodeFor x))
+    (among (2 ∷ 3 ∷ 4 ∷ 10 ∷ []) (x .kind) || isLook (x .kind)) && not (eqb (x .args .current) (nodeFor x))
 
 unfoldable pub twins : Call → Bool
 twins x = among (1 ∷ []) (x .kind) && samePassword (x .args .first) (x .args .second)
 
 unfoldable pub notPrimary : Call → Bool
 notPrimary x =
-    among (2 ∷ 3 ∷ 4 ∷ 9 ∷ []) (x .kind) && anyOf (λ h. not (allFlat (widthOf h) (h .selector))) (presented x)
+    among (2 ∷ 3 ∷ 4 ∷ 9 ∷ 10 ∷ []) (x .kind) && anyOf (λ h. not (allFlat (widthOf h) (h .selector))) (presented x)
 
 unfoldable pub notReferenced : Call → Bool
 notReferenced x = among (5 ∷ 6 ∷ []) (x .kind) && not (references (handleOf x .selector) (x .args .segment))
@@ -100,11 +103,17 @@ inUse x ts = among (1 ∷ []) (x .kind) && ts (recordFor x) .active
 unfoldable pub inactiveCluster : Call → Tables → Bool
 inactiveCluster x ts = opens (x .kind) && anyOf (λ h. not (ts (recordNamed h) .active)) (presented x)
 
+unfoldable pub clusterFrozen : Call → Tables → Bool
+clusterFrozen x ts = among (2 ∷ []) (x .kind) && not (noneFrozen (ts (recordFor x)))
+
 unfoldable pub segmentPresent : Call → Tables → Bool
 segmentPresent x ts = among (3 ∷ []) (x .kind) && not (isAbsent (placeFor x ts))
 
 unfoldable pub segmentAbsent : Call → Tables → Bool
-segmentAbsent x ts = among (4 ∷ 5 ∷ 6 ∷ []) (x .kind) && isAbsent (placeFor x ts)
+segmentAbsent x ts = among (4 ∷ 5 ∷ 6 ∷ 10 ∷ []) (x .kind) && isAbsent (placeFor x ts)
+
+unfoldable pub segmentFrozen : Call → Tables → Bool
+segmentFrozen x ts = among (4 ∷ 6 ∷ []) (x .kind) && frozenFor x ts
 
 unfoldable pub short : Call → Tables → Bool
 short x ts =
@@ -160,10 +169,12 @@ module _ (f : Name → List ℕ → ℕ → List ℕ) where
       ∷ byTables 8 inactiveCluster
       ∷ byRecords 9 violated
       ∷ byCall 10 notPrimary
+      ∷ byTables 22 clusterFrozen
       ∷ byCall 11 notReferenced
       ∷ byRecords 12 oldPassword
       ∷ byTables 13 segmentPresent
       ∷ byTables 14 segmentAbsent
+      ∷ byTables 22 segmentFrozen
       ∷ byTables 15 short
       ∷ byTables 16 fullNode
       ∷ byCall 21 emptyHandle
@@ -175,7 +186,7 @@ module _ (f : Name → List ℕ → ℕ → List ℕ) where
 
 unfoldable pub otherTests : Unit {0}
 unfolding unsound noPlace badMode badSegment badSize badField gappedHandle elsewhere inUse twins inactiveCluster notPrimary
-    notReferenced oldPassword segmentPresent segmentAbsent short fullNode emptyHandle spentHandle
+    clusterFrozen notReferenced oldPassword segmentPresent segmentAbsent segmentFrozen short fullNode emptyHandle spentHandle
 otherTests = tt
 
 unfoldable pub tests : Unit {0}

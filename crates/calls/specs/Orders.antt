@@ -3,8 +3,11 @@
 --     farGap, idleGap, idleWrong    handles that are gapped and name a node above 3, are gapped and name an inactive
 --                          cluster, or name one and do not validate
 --     Order, over u l x    a call to which two rows apply, the upper and the lower
---     applies n x          the row with the number n applies to the call
+--     applies s n x        a row with the number n applies to the call on the store s
 --     orders               every two rows that stand next to each other for a call, where they can meet
+--     frozen               those of 22, where the segment is frozen
+--     numbersOf, uppers    the numbers that the calls get on a store, and the upper ones
+--     Meet                 the lower rows apply too
 --     OrdersGiven          the upper number is given, and the lower row applies too
 -- Assumes nothing.
 use mathlib.Core.Path.{_≡_}
@@ -13,12 +16,13 @@ use mathlib.Core.Bool.{Bool, true}
 use mathlib.Core.List.{List, [], _∷_, map}
 use Rattle.sizes.specs.Sizes.{segments, memory}
 use Rattle.handle.specs.Selectors.{flats}
+use Rattle.store.specs.declared.Store.{Store}
 use Rattle.calls.specs.Calls.{Call, makingCluster, deletingCluster, makingSegment, deletingSegment, reading}
-use Rattle.calls.specs.Calls.{writing, weakeningBy, reducing, renewing, validating, looking}
+use Rattle.calls.specs.Calls.{writing, weakeningBy, reducing, renewing, freezing, validating, looking}
 use Rattle.calls.specs.Numbers.{at, rows, number}
 use Rattle.calls.specs.Clear.{holding}
 use Rattle.calls.specs.Cases.{added, sixteen, shown, primary, weak, other, gap, far, high, idle, spent, nothing, room, tight}
-use Rattle.calls.specs.Cases.{sample}
+use Rattle.calls.specs.Cases.{sample, marked}
 
 abbrev farGap : List ℕ
 farGap = shown 4 2 3 (255 ∷ 254 ∷ 255 ∷ 255 ∷ [])
@@ -37,11 +41,11 @@ pub record Order : Type 0 where
 abbrev over : ℕ → ℕ → Call → Order
 over u l x = record { upper = u; lower = l; call = x }
 
-abbrev pub applies : ℕ → Call → Bool
-applies n x = holding n (at x sample (rows added memory))
+abbrev pub applies : Store → ℕ → Call → Bool
+applies s n x = holding n (at x s (rows added memory))
 
--- every two rows that stand next to each other for a call, where they can meet: a segment that is absent has no length,
--- and a gapped handle has a flat subselector
+-- every two rows that stand next to each other for a call, where they can meet: a segment that is absent has no length and
+-- is not frozen, and a gapped handle has a flat subselector
 abbrev pub orders : List Order
 orders =
     -- 2 above 3, 4, 5, 6, 7, 17 and 21
@@ -59,6 +63,8 @@ orders =
     ∷ over 2 21 (weakeningBy 255 (shown 1 8 3 nothing))
     ∷ over 2 3 (reducing 3 far)
     ∷ over 2 3 (renewing 3 high (sixteen 8))
+    ∷ over 2 3 (freezing 1 8 high)
+    ∷ over 2 3 (freezing 4 8 (primary 4))
     ∷ over 2 3 (validating 3 far)
     ∷ over 2 3 (looking 1 8 far)
     ∷ over 2 3 (looking 4 8 (primary 3))
@@ -70,12 +76,14 @@ orders =
     ∷ over 3 4 (writing 8 gap room)
     ∷ over 3 4 (reducing 3 gap)
     ∷ over 3 4 (renewing 0 gap (sixteen 8))
+    ∷ over 3 4 (freezing 1 8 gap)
     ∷ over 3 4 (validating 3 gap)
     ∷ over 3 4 (looking 1 8 gap)
     -- 4 above 5, and above 8
     ∷ over 4 5 (deletingCluster 0 gap)
     ∷ over 4 5 (makingSegment 0 6 2 gap)
     ∷ over 4 5 (deletingSegment 0 5 gap)
+    ∷ over 4 5 (freezing 0 5 gap)
     ∷ over 4 5 (looking 0 5 gap)
     ∷ over 4 8 (reading 5 idleGap room)
     ∷ over 4 8 (writing 5 idleGap room)
@@ -89,6 +97,7 @@ orders =
     ∷ over 5 8 (deletingCluster 0 idle)
     ∷ over 5 8 (makingSegment 0 6 2 idle)
     ∷ over 5 8 (deletingSegment 0 5 idle)
+    ∷ over 5 8 (freezing 0 5 idle)
     ∷ over 5 8 (looking 0 5 idle)
     ∷ over 5 9 (looking 0 5 (primary 4))
     ∷ over 5 11 (looking 0 5 (other 3))
@@ -103,6 +112,7 @@ orders =
     ∷ over 8 9 (writing 5 idleWrong room)
     ∷ over 8 9 (reducing 1 idleWrong)
     ∷ over 8 9 (renewing 1 idleWrong (sixteen 8))
+    ∷ over 8 9 (freezing 1 5 idleWrong)
     ∷ over 8 9 (validating 1 idleWrong)
     ∷ over 8 9 (looking 1 5 idleWrong)
     -- 9 above 10, above 11, and above 13 and 14
@@ -110,16 +120,19 @@ orders =
     ∷ over 9 10 (makingSegment 1 6 2 (weak 3))
     ∷ over 9 10 (deletingSegment 1 5 (weak 3))
     ∷ over 9 10 (renewing 1 (weak 4) (sixteen 8))
+    ∷ over 9 10 (freezing 1 5 (weak 3))
     ∷ over 9 11 (reading 5 (other 4) room)
     ∷ over 9 11 (writing 5 (other 3) room)
     ∷ over 9 11 (looking 1 5 (other 4))
     ∷ over 9 13 (makingSegment 1 5 2 (primary 3))
     ∷ over 9 14 (deletingSegment 1 6 (primary 3))
+    ∷ over 9 14 (freezing 1 6 (primary 3))
     ∷ over 9 14 (looking 1 6 (primary 4))
     -- 10 above 12, 13 and 14
     ∷ over 10 12 (renewing 1 (weak 3) (sixteen 3))
     ∷ over 10 13 (makingSegment 1 5 2 (weak 4))
     ∷ over 10 14 (deletingSegment 1 6 (weak 4))
+    ∷ over 10 14 (freezing 1 6 (weak 4))
     -- 11 above 14, and above 15
     ∷ over 11 14 (reading 6 (weak 3) room)
     ∷ over 11 14 (writing 6 (weak 4) room)
@@ -133,6 +146,30 @@ orders =
     ∷ over 13 16 (makingSegment 1 5 4094 (primary 4))
     ∷ []
 
+-- where the segment is frozen: 9, 10 and 11 above 22, and 22 above 15
+abbrev pub frozen : List Order
+frozen =
+    over 9 22 (deletingCluster 1 (primary 3))
+    ∷ over 9 22 (deletingSegment 1 5 (primary 3))
+    ∷ over 9 22 (writing 5 (primary 3) room)
+    ∷ over 10 22 (deletingCluster 1 (weak 4))
+    ∷ over 10 22 (deletingSegment 1 5 (weak 4))
+    ∷ over 11 22 (writing 5 (other 4) room)
+    ∷ over 22 15 (writing 5 (primary 4) tight)
+    ∷ over 22 15 (writing 5 (weak 4) [])
+    ∷ []
+
+abbrev pub numbersOf : Store → List Order → List ℕ
+numbersOf s os = map (λ (o : Order). number added (o .call) s memory) os
+
+abbrev pub uppers : List Order → List ℕ
+uppers os = map (λ (o : Order). o .upper) os
+
+abbrev pub Meet : Store → List Order → Type 0
+Meet s os = map (λ (o : Order). applies s (o .lower) (o .call)) os ≡ map (λ (o : Order). true) os
+
 pub record OrdersGiven : Type 0 where
-  pub told : map (λ (o : Order). number added (o .call) sample memory) orders ≡ map (λ (o : Order). o .upper) orders
-  pub meet : map (λ (o : Order). applies (o .lower) (o .call)) orders ≡ map (λ (o : Order). true) orders
+  pub told : numbersOf sample orders ≡ uppers orders
+  pub meet : Meet sample orders
+  pub told-frozen : numbersOf marked frozen ≡ uppers frozen
+  pub meet-frozen : Meet marked frozen

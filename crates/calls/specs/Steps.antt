@@ -1,5 +1,6 @@
 -- Document 01, "The calls": what a call done gives and leaves; what a refusal gives; and "Two copies": a list of calls,
--- each working on what the one before it left. With the look of document 02, §2, whose bytes shown are part of the reply.
+-- each working on what the one before it left. With the look of document 02, §2, whose bytes shown are part of the reply, and
+-- its §3, call 10.
 --     Reply               the number, two handles as 23 bytes, a count, a length, the buffer afterwards, and the bytes
 --                         shown; a handle that is not given is 23 zero bytes, a count or length that is not told is
 --                         zero, and where nothing is shown there are no bytes
@@ -19,10 +20,11 @@
 -- What each call leaves, and the copy as it was for the others:
 --     clusterMade         1: the cluster is active, with the two passwords
 --     clusterDeleted      2: the record is inactive, as in the starting store
---     segmentMade         3: the segment is present at the base that placement gives, and its bytes are zero
+--     segmentMade         3: the segment is present at the base that placement gives, not frozen, and its bytes are zero
 --     segmentDeleted      4: the segment is absent; memory bytes stay
 --     segmentWritten      6: the segment holds the first length bytes of the data
 --     passwordReplaced    9: the primary password of the mode named is the new one
+--     segmentMarked       10: the segment is frozen
 --     left k              the copy that a call of the kind k leaves, once done
 -- What each call gives:
 --     segmentRead         5: the first length bytes of the buffer hold the segment
@@ -53,11 +55,11 @@ use Rattle.handle.specs.Opens.{primaryHandle}
 use Rattle.store.specs.declared.Place.{Place}
 use Rattle.store.specs.declared.Place.the-variants.{Absent, Present}
 use Rattle.store.specs.declared.Cluster.{Cluster}
-use Rattle.store.specs.Records.{Tables, inactive, started, clusterAt, tableAt, putRecord, withPlace, withPassword}
+use Rattle.store.specs.Records.{Tables, inactive, started, clusterAt, tableAt, putRecord, withPlace, withMark, withPassword}
 use Rattle.store.specs.Placement.{placement}
 use Rattle.calls.specs.Calls.{Copy, Call, Kind, newCluster, deleteCluster, newSegment, deleteSegment}
 use Rattle.store.specs.Records.{lengthOf, address, primaryOf}
-use Rattle.calls.specs.Calls.{read, write, weaken, reduce, newPassword, validate, look}
+use Rattle.calls.specs.Calls.{read, write, weaken, reduce, newPassword, freeze, validate, look}
 use Rattle.calls.specs.Calls.{handleOf, buffer, nodeFor, localFor, recordFor, placeFor}
 use Rattle.calls.specs.Calls.{startFor, partFor}
 use Rattle.calls.specs.declared.Part.{Part}
@@ -161,6 +163,9 @@ segmentWritten x c =
 unfoldable pub passwordReplaced : Call → Copy → Copy
 passwordReplaced x c = putCluster c (recordFor x) (withPassword (about x c) (x .args .mode) (x .args .first))
 
+unfoldable pub segmentMarked : Call → Copy → Copy
+segmentMarked x c = putCluster c (recordFor x) (withMark (about x c) (x .args .segment))
+
 unfoldable pub left : Kind → Call → Copy → Copy
 left newCluster x c = clusterMade x c
 left deleteCluster x c = clusterDeleted x c
@@ -171,6 +176,7 @@ left write x c = segmentWritten x c
 left weaken x c = c
 left reduce x c = c
 left newPassword x c = passwordReplaced x c
+left freeze x c = segmentMarked x c
 left validate x c = c
 left look x c = c
 
@@ -208,6 +214,7 @@ module _ (f : Name → List ℕ → ℕ → List ℕ) where
   given reduce x c = handles (encoded (reducedFrom x c)) zeroHandle 0
   given newPassword x c =
       handles (encoded (primaryHandle (widthOf (handleOf x)) (nameOf (handleOf x)) (x .args .first))) zeroHandle 0
+  given freeze x c = plain 0 []
   given validate x c = plain 0 []
   given look x c = segmentShown x c
 
@@ -228,6 +235,6 @@ abbrev pub aesStep : Call → Copy → Outcome
 aesStep = step product
 
 unfoldable pub effects : Unit {0}
-unfolding left given clusterMade clusterDeleted segmentMade segmentDeleted segmentWritten passwordReplaced segmentRead
-    segmentShown
+unfolding left given clusterMade clusterDeleted segmentMade segmentDeleted segmentWritten passwordReplaced
+    segmentMarked segmentRead segmentShown
 effects = tt

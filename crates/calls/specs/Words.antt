@@ -1,7 +1,7 @@
 -- Document 01, "Numbers a call may be turned down with", row by row in the table's own words and numbers, with document 02's
--- 21 and the look, which has the rows of call 5 but 15, and row 5; nothing here is a test, and `number` (Numbers) is held to
--- it both ways. The calls that a row names are listed by kind, in the order of their codes, validation and the look last;
--- validation stands with call 8, whose number it gives. The cluster of node v and local number l is record v * 8 + l.
+-- 21; its 22, in two places; its call 10, which has the rows of call 4; and the look, which has the rows of call 5 but 15,
+-- and row 5. Nothing here is a test, and `number` (Numbers) is held to it both ways. The calls that a row names are listed by
+-- kind, in the order of their codes, validation and the look last; validation stands with call 8, whose number it gives. The cluster of node v and local number l is record v * 8 + l.
 --     Named ks x           the call x is of one of the kinds ks
 --     Handled x            the call takes a handle: all but 1
 --     Taken x              it takes it as 23 bytes
@@ -13,12 +13,13 @@
 --     cluster s v l        the record of the cluster of node v and local number l
 --     clusterOf x s        that of the cluster which the call's handle names
 --     place x s            the place of the segment which the call names, in that cluster
+--     frozen x s i         segment i of that cluster is frozen
 --     Converted g p s q    the step of validation by the subselector s: a flat one is skipped and q is p; by another p goes
 --                          through the conversion g with s and comes out as q
 --     Chain g p x          the chain from the primary password p, by subselector 0 first, ends as the handle's password
---     ReadMode, WriteMode  the mode needed: read for 5 and a look, write for 2, 3, 4 and 6, the one named for 8 and 9
+--     ReadMode, WriteMode  the mode needed: read for 5 and a look, write for 2, 3, 4, 6 and 10, the one named for 8 and 9
 --     Valid f x s          the handle validates in the mode needed
---     Unsound .. Spent     the eighteen rows
+--     Unsound .. Spent     the twenty rows
 --     Entry, table         a number and its words; the table, nearest the top first
 --     Nothing ls           no words of ls hold
 --     Told ls n            the words of the entry with number n hold, and none above it
@@ -36,11 +37,11 @@ use Rattle.store.specs.declared.Place.{Place}
 use Rattle.store.specs.declared.Place.the-variants.{Absent, Present}
 use Rattle.store.specs.declared.Cluster.{Cluster}
 use Rattle.store.specs.declared.Store.{Store}
-use Rattle.store.specs.Records.{tableOf, clusterAt, placeOf}
+use Rattle.store.specs.Records.{tableOf, clusterAt, placeOf, frozenOf}
 use Rattle.store.specs.SoundWords.{SoundInWords}
 use Rattle.store.specs.PlacementWords.{Room}
 use Rattle.calls.specs.Calls.{Call, Kind, newCluster, deleteCluster, newSegment, deleteSegment, read, write, weaken}
-use Rattle.calls.specs.Calls.{reduce, newPassword, validate, look, handleOf}
+use Rattle.calls.specs.Calls.{reduce, newPassword, freeze, validate, look, handleOf}
 use Rattle.calls.specs.Numbers.{number}
 
 -- ---- the calls that a row names
@@ -55,11 +56,11 @@ Handled x = x .kind ≢ newCluster
 abbrev pub Taken : Call → Type 0
 Taken x = Handled x → length (x .args .handle) ≡ 23
 
--- 2 to 6, 8, 9, and a look
+-- 2 to 6, 8, 9, 10, and a look
 abbrev pub Opening : Call → Type 0
 Opening x =
     Named
-    (deleteCluster ∷ newSegment ∷ deleteSegment ∷ read ∷ write ∷ reduce ∷ newPassword ∷ validate ∷ look ∷ []) x
+    (deleteCluster ∷ newSegment ∷ deleteSegment ∷ read ∷ write ∷ reduce ∷ newPassword ∷ freeze ∷ validate ∷ look ∷ []) x
 
 -- ---- handles and clusters
 
@@ -90,6 +91,9 @@ clusterOf x s = cluster s (nodeOf (handleOf x)) (handleOf x .local)
 abbrev pub place : Call → Store → Place
 place x s = placeOf (tableOf (clusterOf x s)) (x .args .segment)
 
+abbrev pub frozen : Call → Store → ℕ → Type 0
+frozen x s i = frozenOf (tableOf (clusterOf x s)) i ≡ true
+
 -- ---- validation
 
 abbrev pub Converted : (List ℕ → ℕ → List ℕ) → List ℕ → ℕ → List ℕ → Type 0
@@ -111,7 +115,7 @@ ReadMode x = Named (read ∷ look ∷ []) x ⊎ (Named (reduce ∷ newPassword �
 
 abbrev pub WriteMode : Call → Type 0
 WriteMode x =
-    Named (deleteCluster ∷ newSegment ∷ deleteSegment ∷ write ∷ []) x
+    Named (deleteCluster ∷ newSegment ∷ deleteSegment ∷ write ∷ freeze ∷ []) x
     ⊎ (Named (reduce ∷ newPassword ∷ validate ∷ []) x × (x .args .mode ≡ 2))
 
 abbrev pub Valid : (Name → List ℕ → ℕ → List ℕ) → Call → Store → Type 0
@@ -125,20 +129,20 @@ Valid f x s =
 abbrev pub Unsound : ℕ → Call → Store → Type 0
 Unsound size x s = (x .kind ≢ weaken) × ¬ SoundInWords s size
 
--- 2: node above 3 or local number above 7, in the handle or the call. Calls 1 to 4 and a look name a current node, 1 a local
--- number
+-- 2: node above 3 or local number above 7, in the handle or the call. Calls 1 to 4, 10 and a look name a current node, 1 a
+-- local number
 abbrev pub NoSuchPlace : Call → Type 0
 NoSuchPlace x =
     (Handled x × ((3 < nodeOf (handleOf x)) ⊎ (7 < handleOf x .local)))
-    ⊎ (Named (newCluster ∷ deleteCluster ∷ newSegment ∷ deleteSegment ∷ look ∷ []) x × (3 < x .args .current))
+    ⊎ (Named (newCluster ∷ deleteCluster ∷ newSegment ∷ deleteSegment ∷ freeze ∷ look ∷ []) x × (3 < x .args .current))
     ⊎ (Named (newCluster ∷ []) x × (7 < x .args .local))
 
--- 3: mode not 1 or 2; segment above 7; size 0 or above 4,096. A mode is named by 8 and 9, a segment by 3 to 6 and a look, a
--- size by 3
+-- 3: mode not 1 or 2; segment above 7; size 0 or above 4,096. A mode is named by 8 and 9, a segment by 3 to 6, 10 and a
+-- look, a size by 3
 abbrev pub Field : Call → Type 0
 Field x =
     (Named (reduce ∷ newPassword ∷ validate ∷ []) x × (x .args .mode ≢ 1) × (x .args .mode ≢ 2))
-    ⊎ (Named (newSegment ∷ deleteSegment ∷ read ∷ write ∷ look ∷ []) x × (7 < x .args .segment))
+    ⊎ (Named (newSegment ∷ deleteSegment ∷ read ∷ write ∷ freeze ∷ look ∷ []) x × (7 < x .args .segment))
     ⊎ (Named (newSegment ∷ []) x × ((x .args .size ≡ 0) ⊎ (4096 < x .args .size)))
 
 -- 4: the handle's selector is gapped: a flat subselector j stands below one, k, that is not flat
@@ -147,10 +151,10 @@ Gapped x =
     Handled x
     × ((j : ℕ) × (k : ℕ) × (j < k) × (k < 4) × (subselector x j ≡ 255) × (subselector x k ≢ 255))
 
--- 5, for 2, 3, 4 and a look: the current node is not the handle's
+-- 5, for 2, 3, 4, 10 and a look: the current node is not the handle's
 abbrev pub Elsewhere : Call → Type 0
 Elsewhere x =
-    Named (deleteCluster ∷ newSegment ∷ deleteSegment ∷ look ∷ []) x × (x .args .current ≢ nodeOf (handleOf x))
+    Named (deleteCluster ∷ newSegment ∷ deleteSegment ∷ freeze ∷ look ∷ []) x × (x .args .current ≢ nodeOf (handleOf x))
 
 -- 6, for 1: the cluster is active
 abbrev pub InUse : Call → Store → Type 0
@@ -160,19 +164,23 @@ InUse x s = Named (newCluster ∷ []) x × (cluster s (x .args .current) (x .arg
 abbrev pub Twins : Call → Type 0
 Twins x = Named (newCluster ∷ []) x × SamePassword (x .args .first) (x .args .second)
 
--- 8, for 2 to 6, 8, 9 and a look: the cluster is inactive
+-- 8, for 2 to 6, 8, 9, 10 and a look: the cluster is inactive
 abbrev pub Inactive : Call → Store → Type 0
 Inactive x s = Opening x × (clusterOf x s .active ≡ false)
 
--- 9, for 2 to 6, 8, 9 and a look: the handle does not validate in the mode needed
+-- 9, for 2 to 6, 8, 9, 10 and a look: the handle does not validate in the mode needed
 abbrev pub Violated : (Name → List ℕ → ℕ → List ℕ) → Call → Store → Type 0
 Violated f x s = Opening x × ¬ Valid f x s
 
--- 10, for 2, 3, 4, 9: some subselector is not flat
+-- 10, for 2, 3, 4, 9, 10: some subselector is not flat
 abbrev pub NotPrimary : Call → Type 0
 NotPrimary x =
-    Named (deleteCluster ∷ newSegment ∷ deleteSegment ∷ newPassword ∷ []) x
+    Named (deleteCluster ∷ newSegment ∷ deleteSegment ∷ newPassword ∷ freeze ∷ []) x
     × ((k : ℕ) × (k < 4) × (subselector x k ≢ 255))
+
+-- 22, for 2: any of the cluster's segments is frozen
+abbrev pub ClusterFrozen : Call → Store → Type 0
+ClusterFrozen x s = Named (deleteCluster ∷ []) x × ((i : ℕ) × (i < 8) × frozen x s i)
 
 -- 11, for 5, 6 and a look: the handle does not reference the segment
 abbrev pub NotReferenced : Call → Type 0
@@ -188,9 +196,13 @@ OldPassword x s =
 abbrev pub SegmentPresent : Call → Store → Type 0
 SegmentPresent x s = Named (newSegment ∷ []) x × ((base : ℕ) × (length : ℕ) × (place x s ≡ Present base length))
 
--- 14, for 4, 5, 6 and a look: the segment is absent
+-- 14, for 4, 5, 6, 10 and a look: the segment is absent
 abbrev pub SegmentAbsent : Call → Store → Type 0
-SegmentAbsent x s = Named (deleteSegment ∷ read ∷ write ∷ look ∷ []) x × (place x s ≡ Absent)
+SegmentAbsent x s = Named (deleteSegment ∷ read ∷ write ∷ freeze ∷ look ∷ []) x × (place x s ≡ Absent)
+
+-- 22, for 4, 6: the segment is frozen
+abbrev pub SegmentFrozen : Call → Store → Type 0
+SegmentFrozen x s = Named (deleteSegment ∷ write ∷ []) x × frozen x s (x .args .segment)
 
 -- 15, for 5, 6, and not for a look: the buffer or the data is shorter than the segment
 abbrev pub Short : Call → Store → Type 0
@@ -243,10 +255,12 @@ module _ (f : Name → List ℕ → ℕ → List ℕ) (x : Call) (s : Store) (si
       ∷ entry 8 (Inactive x s)
       ∷ entry 9 (Violated f x s)
       ∷ entry 10 (NotPrimary x)
+      ∷ entry 22 (ClusterFrozen x s)
       ∷ entry 11 (NotReferenced x)
       ∷ entry 12 (OldPassword x s)
       ∷ entry 13 (SegmentPresent x s)
       ∷ entry 14 (SegmentAbsent x s)
+      ∷ entry 22 (SegmentFrozen x s)
       ∷ entry 15 (Short x s)
       ∷ entry 16 (NoRoom x s)
       ∷ entry 21 (Empty x)

@@ -14,7 +14,7 @@ use mathlib.Core.List.{List, [], _∷_, _++_, map}
 use lib.ListN.{replicate}
 use Rattle.calls.specs.declared.Looked.{Looked}
 use Rattle.calls.specs.Calls.{Copy, Call, makingCluster, deletingCluster, makingSegment, deletingSegment, reading}
-use Rattle.calls.specs.Calls.{writing, weakeningBy, reducing, renewing, validating, looking}
+use Rattle.calls.specs.Calls.{writing, weakeningBy, reducing, renewing, freezing, validating, looking}
 use Rattle.calls.specs.Steps.{Reply, step}
 use Rattle.calls.specs.Looks.{looked}
 use Rattle.calls.specs.Cases.{added, sample}
@@ -45,6 +45,8 @@ answered =
     ∷ tells (reducing 1 (handle 1 2 51 (16 ∷ 32 ∷ 255 ∷ 255 ∷ [])))
     (told 0 (handle 1 2 3 (0 ∷ 255 ∷ 255 ∷ 255 ∷ [])) none 0 0 [])
     ∷ tells (renewing 2 (primary 1 2 4) (sixteen 5)) (told 0 (primary 1 2 5) none 0 0 [])
+    ∷ tells (freezing 1 5 (primary 1 2 4)) (told 0 none none 0 0 [])
+    ∷ tells (freezing 1 6 (primary 1 2 4)) (told 14 none none 0 0 [])
     ∷ tells (validating 2 (primary 1 2 4)) (told 0 none none 0 0 [])
     ∷ tells (validating 1 (handle 1 2 51 (16 ∷ 32 ∷ 255 ∷ 255 ∷ []))) (told 0 none none 0 0 [])
     ∷ tells (reading 5 (primary 1 2 4) (1 ∷ 2 ∷ 3 ∷ 4 ∷ [])) (told 9 none none 0 0 (1 ∷ 2 ∷ 3 ∷ 4 ∷ []))

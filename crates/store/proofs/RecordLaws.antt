@@ -93,3 +93,10 @@ set-itself (x ∷ l) (suc n) d = λ j. x ∷ set-itself l n d j
 
 pub put-itself : (s : Store) (n : ℕ) → putRecord s n (clusterAt s n) ≡ s
 put-itself s n = ap (λ (l : List Cluster). record { clusters = l }) (set-itself (s .clusters) n noCluster)
+
+-- a segment that is frozen already
+pub mark-itself : (c : Cluster) (i : ℕ) → frozenOf (tableOf c) i ≡ true → withMark c i ≡ c
+mark-itself c i e =
+    ap (λ (t : Bool). withSegment c i (record { place = placeOf (tableOf c) i; frozen = t })) (sym e)
+    ∙ ap (λ (l : List Segment). record { active = c .active; read = c .read; write = c .write; segments = l })
+    (set-itself (c .segments) i absentSegment)

@@ -1,0 +1,47 @@
+-- Document 02, §3, in words: what a freeze that is done leaves. The record of the handle's cluster is named by number, the
+-- cluster of node v and local number l being record v * 8 + l.
+--     SameRecords n i a b    the two stores have the same records, but for the mark of segment i of record n
+--     FreezeInWords f g c    of call 10 with the arguments g on the copy c, done:
+--       present                the segment that it names was present
+--       marked                 it is frozen afterwards
+--       stays                  it lies where it lay
+--       others                 nothing else in the records changed
+--       memory                 no byte of the memory changed
+--       reply                  the reply is the number 0 and nothing else
+--       twice                  if it was frozen already, nothing at all changed
+-- Assumes nothing.
+use mathlib.Core.Path.{_≡_}
+use mathlib.Core.Logic.{_≢_, _⊎_}
+use Prim.Native.Nat.{ℕ, _+_, _*_}
+use mathlib.Core.List.{List, []}
+use Rattle.handle.specs.Handles.{Name, nodeOf}
+use Rattle.store.specs.declared.Place.the-variants.{Present}
+use Rattle.store.specs.declared.Store.{Store}
+use Rattle.store.specs.Records.{tableOf, clusterAt, segmentOf}
+use Rattle.calls.specs.Calls.{Copy, Call, Arguments, call, freeze, handleOf}
+use Rattle.calls.specs.Words.{place, frozen}
+use Rattle.calls.specs.Steps.{step}
+use Rattle.calls.specs.Literals.{none, told}
+
+pub record SameRecords (n i : ℕ) (a b : Store) : Type 0 where
+  pub active : (m : ℕ) → clusterAt a m .active ≡ clusterAt b m .active
+  pub read : (m : ℕ) → clusterAt a m .read ≡ clusterAt b m .read
+  pub write : (m : ℕ) → clusterAt a m .write ≡ clusterAt b m .write
+  pub segments : (m j : ℕ) → (m ≢ n) ⊎ (j ≢ i)
+      → segmentOf (tableOf (clusterAt a m)) j ≡ segmentOf (tableOf (clusterAt b m)) j
+
+module _ (f : Name → List ℕ → ℕ → List ℕ) (g : Arguments) (c : Copy) where
+  abbrev x : Call
+  x = call freeze g
+
+  abbrev after : Copy
+  after = step f x c .copy
+
+  pub record FreezeInWords : Type 0 where
+    pub present : (base : ℕ) × (length : ℕ) × (place x (c .store) ≡ Present base length)
+    pub marked : frozen x (after .store) (g .segment)
+    pub stays : place x (after .store) ≡ place x (c .store)
+    pub others : SameRecords (nodeOf (handleOf x) * 8 + handleOf x .local) (g .segment) (after .store) (c .store)
+    pub memory : after .memory ≡ c .memory
+    pub reply : step f x c .reply ≡ told 0 none none 0 0 []
+    pub twice : frozen x (c .store) (g .segment) → after ≡ c
