@@ -27,6 +27,8 @@ pub const REDUCE: u8 = 8;
 
 pub const NEW_PASSWORD: u8 = 9;
 
+pub const FREEZE: u8 = 10;
+
 // What a call answers: its number; the handles, the count and the length that it gives, zero where it gives none.
 pub struct Answer {
     pub number: u8,

@@ -1,4 +1,4 @@
--- A read or a write: the rows of all calls that open a cluster, then 11 and 14, which a look has too, then 15. A call that
+-- A read or a write: the rows of all calls that open a cluster, then 11 and 14, which a look has too, then 22 and 15. A call that
 -- no row turns down moves a part that lies inside the slice, since the store is sound.
 -- Assumes nothing.
 use mathlib.Core.Path.{_≡_, refl, sym, ap, _∙_}
@@ -17,10 +17,10 @@ use Rattle.store.specs.declared.Place.{Place}
 use Rattle.store.specs.declared.Place.the-variants.{Absent, Present}
 use Rattle.store.specs.declared.Cluster.{Cluster}
 use Rattle.store.specs.declared.Store.{Store}
-use Rattle.store.specs.Records.{tableOf, tableAt, placeOf, baseOf, lengthOf, address}
-use Rattle.store.specs.Sound.{isAbsent, inside, soundSegment}
+use Rattle.store.specs.Records.{tableOf, tableAt, segmentOf, placeOf, baseOf, lengthOf, address}
+use Rattle.store.specs.Sound.{isAbsent, inside}
 use Rattle.store.proofs.PlaceLaws.{inside-out}
-use Rattle.store.proofs.SoundLaws.{Sound, sound-out}
+use Rattle.store.proofs.SoundLaws.{Sound, segment-inside, sound-out}
 use Rattle.calls.specs.Calls.{recordNamed}
 use Rattle.calls.proofs.CallLaws.{or-left, or-right}
 use Rattle.refusals.specs.Rows.{row, sharedRows, after}
@@ -58,30 +58,33 @@ module _ (sd : Bool) (h : Handle) (c : Cluster) (p : Place) (i : ℕ) (far away 
       pub reach-none : o ≡ false → 0 ≡ reached sd h c p i far away mode
       reach-none e = sym (last false e)
 
-module _ (sd : Bool) (h : Handle) (c : Cluster) (p : Place) (i room mode n : ℕ)
+module _ (sd : Bool) (h : Handle) (c : Cluster) (p : Place) (i : ℕ) (kept : Bool) (room mode n : ℕ)
     (en : n ≡ reached sd h c p i false false mode) where
-  -- row 15 below those rows
-  below : accessed sd h c p i room mode ≡ after n (cond (ltb room (lengthOf p)) 15 0)
+  -- rows 22 and 15 below those rows
+  below : accessed sd h c p i kept room mode ≡ after n (cond kept 22 (cond (ltb room (lengthOf p)) 15 0))
   unfolding accessed reached
   below =
       ap (after (firstOf (sharedRows sd h c false (leb segments i) false mode)))
-      (first-append (reachRows h p i) (row 15 (ltb room (lengthOf p)) ∷ []) (omega arith))
+      (first-append (reachRows h p i) (row 22 kept ∷ row 15 (ltb room (lengthOf p)) ∷ []) (omega arith))
       ∙ sym (after-after (firstOf (sharedRows sd h c false (leb segments i) false mode)) (firstOf (reachRows h p i)) _)
-      ∙ ap (λ (k : ℕ). after k (cond (ltb room (lengthOf p)) 15 0)) (sym en)
+      ∙ ap (λ (k : ℕ). after k (cond kept 22 (cond (ltb room (lengthOf p)) 15 0))) (sym en)
 
-  pub access-reached : (n ≡ 0 → ⊥) → n ≡ accessed sd h c p i room mode
+  pub access-reached : (n ≡ 0 → ⊥) → n ≡ accessed sd h c p i kept room mode
   access-reached t = sym (below ∙ after-told n _ t)
 
-  module _ (z : n ≡ 0) (size : ℕ) (el : size ≡ lengthOf p) where
-    short : (t : Bool) → ltb room size ≡ t → accessed sd h c p i room mode ≡ cond t 15 0
+  pub access-frozen : n ≡ 0 → kept ≡ true → 22 ≡ accessed sd h c p i kept room mode
+  access-frozen z t = sym (below ∙ (λ j. after (z j) (cond (t j) 22 (cond (ltb room (lengthOf p)) 15 0))))
+
+  module _ (z : n ≡ 0) (free : kept ≡ false) (size : ℕ) (el : size ≡ lengthOf p) where
+    short : (t : Bool) → ltb room size ≡ t → accessed sd h c p i kept room mode ≡ cond t 15 0
     short t e =
-        below ∙ ap (λ (k : ℕ). after k (cond (ltb room (lengthOf p)) 15 0)) z
+        below ∙ (λ j. after (z j) (cond (free j) 22 (cond (ltb room (lengthOf p)) 15 0)))
         ∙ ap (λ (b : Bool). cond b 15 0) (ap (ltb room) (sym el) ∙ e)
 
-    pub access-short : room < size → 15 ≡ accessed sd h c p i room mode
+    pub access-short : room < size → 15 ≡ accessed sd h c p i kept room mode
     access-short l = sym (short true (lt-ltb room size l))
 
-    pub access-none : size ≤ room → 0 ≡ accessed sd h c p i room mode
+    pub access-none : size ≤ room → 0 ≡ accessed sd h c p i kept room mode
     access-none l = sym (short false (le-ltb room size l))
 
 -- ---- whether the slice is too short
@@ -99,19 +102,20 @@ module _ (all from size : ℕ) where
 
 -- ---- no row applies
 
-own-enough : (a c d : Bool) → _≡_ {A = ℕ} (cond a 11 (cond c 14 (cond d 15 0))) 0 → d ≡ false
-own-enough a c false e = refl
-own-enough true c true e = absurd (omega arith)
-own-enough false true true e = absurd (omega arith)
-own-enough false false true e = absurd (omega arith)
+own-enough : (a c k d : Bool) → _≡_ {A = ℕ} (cond a 11 (cond c 14 (cond k 22 (cond d 15 0)))) 0 → d ≡ false
+own-enough a c k false e = refl
+own-enough true c k true e = absurd (omega arith)
+own-enough false true k true e = absurd (omega arith)
+own-enough false false true true e = absurd (omega arith)
+own-enough false false false true e = absurd (omega arith)
 
 place-ends : (p : Place) → inside p ≡ true → baseOf p + lengthOf p ≤ nodeMemory
 place-ends Absent e = omega arith
 place-ends (Present base length) e = inside-out base length e .ends
 
-module _ (sd : Bool) (h : Handle) (c : Cluster) (p : Place) (i room mode n : ℕ)
-    (en : n ≡ accessed sd h c p i room mode) (z : n ≡ 0) where
-  both : (firstOf (sharedRows sd h c false (leb segments i) false mode) ≡ 0) × (firstOf (accessRows h p i room) ≡ 0)
+module _ (sd : Bool) (h : Handle) (c : Cluster) (p : Place) (i : ℕ) (kept : Bool) (room mode n : ℕ)
+    (en : n ≡ accessed sd h c p i kept room mode) (z : n ≡ 0) where
+  both : (firstOf (sharedRows sd h c false (leb segments i) false mode) ≡ 0) × (firstOf (accessRows h p i kept room) ≡ 0)
   unfolding accessed
   both = after-zero _ _ (sym en ∙ z)
 
@@ -120,20 +124,20 @@ module _ (sd : Bool) (h : Handle) (c : Cluster) (p : Place) (i room mode n : ℕ
       → Reaches from size all room
   access-reaches from size all el v ev t =
       let l : lengthOf p ≤ room =
-      ltb-false room (lengthOf p) (own-enough (not (references (h .selector) i)) (isAbsent p) (ltb room (lengthOf p)) (both .1)) in
+      ltb-false room (lengthOf p) (own-enough (not (references (h .selector) i)) (isAbsent p) kept (ltb room (lengthOf p)) (both .1)) in
       record { ends = ltb-false all (from + size) (sym ev ∙ t); enough = omega arith }
 
 -- on what a store holds, that test never fails
-module _ (s : Store) (m b : List ℕ) (i room mode n : ℕ) where
+module _ (s : Store) (m b : List ℕ) (i : ℕ) (kept : Bool) (room mode n : ℕ) where
   abbrev k : Handle
   k = shown s m b
 
   abbrev e : Cluster
   e = found s m b
 
-  module _ (en : n ≡ accessed (judged s m b) k e (placeOf (tableOf e) i) i room mode) (z : n ≡ 0) where
+  module _ (en : n ≡ accessed (judged s m b) k e (placeOf (tableOf e) i) i kept room mode) (z : n ≡ 0) where
     opened : firstOf (sharedRows (judged s m b) k e false (leb segments i) false mode) ≡ 0
-    opened = both (judged s m b) k e (placeOf (tableOf e) i) i room mode n en z .0
+    opened = both (judged s m b) k e (placeOf (tableOf e) i) i kept room mode n en z .0
 
     passed : Passed (judged s m b) k
     passed = shared-passed (judged s m b) k e false (leb segments i) false mode opened
@@ -151,12 +155,12 @@ module _ (s : Store) (m b : List ℕ) (i room mode n : ℕ) where
     local-low = leb-false clusters (k .local) (or-right (leb nodes (nodeOf k)) (leb clusters (k .local)) (passed .place))
 
     ends : baseOf (placeOf (tableOf e) i) + lengthOf (placeOf (tableOf e) i) ≤ nodeMemory
-    unfolding soundSegment
     ends =
         place-ends (placeOf (tableOf e) i)
         (ap (λ (j : ℕ). inside (placeOf (tableAt s j) i)) access-there
-        ∙ settled .ranged (recordNamed k) i (low (nodeOf k) (k .local) node-low local-low)
-        (leb-false segments i (shared-field (judged s m b) k e false (leb segments i) false mode opened)))
+        ∙ segment-inside (segmentOf (tableAt s (recordNamed k)) i)
+        (settled .ranged (recordNamed k) i (low (nodeOf k) (k .local) node-low local-low)
+        (leb-false segments i (shared-field (judged s m b) k e false (leb segments i) false mode opened))))
       where
         low : (node local : ℕ) → node < nodes → local < clusters → node * clusters + local < records
         low node local a b = omega arith

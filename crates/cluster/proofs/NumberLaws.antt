@@ -15,10 +15,10 @@ use Rattle.handle.specs.Handles.{nodeOf, widthOf, Row, firstOf}
 use Rattle.handle.specs.Conversion.{product}
 use Rattle.store.specs.declared.Cluster.{Cluster}
 use Rattle.store.specs.declared.Store.{Store}
-use Rattle.store.specs.Records.{tableOf, tableAt, placeOf, readMode, writeMode}
+use Rattle.store.specs.Records.{tableOf, tableAt, placeOf, frozenOf, noneFrozen, readMode, writeMode}
 use Rattle.store.specs.Sound.{isAbsent}
 use Rattle.store.specs.Placement.{placement}
-use Rattle.calls.specs.Calls.{deletingCluster, makingSegment, deletingSegment, reading, writing, reducing, renewing, looking}
+use Rattle.calls.specs.Calls.{deletingCluster, makingSegment, deletingSegment, reading, writing, reducing, renewing, freezing, looking}
 use Rattle.calls.specs.Numbers.{isOld, number, tests}
 use Rattle.refusals.specs.Rows.{badModes, row, openRows, sharedRows, ownerRows}
 use Rattle.refusals.proofs.GivenLaws.{judged, shown, found, named, either-record}
@@ -38,7 +38,7 @@ module _ (s : Store) (m b : List ℕ) where
   abbrev d : Cluster
   d = named s m b
 
-  -- the rows from the third on of the calls that open a cluster, and of calls 2, 3 and 4
+  -- the rows from the third on of the calls that open a cluster, and of calls 2, 3, 4 and 10
   abbrev opened : Bool → ℕ → (Cluster → List Row) → Cluster → ℕ
   opened field mode own e = firstOf (openRows h e field false mode ++ own e)
 
@@ -48,29 +48,43 @@ module _ (s : Store) (m b : List ℕ) where
       ((openRows h e field (not (eqb current (nodeOf h))) writeMode ++ (row 10 (not (allFlat (widthOf h) (h .selector))) ∷ []))
       ++ own e)
 
-  -- ---- calls 2, 3 and 4
+  -- ---- calls 2, 3, 4 and 10
 
-  abbrev absentRow : ℕ → Cluster → List Row
+  abbrev pub absentRow : ℕ → Cluster → List Row
   absentRow segment e = row 14 (isAbsent (placeOf (tableOf e) segment)) ∷ []
 
   abbrev presentRow : ℕ → Cluster → List Row
   presentRow segment e = row 13 (not (isAbsent (placeOf (tableOf e) segment))) ∷ []
 
-  on-delete-cluster : (current : ℕ) → number product (deletingCluster current b) s (length m) ≡ firstOf (ownerRows sd h d current false)
+  abbrev frozenRow : Cluster → List Row
+  frozenRow e = row 22 (not (noneFrozen (tableOf e))) ∷ []
+
+  abbrev keptRow : ℕ → Cluster → List Row
+  keptRow segment e = row 22 (frozenOf (tableOf e) segment) ∷ []
+
+  on-delete-cluster : (current : ℕ) → number product (deletingCluster current b) s (length m) ≡ firstOf (ownerRows sd h d current false ++ frozenRow d)
   unfolding number tests ownerRows
   on-delete-cluster current = simp or-false
 
-  pub number-delete-cluster : (current : ℕ) → number product (deletingCluster current b) s (length m) ≡ firstOf (ownerRows sd h c current false)
+  pub number-delete-cluster : (current : ℕ) → number product (deletingCluster current b) s (length m) ≡ firstOf (ownerRows sd h c current false ++ frozenRow c)
   unfolding ownerRows
-  number-delete-cluster current = on-delete-cluster current ∙ either-record s m b (not sd) (leb nodes current) (owned current false (λ e. []))
+  number-delete-cluster current = on-delete-cluster current ∙ either-record s m b (not sd) (leb nodes current) (owned current false frozenRow)
 
-  on-delete-segment : (current segment : ℕ) → number product (deletingSegment current segment b) s (length m) ≡ firstOf (ownerRows sd h d current (leb segments segment) ++ absentRow segment d)
+  on-delete-segment : (current segment : ℕ) → number product (deletingSegment current segment b) s (length m) ≡ firstOf ((ownerRows sd h d current (leb segments segment) ++ absentRow segment d) ++ keptRow segment d)
   unfolding number tests ownerRows
   on-delete-segment current segment = simp or-false
 
-  pub number-delete-segment : (current segment : ℕ) → number product (deletingSegment current segment b) s (length m) ≡ firstOf (ownerRows sd h c current (leb segments segment) ++ absentRow segment c)
+  pub number-delete-segment : (current segment : ℕ) → number product (deletingSegment current segment b) s (length m) ≡ firstOf ((ownerRows sd h c current (leb segments segment) ++ absentRow segment c) ++ keptRow segment c)
   unfolding ownerRows
-  number-delete-segment current segment = on-delete-segment current segment ∙ either-record s m b (not sd) (leb nodes current) (owned current (leb segments segment) (absentRow segment))
+  number-delete-segment current segment = on-delete-segment current segment ∙ either-record s m b (not sd) (leb nodes current) (owned current (leb segments segment) (λ e. absentRow segment e ++ keptRow segment e))
+
+  on-freeze : (current segment : ℕ) → number product (freezing current segment b) s (length m) ≡ firstOf (ownerRows sd h d current (leb segments segment) ++ absentRow segment d)
+  unfolding number tests ownerRows
+  on-freeze current segment = simp or-false
+
+  pub number-freeze : (current segment : ℕ) → number product (freezing current segment b) s (length m) ≡ firstOf (ownerRows sd h c current (leb segments segment) ++ absentRow segment c)
+  unfolding ownerRows
+  number-freeze current segment = on-freeze current segment ∙ either-record s m b (not sd) (leb nodes current) (owned current (leb segments segment) (absentRow segment))
 
   abbrev roomRow : ℕ → List Row
   roomRow size = row 16 (eqb (placement (tableAt s) (nodeOf h) size .number) noRoomNumber) ∷ []
@@ -102,22 +116,26 @@ module _ (s : Store) (m b : List ℕ) where
   pub number-new-password : (mode : ℕ) (p : List ℕ) → number product (renewing mode b p) s (length m) ≡ firstOf (sharedRows sd h c false (badModes mode) false mode ++ newRows p c)
   number-new-password mode p = on-new-password mode p ∙ either-record s m b (not sd) (false) (opened (badModes mode) mode (newRows p))
 
-  abbrev moved : ℕ → List ℕ → Cluster → List Row
-  moved i bytes e = accessRows h (placeOf (tableOf e) i) i (length bytes)
+  -- whether row 22 applies is told of the record
+  abbrev moved : ℕ → (Cluster → Bool) → List ℕ → Cluster → List Row
+  moved i icy bytes e = accessRows h (placeOf (tableOf e) i) i (icy e) (length bytes)
 
-  on-read : (i : ℕ) (buffer : List ℕ) → number product (reading i b buffer) s (length m) ≡ firstOf (sharedRows sd h d false (leb segments i) false readMode ++ moved i buffer d)
+  abbrev icy : ℕ → Cluster → Bool
+  icy i e = frozenOf (tableOf e) i
+
+  on-read : (i : ℕ) (buffer : List ℕ) → number product (reading i b buffer) s (length m) ≡ firstOf (sharedRows sd h d false (leb segments i) false readMode ++ moved i (λ e. false) buffer d)
   unfolding number tests
   on-read i buffer = simp or-false
 
-  pub number-read : (i : ℕ) (buffer : List ℕ) → number product (reading i b buffer) s (length m) ≡ firstOf (sharedRows sd h c false (leb segments i) false readMode ++ moved i buffer c)
-  number-read i buffer = on-read i buffer ∙ either-record s m b (not sd) (false) (opened (leb segments i) readMode (moved i buffer))
+  pub number-read : (i : ℕ) (buffer : List ℕ) → number product (reading i b buffer) s (length m) ≡ firstOf (sharedRows sd h c false (leb segments i) false readMode ++ moved i (λ e. false) buffer c)
+  number-read i buffer = on-read i buffer ∙ either-record s m b (not sd) (false) (opened (leb segments i) readMode (moved i (λ e. false) buffer))
 
-  on-write : (i : ℕ) (written : List ℕ) → number product (writing i b written) s (length m) ≡ firstOf (sharedRows sd h d false (leb segments i) false writeMode ++ moved i written d)
+  on-write : (i : ℕ) (written : List ℕ) → number product (writing i b written) s (length m) ≡ firstOf (sharedRows sd h d false (leb segments i) false writeMode ++ moved i (icy i) written d)
   unfolding number tests
   on-write i written = simp or-false
 
-  pub number-write : (i : ℕ) (written : List ℕ) → number product (writing i b written) s (length m) ≡ firstOf (sharedRows sd h c false (leb segments i) false writeMode ++ moved i written c)
-  number-write i written = on-write i written ∙ either-record s m b (not sd) (false) (opened (leb segments i) writeMode (moved i written))
+  pub number-write : (i : ℕ) (written : List ℕ) → number product (writing i b written) s (length m) ≡ firstOf (sharedRows sd h c false (leb segments i) false writeMode ++ moved i (icy i) written c)
+  number-write i written = on-write i written ∙ either-record s m b (not sd) (false) (opened (leb segments i) writeMode (moved i (icy i) written))
 
   abbrev seen : ℕ → Cluster → List Row
   seen i e = reachRows h (placeOf (tableOf e) i) i

@@ -7,6 +7,7 @@ use calls::length_told;
 use calls::number_alone;
 use handle::Handle;
 use numbers::ABSENT;
+use numbers::FROZEN;
 use numbers::NOT_REFERENCED;
 use numbers::SHORT;
 use numbers::UNSOUND;
@@ -70,22 +71,26 @@ fn reach(
     0
 }
 
-// The first refusal of a read or a write that applies, or 0: those above, then 15, where `room` is the length of the buffer
-// or the data.
+// The first refusal of a read or a write that applies, or 0: those above, then 22, where `kept` tells whether the call would
+// alter a frozen segment, then 15, where `room` is the length of the buffer or the data.
 fn access(
     sound: bool,
     handle: Handle,
     cluster: Cluster,
     place: Place,
     segment: usize,
+    kept: bool,
     room: usize,
     mode: usize,
 ) -> u8
-    ensures { λ r. ⌜ r ≡ accessed sound handle cluster place segment room mode ⌝ }
+    ensures { λ r. ⌜ r ≡ accessed sound handle cluster place segment kept room mode ⌝ }
 {
     let number = reach(sound, handle, cluster, place, segment, false, false, mode);
     if number != 0 {
         return number;
+    }
+    if kept {
+        return FROZEN;
     }
     let length = store::length_of(place) as usize;
     if room < length {
@@ -164,6 +169,7 @@ pub fn read(
         cluster,
         place,
         segment,
+        false,
         buffer.len(),
         READ_MODE,
     );
@@ -193,12 +199,14 @@ pub fn write(
         ≡ aesStep (calls.writing segment b (now (written .entry))) (copyOf s (now (memory .entry)))) ⌝ }
 {
     let place = store::place_of(cluster, segment);
+    let kept = store::frozen_of(cluster, segment);
     let number = access(
         sound,
         handle,
         cluster,
         place,
         segment,
+        kept,
         written.len(),
         WRITE_MODE,
     );

@@ -4,6 +4,7 @@ use calls::one_handle;
 use calls::record_alone;
 use handle::Handle;
 use numbers::ABSENT;
+use numbers::FROZEN;
 use numbers::NOT_PRIMARY;
 use numbers::OLD_PASSWORD;
 use refusals::bad_mode;
@@ -21,8 +22,9 @@ ghost use Rattle.calls.specs.Calls as calls;
 ghost use Rattle.calls.specs.Steps.{aesStep};
 ghost use Rattle.calls.specs.Answers.{copyOf, ended};
 ghost use Rattle.refusals.specs.Given.{Given, put};
+ghost use Rattle.cluster.specs.inner.Owns.{ownSegment};
 
-// Call 2: the cluster's record becomes that of the starting store.
+// Call 2: the cluster's record becomes that of the starting store, unless a segment of it is frozen.
 pub fn delete_cluster(sound: bool, handle: Handle, cluster: Cluster, current: usize) -> RecordLeft
     ensures { λ r. ⌜ ((s : declared.Store) (m b : List ℕ) → Given sound handle cluster s m b
         → ended (put handle (r .cluster) s) m (r .answer) [] ≡ aesStep (calls.deletingCluster current b) (copyOf s m)) ⌝ }
@@ -31,10 +33,27 @@ pub fn delete_cluster(sound: bool, handle: Handle, cluster: Cluster, current: us
     if number != 0 {
         return record_alone(cluster, number);
     }
+    if !store::none_frozen(cluster) {
+        return record_alone(cluster, FROZEN);
+    }
     record_alone(store::inactive_cluster(), 0)
 }
 
-// Call 4: the segment is absent; memory bytes stay.
+// The first refusal that calls 4 and 10 share and that applies, or 0: those of a cluster's owner, then 14.
+fn own_segment(sound: bool, handle: Handle, cluster: Cluster, current: usize, segment: usize) -> u8
+    ensures { λ r. ⌜ r ≡ ownSegment sound handle cluster current segment ⌝ }
+{
+    let number = owner_refusal(sound, handle, cluster, current, SEGMENTS <= segment);
+    if number != 0 {
+        return number;
+    }
+    if store::absent(store::place_of(cluster, segment)) {
+        return ABSENT;
+    }
+    0
+}
+
+// Call 4: the segment is absent, unless it is frozen; memory bytes stay.
 pub fn delete_segment(
     sound: bool,
     handle: Handle,
@@ -45,12 +64,12 @@ pub fn delete_segment(
     ensures { λ r. ⌜ ((s : declared.Store) (m b : List ℕ) → Given sound handle cluster s m b
         → ended (put handle (r .cluster) s) m (r .answer) [] ≡ aesStep (calls.deletingSegment current segment b) (copyOf s m)) ⌝ }
 {
-    let number = owner_refusal(sound, handle, cluster, current, SEGMENTS <= segment);
+    let number = own_segment(sound, handle, cluster, current, segment);
     if number != 0 {
         return record_alone(cluster, number);
     }
-    if store::absent(store::place_of(cluster, segment)) {
-        return record_alone(cluster, ABSENT);
+    if store::frozen_of(cluster, segment) {
+        return record_alone(cluster, FROZEN);
     }
     record_alone(store::with_place(cluster, segment, Place::Absent), 0)
 }
@@ -88,4 +107,22 @@ pub fn new_password(
         cluster: store::with_password(cluster, mode, password),
         answer: one_handle(given),
     }
+}
+
+// Call 10: the segment is frozen where it lies; one that is frozen already stays so.
+pub fn freeze(
+    sound: bool,
+    handle: Handle,
+    cluster: Cluster,
+    current: usize,
+    segment: usize,
+) -> RecordLeft
+    ensures { λ r. ⌜ ((s : declared.Store) (m b : List ℕ) → Given sound handle cluster s m b
+        → ended (put handle (r .cluster) s) m (r .answer) [] ≡ aesStep (calls.freezing current segment b) (copyOf s m)) ⌝ }
+{
+    let number = own_segment(sound, handle, cluster, current, segment);
+    if number != 0 {
+        return record_alone(cluster, number);
+    }
+    record_alone(store::with_mark(cluster, segment), 0)
 }

@@ -14,6 +14,7 @@ pub use bytes::read;
 pub use bytes::write;
 pub use change::delete_cluster;
 pub use change::delete_segment;
+pub use change::freeze;
 pub use change::new_password;
 pub use create::new_cluster;
 pub use create::weaken;

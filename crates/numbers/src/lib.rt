@@ -41,3 +41,5 @@ pub const LINK: u8 = 19;
 pub const LOOP: u8 = 20;
 
 pub const EMPTY: u8 = 21;
+
+pub const FROZEN: u8 = 22;

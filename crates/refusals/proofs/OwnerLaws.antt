@@ -1,4 +1,4 @@
--- The refusals of calls 2, 3 and 4, return by return: the shared ones, then 10.
+-- The refusals of calls 2, 3, 4 and 10, return by return: the shared ones, then 10.
 -- Assumes nothing.
 use mathlib.Core.Path.{_≡_, sym, ap, _∙_}
 use mathlib.Core.Bool.{Bool, true, false, not, cond}

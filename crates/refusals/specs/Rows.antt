@@ -5,7 +5,7 @@
 --     openRows ..            rows 3, 4, 5, 8 and 9, from their tests: the handle; the record of its cluster; whether some
 --                            field, the current node is bad; the mode needed
 --     sharedRows ..          rows 1 and 2 before them: the store is sound; whether some other place is bad
---     ownerRows ..           rows 1 to 5, 8, 9 and 10 of calls 2, 3 and 4, which name a current node and need the write
+--     ownerRows ..           rows 1 to 5, 8, 9 and 10 of calls 2, 3, 4 and 10, which name a current node and need the write
 --                            primary handle; whether some field is bad
 --     after n m              n, or m where n is 0
 -- Assumes nothing.

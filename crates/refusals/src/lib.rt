@@ -73,7 +73,7 @@ pub fn first_refusal(
     0
 }
 
-// The first of the refusals that calls 2, 3 and 4 share, or 0: those above for the write mode and a current node, and 10.
+// The first of the refusals that calls 2, 3, 4 and 10 share, or 0: those above for the write mode and a current node, and 10.
 pub fn owner_refusal(
     sound: bool,
     handle: Handle,

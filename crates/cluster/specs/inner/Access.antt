@@ -3,7 +3,8 @@
 --     reachRows h p i         rows 11 and 14, from the handle and the place of segment i
 --     reached ..              the number of a look, and of a read or a write but for 15, from what its rows look at: far and
 --                             away tell whether the current node is bad or not the handle's
---     accessRows h p i room   the rows 11 and 14, and 15, from how many bytes the buffer or the data has
+--     accessRows h p i kept room    the rows 11 and 14; 22, where kept tells whether it applies; and 15, from how many bytes
+--                             the buffer or the data has
 --     accessed ..             the number of a read or a write, from what its rows look at
 --     partOf h p              the part of the slice that is the place p of the memory of the handle's node
 --     Reaches ..              length bytes lie inside a memory of size bytes from `from` on, and the buffer or the data,
@@ -31,12 +32,12 @@ unfoldable pub reached : Bool → Handle → Cluster → Place → ℕ → Bool 
 reached sound h c p i far away mode =
     after (firstOf (sharedRows sound h c far (leb segments i) away mode)) (firstOf (reachRows h p i))
 
-abbrev pub accessRows : Handle → Place → ℕ → ℕ → List Row
-accessRows h p i room = reachRows h p i ++ (row 15 (ltb room (lengthOf p)) ∷ [])
+abbrev pub accessRows : Handle → Place → ℕ → Bool → ℕ → List Row
+accessRows h p i kept room = reachRows h p i ++ (row 22 kept ∷ row 15 (ltb room (lengthOf p)) ∷ [])
 
-unfoldable pub accessed : Bool → Handle → Cluster → Place → ℕ → ℕ → ℕ → ℕ
-accessed sound h c p i room mode =
-    after (firstOf (sharedRows sound h c false (leb segments i) false mode)) (firstOf (accessRows h p i room))
+unfoldable pub accessed : Bool → Handle → Cluster → Place → ℕ → Bool → ℕ → ℕ → ℕ
+accessed sound h c p i kept room mode =
+    after (firstOf (sharedRows sound h c false (leb segments i) false mode)) (firstOf (accessRows h p i kept room))
 
 abbrev pub partOf : Handle → Place → Part
 partOf h p =

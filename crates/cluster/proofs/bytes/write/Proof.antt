@@ -16,7 +16,7 @@ copy-in-requires : tie.Need-copy-in-requires
 copy-in-requires c κs =
     let l = c .before .before in
     let a = l .before .before .before .before in
-    access-reaches _ _ _ _ _ _ _ _ (a .access .ensures) (l .before .before .before .if1 .left) _ _ _ (l .before .length-of .ensures) _
+    access-reaches _ _ _ _ _ _ _ _ _ (a .access .ensures) (l .before .before .before .if1 .left) _ _ _ (l .before .length-of .ensures) _
     (l .lacks .ensures) (c .before .if2 .left)
 
 returns-3 : tie.Need-returns-3
@@ -26,6 +26,7 @@ pub write-spec : {M : Type 1} → statement M
 write-spec =
     tie.close
     (tie.spec
+    (λ c κs. search needs)
     (λ c κs. search needs)
     (λ c κs. search needs)
     (λ c κs. search needs)
