@@ -87,7 +87,7 @@ pub fn new_cluster(
     put_back(store, at, left)
 }
 
-// Call 2: the cluster's record becomes that of the starting store.
+// Call 2: the cluster's record becomes that of the starting store, unless a segment of it is frozen.
 pub fn delete_cluster(store: Store, memory: &[u8], current: usize, bytes: HandleBytes) -> Left
     ensures { λ r. ⌜ ended (r .store) (now (memory .entry)) (r .answer) []
         ≡ aesStep (calls.deletingCluster current bytes) (copyOf store (now (memory .entry))) ⌝ }
@@ -120,7 +120,7 @@ pub fn new_segment(
     put_back(store, o.at, left)
 }
 
-// Call 4: the segment is absent; memory bytes stay.
+// Call 4: the segment is absent, unless it is frozen; memory bytes stay.
 pub fn delete_segment(
     store: Store,
     memory: &[u8],
@@ -188,6 +188,22 @@ pub fn new_password(
 {
     let o = look_up(store, memory.len(), bytes);
     let left = cluster::new_password(o.sound, o.handle, o.cluster, mode, password);
+    put_back(store, o.at, left)
+}
+
+// Call 10: the segment is frozen where it lies; one that is frozen already stays so.
+pub fn freeze(
+    store: Store,
+    memory: &[u8],
+    current: usize,
+    segment: usize,
+    bytes: HandleBytes,
+) -> Left
+    ensures { λ r. ⌜ ended (r .store) (now (memory .entry)) (r .answer) []
+        ≡ aesStep (calls.freezing current segment bytes) (copyOf store (now (memory .entry))) ⌝ }
+{
+    let o = look_up(store, memory.len(), bytes);
+    let left = cluster::freeze(o.sound, o.handle, o.cluster, current, segment);
     put_back(store, o.at, left)
 }
 

@@ -12,12 +12,12 @@ use Rattle.sizes.specs.Sizes.{nodes, clusters, records, segments, memory}
 use Rattle.store.specs.declared.Place.{Place}
 use Rattle.store.specs.declared.Place.the-variants.{Absent, Present}
 use Rattle.store.specs.declared.Store.{Store}
-use Rattle.store.specs.Records.{recordOf, tableAt, placeAt, placeOn, baseOf, lengthOf, address}
-use Rattle.store.specs.Sound.{inside, apart, soundSegment}
+use Rattle.store.specs.Records.{recordOf, tableAt, segmentOf, placeAt, placeOn, baseOf, lengthOf, address}
+use Rattle.store.specs.Sound.{inside, apart}
 use Rattle.store.specs.Placement.{newBase}
 use Rattle.store.proofs.PlaceLaws.{inside-out, apart-off}
 use Rattle.store.proofs.PlacementLaws.{newBase-fits}
-use Rattle.store.proofs.SoundLaws.{Sound}
+use Rattle.store.proofs.SoundLaws.{Sound, segment-inside}
 use Rattle.isolation.specs.Copies.{InPlace, setApart, Outside}
 
 pub in-place : (v : ℕ) (p : Place) (a : ℕ) → address v (baseOf p) ≤ a → a < address v (baseOf p) + lengthOf p
@@ -45,8 +45,7 @@ disjoint v w (Present b l) (Present b′ l′) s t h a u z =
 
 module _ (s : Store) (size : ℕ) (r : Sound s size) where
   pub place-inside : (n i : ℕ) → n < records → i < segments → inside (placeAt (tableAt s) n i) ≡ true
-  unfolding soundSegment
-  place-inside n i hn hi = r .ranged n i hn hi
+  place-inside n i hn hi = segment-inside (segmentOf (tableAt s n) i) (r .ranged n i hn hi)
 
   module _ (node local : ℕ) (high : node < nodes) (low : local < clusters) where
     pub place-outside : (v l i : ℕ) → v < nodes → l < clusters → i < segments → recordOf v l ≢ setApart node local

@@ -9,6 +9,8 @@ use Rattle.isolation.specs.Copies.{SixteenBytes}
 use Rattle.isolation.specs.Statements.{SoundKept, TwoCopies, ReadersAlterNothing, Agreed}
 use Rattle.isolation.specs.Witness.{one, two, tries, Concluded, Bites}
 use Rattle.isolation.specs.ReaderWitness.{Unharmed}
+use Rattle.isolation.specs.Frozen.{FrozenStays, FixedFromThenOn}
+use Rattle.isolation.specs.FrozenWitness.{Standing}
 use Rattle.isolation.specs.Checks.{ValidationJudges}
 use Rattle.isolation.proofs.KeptLaws.{sound-kept}
 use Rattle.isolation.proofs.TwoCopies.{two-copies}
@@ -16,6 +18,8 @@ use Rattle.isolation.proofs.ReaderLaws.{readers-alter-nothing}
 use Rattle.isolation.proofs.CheckLaws.{validation-judges}
 use Rattle.isolation.proofs.WitnessLaws.{agreed, concluded, bites}
 use Rattle.isolation.proofs.ReaderWitnessLaws.{unharmed}
+use Rattle.isolation.proofs.FrozenLaws.{frozen-stays, fixed-from-then-on}
+use Rattle.isolation.proofs.FrozenWitnessLaws.{standing}
 
 pub aes-sixteen : SixteenBytes product
 aes-sixteen n = length-conversion
@@ -28,6 +32,12 @@ aes-two-copies node local = two-copies node local product
 
 pub aes-readers-alter-nothing : (node local : ℕ) → ReadersAlterNothing node local product
 aes-readers-alter-nothing node local = readers-alter-nothing node local product
+
+pub aes-frozen-stays : FrozenStays product
+aes-frozen-stays = frozen-stays product
+
+pub aes-fixed-from-then-on : FixedFromThenOn product
+aes-fixed-from-then-on = fixed-from-then-on product
 
 pub aes-validation-judges : ValidationJudges product
 aes-validation-judges = validation-judges product aes-sixteen
@@ -43,6 +53,9 @@ aes-concluded = concluded product
 
 pub aes-unharmed : Unharmed product
 aes-unharmed = unharmed product
+
+pub aes-standing : Standing product
+aes-standing = standing product
 
 pub aes-bites : Bites product
 aes-bites = bites product

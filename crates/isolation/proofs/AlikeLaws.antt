@@ -16,15 +16,15 @@ use Rattle.store.specs.declared.Place.the-variants.{Absent}
 use Rattle.store.specs.declared.Cluster.{Cluster}
 use Rattle.store.specs.declared.Store.{Store}
 use Rattle.store.specs.Records.{Table, Tables, inactive, started, tableOf, clusterAt, tableAt, placeOf, putRecord}
-use Rattle.store.specs.Records.{withPlace, lengthOf, primaryOf, withPassword}
+use Rattle.store.specs.Records.{withPlace, withMark, lengthOf, primaryOf, withPassword}
 use Rattle.store.proofs.ChangeLaws.{put-other, put-same, put-out}
 use Rattle.calls.specs.Calls.{Copy, Call, call, Arguments, Kind, newCluster, deleteCluster, newSegment, deleteSegment}
-use Rattle.calls.specs.Calls.{read, write, weaken, reduce, newPassword, validate, look, opens, uses, handleOf, nodeFor}
+use Rattle.calls.specs.Calls.{read, write, weaken, reduce, newPassword, freeze, validate, look, opens, uses, handleOf, nodeFor}
 use Rattle.calls.specs.Calls.{localFor, recordFor, placeFor, startFor, partFor}
 use Rattle.calls.specs.Steps.{zeroHandle, handles, readReply, lookReply, within, putCluster, putBytes, about, newPlace}
 use Rattle.calls.specs.Steps.{newStart}
 use Rattle.calls.specs.Steps.{clusterMade, clusterDeleted, segmentMade, segmentDeleted, segmentWritten}
-use Rattle.calls.specs.Steps.{passwordReplaced}
+use Rattle.calls.specs.Steps.{passwordReplaced, segmentMarked}
 use Rattle.calls.specs.Steps.{left, segmentRead, segmentShown, given}
 use Rattle.isolation.specs.Copies.{SoundCopy, Done, InPlace, setApart, Alike, Shut}
 use Rattle.calls.proofs.MemoryLaws.{length-overwritten, overwritten-both, part-same}
@@ -140,7 +140,7 @@ module _ (node local : ℕ) (high : node < nodes) (low : local < clusters) (f : 
 
   pub left-alike : (kind : Kind) → Closed kind → Done f (call kind g) a
       → Alike node local (left kind (call kind g) a) (left kind (call kind g) b)
-  unfolding left clusterMade clusterDeleted segmentDeleted passwordReplaced
+  unfolding left clusterMade clusterDeleted segmentDeleted passwordReplaced segmentMarked
   left-alike newCluster h e =
       change node local a b al (call newCluster g) (λ d. started (g .first) (g .second))
       (new-away f g (a .store) (length (a .memory)) e (setApart node local) active)
@@ -157,6 +157,8 @@ module _ (node local : ℕ) (high : node < nodes) (low : local < clusters) (f : 
   left-alike newPassword h e =
       change node local a b al (call newPassword g) (λ d. withPassword d (g .mode) (g .first))
       (elsewhere newPassword refl e h)
+  left-alike freeze h e =
+      change node local a b al (call freeze g) (λ d. withMark d (g .segment)) (elsewhere freeze refl e h)
   left-alike validate h e = al
   left-alike look h e = al
 
@@ -222,5 +224,6 @@ module _ (node local : ℕ) (high : node < nodes) (low : local < clusters) (f : 
       zeroHandle 0)
       (al .others (recordFor x) (elsewhere reduce refl e h))
   given-alike newPassword h e = refl
+  given-alike freeze h e = refl
   given-alike validate h e = refl
   given-alike look h e = look-alike e (elsewhere look refl e h)

@@ -2,7 +2,7 @@
 -- since each row, at its kind, is the test in question. Validation and weakening meet few rows: the others compute
 -- away, and what is left is compared with the chain of conversions and with the handle crate's weakening.
 -- Assumes nothing.
-use mathlib.Core.Path.{_≡_, refl, sym, ap, _∙_}
+use mathlib.Core.Path.{_≡_, refl, sym, ap, _∙_, subst}
 use mathlib.Core.Logic.{_⊎_, inl, inr}
 use Prim.Native.Nat.{ℕ, zero, suc}
 use native.Mathlib.Omega.{arith}
@@ -24,14 +24,14 @@ use Rattle.store.specs.declared.Store.{Store}
 use Rattle.store.specs.Records.{clusterAt, tableAt, readMode, writeMode, primaryOf}
 use Rattle.store.specs.Sound.{sound}
 use Rattle.calls.specs.Calls.{Call, call, Arguments, Kind, newCluster, deleteCluster, newSegment, deleteSegment}
-use Rattle.calls.specs.Calls.{read, write, weaken, reduce, newPassword, validate, look, opens, needed}
+use Rattle.calls.specs.Calls.{read, write, weaken, reduce, newPassword, freeze, validate, look, opens, needed}
 use Rattle.calls.specs.Calls.{handleOf, buffer, recordNamed}
 use Rattle.calls.specs.Numbers.{unsound, noPlace, badMode, badSegment, badSize, badField, gappedHandle, elsewhere}
 use Rattle.calls.specs.Numbers.{inUse, twins, inactiveCluster, valid, violated, notPrimary, notReferenced, tests}
 use Rattle.calls.specs.Numbers.{number, Line, at}
 use Rattle.calls.specs.Steps.{plain, outcome, step}
 use Rattle.isolation.specs.Copies.{SixteenBytes}
-use Rattle.isolation.specs.Checks.{Refused, RefusalChangesNothing, FirstTold, Opener, MustHold, DoneHeld}
+use Rattle.isolation.specs.Checks.{Refused, RefusalChangesNothing, FirstTold, Opener, Owner, MustHold, DoneHeld}
 use Rattle.isolation.specs.Checks.{Judgeable, ValidationJudges, ValidationIsReduction}
 use Rattle.isolation.specs.Checks.{WeakeningIs}
 use Rattle.calls.proofs.StepLaws.{number-validate}
@@ -90,30 +90,28 @@ module _ (f : Name → List ℕ → ℕ → List ℕ) where
     same-node : (h : Handle) → not (eqb (g .current) (nodeOf h)) ≡ false → g .current ≡ nodeOf h
     same-node h e = eqb-true (g .current) (nodeOf h) (not-false (eqb (g .current) (nodeOf h)) e)
 
+    owner : (k : Kind) (e : number f (call k g) s size ≡ 0) → opens k ≡ true → needed (call k g) ≡ writeMode
+        → (not (all k) || false) ≡ false → not (eqb (g .current) (nodeOf (handleOf (call k g)))) ≡ false
+        → Owner f (call k g) s
+    owner k e o w p h =
+        record {
+          primary =
+              record {
+                opener = subst (λ (m : ℕ). Opener f m (call k g) s) w (opener (call k g) s size e o);
+                flat = all-flat (handleOf (call k g)) p;
+              };
+          here = same-node (handleOf (call k g)) h;
+        }
+
     held-kind : (k : Kind) → number f (call k g) s size ≡ 0 → MustHold f k (call k g) s
     unfolding notReferenced twins elsewhere notPrimary inUse
     held-kind newCluster e = let r = no-row f (call newCluster g) s size e in record { free = r .inUse; two = r .twins }
     held-kind deleteCluster e =
-        let x : Call = call deleteCluster g in
-        let r = no-row f x s size e in
-        record {
-          primary = record { opener = opener x s size e refl; flat = all-flat (handleOf x) (r .notPrimary) };
-          here = same-node (handleOf x) (r .elsewhere);
-        }
+        let r = no-row f (call deleteCluster g) s size e in owner deleteCluster e refl refl (r .notPrimary) (r .elsewhere)
     held-kind newSegment e =
-        let x : Call = call newSegment g in
-        let r = no-row f x s size e in
-        record {
-          primary = record { opener = opener x s size e refl; flat = all-flat (handleOf x) (r .notPrimary) };
-          here = same-node (handleOf x) (r .elsewhere);
-        }
+        let r = no-row f (call newSegment g) s size e in owner newSegment e refl refl (r .notPrimary) (r .elsewhere)
     held-kind deleteSegment e =
-        let x : Call = call deleteSegment g in
-        let r = no-row f x s size e in
-        record {
-          primary = record { opener = opener x s size e refl; flat = all-flat (handleOf x) (r .notPrimary) };
-          here = same-node (handleOf x) (r .elsewhere);
-        }
+        let r = no-row f (call deleteSegment g) s size e in owner deleteSegment e refl refl (r .notPrimary) (r .elsewhere)
     held-kind read e =
         let x : Call = call read g in
         record {
@@ -131,6 +129,8 @@ module _ (f : Name → List ℕ → ℕ → List ℕ) where
     held-kind newPassword e =
         let x : Call = call newPassword g in
         record { opener = opener x s size e refl; flat = all-flat (handleOf x) (no-row f x s size e .notPrimary) }
+    held-kind freeze e =
+        let r = no-row f (call freeze g) s size e in owner freeze e refl refl (r .notPrimary) (r .elsewhere)
     held-kind validate e = opener (call validate g) s size e refl
     held-kind look e =
         let x : Call = call look g in

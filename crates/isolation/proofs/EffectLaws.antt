@@ -17,7 +17,7 @@ use Rattle.store.specs.declared.Place.{Place}
 use Rattle.store.specs.declared.Place.the-variants.{Absent}
 use Rattle.store.specs.declared.Segment.{Segment}
 use Rattle.store.specs.declared.Cluster.{Cluster}
-use Rattle.store.specs.Records.{Tables, absentSegment, inactive, tableOf, recordOf, clusterAt, placeOf, placeAt}
+use Rattle.store.specs.Records.{Tables, segmentAt, absentSegment, inactive, tableOf, recordOf, clusterAt, placeOf, placeAt}
 use Rattle.store.specs.Records.{withPlace, baseOf, lengthOf, address}
 use Rattle.store.proofs.ChangeLaws.{put-same}
 use Rattle.calls.specs.Calls.{Copy, Call, call, Arguments, deleteCluster, newSegment, deleteSegment, read, write}
@@ -119,7 +119,7 @@ module _ (f : Name → List ℕ → ℕ → List ℕ) where
           ∙ ap (λ (d : Cluster). placeOf (tableOf d) (g .segment))
           (put-same (c .store) (recordFor x) made (active-in (c .store) (recordFor x) active))
           ∙ ap (λ (z : Segment). z .place)
-          (getD-set-same (about x c .segments) (g .segment) (record { place = newPlace x (tables c) }) absentSegment low)
+          (getD-set-same (about x c .segments) (g .segment) (segmentAt (newPlace x (tables c))) absentSegment low)
 
       part : take (g .size) (drop (newStart x (tables c)) (overwritten (c .memory) (newStart x (tables c)) cleared))
           ≡ cleared

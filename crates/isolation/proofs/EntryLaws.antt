@@ -8,22 +8,25 @@ use native.Mathlib.Omega.{arith}
 use native.Mathlib.Decide.{ℕ-discrete, decLt}
 use mathlib.Core.List.{List}
 use lib.ListN.{length}
-use lib.Seq.{getD-set-other}
+use lib.Seq.{getD-set-same, getD-set-other}
 use Rattle.handle.specs.Handles.{Name}
 use Rattle.store.specs.declared.Place.{Place}
 use Rattle.store.specs.declared.Place.the-variants.{Absent}
+use Rattle.store.specs.declared.Segment.{Segment}
 use Rattle.store.specs.declared.Cluster.{Cluster}
 use Rattle.store.specs.declared.Store.{Store}
-use Rattle.store.specs.Records.{absentSegment, clusterAt, tableAt, putRecord, withPlace, readMode, writeMode, primaryOf}
+use Rattle.store.specs.Records.{segmentAt, absentSegment, clusterAt, tableAt, putRecord, withSegment, withPlace, withMark}
+use Rattle.store.specs.Records.{readMode, writeMode, primaryOf}
 use Rattle.store.proofs.ChangeLaws.{put-other, put-same, put-out}
 use Rattle.calls.specs.Calls.{Copy, Call, call, Arguments, Kind, newCluster, deleteCluster, newSegment, deleteSegment}
-use Rattle.calls.specs.Calls.{read, write, weaken, reduce, newPassword, validate, look, recordFor}
+use Rattle.calls.specs.Calls.{read, write, weaken, reduce, newPassword, freeze, validate, look, recordFor}
 use Rattle.store.specs.Records.{withPassword}
 use Rattle.calls.specs.Steps.{about, newPlace, effects}
 use Rattle.calls.specs.Steps.{left}
 use Rattle.isolation.specs.Copies.{Done}
-use Rattle.isolation.specs.Effects.{otherMode, OtherSegments, OtherPassword, Entries, EntriesStay}
+use Rattle.isolation.specs.Effects.{otherMode, OtherSegments, OtherPassword, OtherMarks, Entries, EntriesStay}
 use Rattle.calls.proofs.DoneLaws.{done-mode}
+use Rattle.calls.proofs.FreezeLaws.{present-in, freeze-present}
 use Rattle.isolation.proofs.KeptLaws.{by-number}
 
 -- a record put, seen at some record: as it was, or the new one
@@ -57,17 +60,18 @@ entries-same write x a = refl
 entries-same weaken x a = refl
 entries-same reduce x a = refl
 entries-same newPassword x a = record { table = refl; password = refl }
+entries-same freeze x a = record { others = record { active = refl; read = refl; write = refl; segments = λ j ne. refl }; place = refl }
 entries-same validate x a = refl
 entries-same look x a = refl
 
 -- a segment replaced leaves the others
-placed : (x : Call) (a : Cluster) (p : Place) → OtherSegments x a (withPlace a (x .args .segment) p)
-placed x a p =
+placed : (x : Call) (a : Cluster) (g : Segment) → OtherSegments x a (withSegment a (x .args .segment) g)
+placed x a g =
     record {
       active = refl;
       read = refl;
       write = refl;
-      segments = λ j ne. getD-set-other (a .segments) (x .args .segment) j (record { place = p }) absentSegment ne;
+      segments = λ j ne. getD-set-other (a .segments) (x .args .segment) j g absentSegment ne;
     }
 
 -- a password replaced leaves the other one, in either mode
@@ -79,7 +83,7 @@ other-stays a m p (inr q) =
     ap (λ (m : ℕ). primaryOf (withPassword a m p) (otherMode m)) q ∙ ap (λ (m : ℕ). primaryOf a (otherMode m)) (sym q)
 
 module _ (f : Name → List ℕ → ℕ → List ℕ) (g : Arguments) (c : Copy) where
-  left-entries : (k : Kind) → Done f (call k g) c
+  pub left-entries : (k : Kind) → Done f (call k g) c
       → Entries k (call k g) (about (call k g) c) (clusterAt (left k (call k g) c .store) (recordFor (call k g)))
   unfolding effects
   left-entries newCluster e = tt
@@ -88,11 +92,11 @@ module _ (f : Name → List ℕ → ℕ → List ℕ) (g : Arguments) (c : Copy)
       let x : Call = call newSegment g in
       let p : Place = newPlace x (tableAt (c .store)) in
       by-cases (OtherSegments x (about x c)) (c .store) (recordFor x) (withPlace (about x c) (g .segment) p)
-      (entries-same newSegment x (about x c)) (placed x (about x c) p)
+      (entries-same newSegment x (about x c)) (placed x (about x c) (segmentAt p))
   left-entries deleteSegment e =
       let x : Call = call deleteSegment g in
       by-cases (OtherSegments x (about x c)) (c .store) (recordFor x) (withPlace (about x c) (g .segment) Absent)
-      (entries-same deleteSegment x (about x c)) (placed x (about x c) Absent)
+      (entries-same deleteSegment x (about x c)) (placed x (about x c) absentSegment)
   left-entries read e = refl
   left-entries write e = refl
   left-entries weaken e = refl
@@ -105,6 +109,17 @@ module _ (f : Name → List ℕ → ℕ → List ℕ) (g : Arguments) (c : Copy)
         table = refl;
         password =
             other-stays (about x c) (g .mode) (g .first) (done-mode f x (c .store) (length (c .memory)) e);
+      })
+  left-entries freeze e =
+      let x : Call = call freeze g in
+      by-cases (OtherMarks x (about x c)) (c .store) (recordFor x) (withMark (about x c) (g .segment))
+      (entries-same freeze x (about x c))
+      (record {
+        others = placed x (about x c) _;
+        place =
+            ap (λ (z : Segment). z .place)
+            (getD-set-same (about x c .segments) (g .segment) _ absentSegment
+            (present-in (about x c) (g .segment) (freeze-present f g c e)));
       })
   left-entries validate e = refl
   left-entries look e = refl

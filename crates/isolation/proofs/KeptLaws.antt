@@ -21,8 +21,9 @@ use Rattle.store.proofs.PlaceLaws.{inside-out}
 use Rattle.store.proofs.PlacementLaws.{newBase-fits}
 use Rattle.store.proofs.SoundLaws.{Sound, sound-out, settled-active, sound-starting}
 use Rattle.store.proofs.ChangeLaws.{put-other, sound-same, sound-inactive, sound-started, sound-made, sound-removed}
+use Rattle.store.proofs.ChangeLaws.{sound-frozen}
 use Rattle.calls.specs.Calls.{Copy, Call, call, Arguments, Kind, newCluster, deleteCluster, newSegment, deleteSegment}
-use Rattle.calls.specs.Calls.{read, write, weaken, reduce, newPassword, validate, look, nodeFor, localFor, recordFor}
+use Rattle.calls.specs.Calls.{read, write, weaken, reduce, newPassword, freeze, validate, look, nodeFor, localFor, recordFor}
 use Rattle.calls.specs.Calls.{start, uses, placeFor, startFor}
 use Rattle.calls.specs.Numbers.{badSegment, number}
 use Rattle.calls.specs.Steps.{putCluster, about, newBaseFor, newPlace, newStart, effects}
@@ -33,6 +34,7 @@ use Rattle.calls.proofs.MemoryLaws.{length-overwritten, overwritten-out}
 use Rattle.calls.proofs.CallLaws.{InRange, guarded}
 use Rattle.isolation.proofs.AddressLaws.{in-place, place-fits, place-inside, place-outside, room-outside}
 use Rattle.isolation.proofs.AwayLaws.{named}
+use Rattle.calls.proofs.FreezeLaws.{freeze-present}
 use Rattle.calls.proofs.DoneLaws.{done-range, done-segment, done-active, new-base, write-long}
 
 abbrev pub tables : Copy → Tables
@@ -123,6 +125,11 @@ module _ (f : Name → List ℕ → ℕ → List ℕ) where
         let d : Cluster = withPassword (about x c) (g .mode) (g .first) in
         sound-same (c .store) _ k _ _ (v .node-low) (v .local-low) d
         (settled-active d (done-active f x (c .store) (length (c .memory)) e refl)) refl
+    left-sound freeze e =
+        let x : Call = call freeze g in
+        let v = done-range f x (c .store) (length (c .memory)) e in
+        sound-frozen (c .store) _ k _ _ (v .node-low) (v .local-low) (g .segment)
+        (done-active f x (c .store) (length (c .memory)) e refl) (freeze-present f g c e)
     left-sound validate e = k
     left-sound look e = k
 
@@ -134,7 +141,7 @@ module _ (f : Name → List ℕ → ℕ → List ℕ) where
     same-own : (x : Call) → OnlyItsOwn x c c
     same-own x = record { records = λ n ne. refl; size = refl; bytes = λ p u. refl }
 
-    left-own : (kind : Kind) → Done f (call kind g) c → OnlyItsOwn (call kind g) c (left kind (call kind g) c)
+    pub left-own : (kind : Kind) → Done f (call kind g) c → OnlyItsOwn (call kind g) c (left kind (call kind g) c)
     unfolding effects
     left-own newCluster e = put-own (call newCluster g) _
     left-own deleteCluster e = put-own (call deleteCluster g) _
@@ -161,6 +168,7 @@ module _ (f : Name → List ℕ → ℕ → List ℕ) where
     left-own weaken e = same-own (call weaken g)
     left-own reduce e = same-own (call reduce g)
     left-own newPassword e = put-own (call newPassword g) _
+    left-own freeze e = put-own (call freeze g) _
     left-own validate e = same-own (call validate g)
     left-own look e = same-own (call look g)
 
@@ -181,6 +189,7 @@ module _ (f : Name → List ℕ → ℕ → List ℕ) where
       touched-outside weaken e ne p t = absurd t
       touched-outside reduce e ne p t = absurd t
       touched-outside newPassword e ne p t = absurd t
+      touched-outside freeze e ne p t = absurd t
       touched-outside validate e ne p t = absurd t
       touched-outside look e ne p t = absurd t
 

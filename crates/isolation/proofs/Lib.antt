@@ -6,12 +6,14 @@ pub mod NumberLaws
 pub mod AlikeLaws
 pub mod TwoCopies
 pub mod ReaderLaws
+pub mod FrozenLaws
 pub mod UnusedLaws
 pub mod CheckLaws
 pub mod RunLaws
 pub mod ReplyLaws
 pub mod WitnessLaws
 pub mod ReaderWitnessLaws
+pub mod FrozenWitnessLaws
 pub mod GivenLaws
 pub mod EffectLaws
 pub mod ReadLaws

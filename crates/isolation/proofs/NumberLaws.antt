@@ -18,11 +18,11 @@ use Rattle.store.specs.declared.Store.{Store}
 use Rattle.store.specs.Records.{Tables, tableOf, tableAt, readMode, writeMode, primaryOf}
 use Rattle.store.specs.Sound.{sound}
 use Rattle.calls.specs.Calls.{Copy, Call, call, Arguments, Kind, newCluster, deleteCluster, newSegment, deleteSegment}
-use Rattle.calls.specs.Calls.{read, write, weaken, reduce, newPassword, validate, look, opens, needed}
+use Rattle.calls.specs.Calls.{read, write, weaken, reduce, newPassword, freeze, validate, look, opens, needed}
 use Rattle.calls.specs.Calls.{handleOf, presented, anyOf, recordFor, recordNamed}
 use Rattle.calls.specs.Looks.{lookedBy, looked}
 use Rattle.calls.specs.Numbers.{unsound, noPlace, badField, gappedHandle, inUse, inactiveCluster, valid, violated}
-use Rattle.calls.specs.Numbers.{isOld, oldPassword, segmentPresent, segmentAbsent, short, fullNode}
+use Rattle.calls.specs.Numbers.{isOld, oldPassword, clusterFrozen, segmentPresent, segmentAbsent, segmentFrozen, short, fullNode}
 use Rattle.calls.specs.Numbers.{byTables, byRecords, rows, number}
 use Rattle.isolation.specs.Copies.{SoundCopy, setApart, Alike, Shut}
 use Rattle.calls.proofs.FirstLaws.{Agree, _▸_, first-agree}
@@ -59,10 +59,12 @@ module _ (f : Name → List ℕ → ℕ → List ℕ) (x : Call) (a b : Store) (
       tabled 8 inactiveCluster ▸ λ e8.
       told 9 (violated f) (validation e2 e4 e3) ▸ λ e9.
       refl ▸ λ e10.
+      tabled 22 clusterFrozen ▸ λ e22.
       refl ▸ λ e11.
       told 12 oldPassword (renewal e2 e4 e3 e9) ▸ λ e12.
       tabled 13 segmentPresent ▸ λ e13.
       tabled 14 segmentAbsent ▸ λ e14.
+      tabled 22 segmentFrozen ▸ λ q22.
       tabled 15 short ▸ λ e15.
       tabled 16 fullNode ▸ λ e16.
       refl ▸ λ e21.
@@ -154,6 +156,7 @@ module _ (node local : ℕ) (low : local < clusters) (f : Name → List ℕ → 
   same-old write g ha hb p e m v = refl
   same-old weaken g ha hb p e m v = refl
   same-old reduce g ha hb p e m v = refl
+  same-old freeze g ha hb p e m v = refl
   same-old validate g ha hb p e m v = refl
   same-old look g ha hb p e m v = refl
 

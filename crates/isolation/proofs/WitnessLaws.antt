@@ -10,7 +10,6 @@ use native.Mathlib.Omega.{arith}
 use lib.Dec.{eqb}
 use lib.ListN.{length, getD}
 use borrow.Author.Tests.{eq-eqb}
-use Rattle.loops.specs.Below.{every}
 use Rattle.loops.specs.Tabulate.{tabulate}
 use Rattle.loops.proofs.BelowLaws.{every-in}
 use Rattle.loops.proofs.TabulateLaws.{getD-tabulate}
@@ -20,9 +19,7 @@ use Rattle.handle.proofs.CodecLaws.{listed}
 use Rattle.store.specs.declared.Place.the-variants.{Present}
 use Rattle.store.specs.declared.Store.{Store}
 use Rattle.store.specs.declared.Cluster.{Cluster}
-use Rattle.store.specs.Records.{startingStore, started, tableAt, placeOn, putRecord, withPlace}
-use Rattle.store.specs.Sound.{inRanges, endsInside, inside, soundSegment, apart, nodeApart, zeroBytes, idle, settled}
-use Rattle.store.specs.Sound.{sound}
+use Rattle.store.specs.Records.{startingStore, started, tableAt, placeOn, putRecord, withPlace, withMark}
 use Rattle.store.proofs.ChangeLaws.{put-other}
 use Rattle.calls.specs.declared.Looked.{Looked}
 use Rattle.calls.specs.Calls.{Copy, handleOf}
@@ -38,15 +35,15 @@ use Rattle.calls.proofs.StepLaws.{numberBelow, number-below}
 use Rattle.isolation.proofs.RunLaws.{stepBelow, step-below, runBelow, run-below, last-below, someBelow, isKeyed, shut-below}
 use Rattle.isolation.proofs.RunLaws.{lookedBelow, placesBelow, places-below, last-place}
 use Rattle.calls.specs.Numbers.{valid, violated, tests, otherTests}
-use Rattle.calls.proofs.Computing.{computing}
+use Rattle.calls.proofs.Computing.{computing, sounding}
 use Rattle.isolation.proofs.TwoCopies.{two-copies}
 
 pub sound-one : SoundCopy one
-unfolding sound every soundSegment nodeApart settled idle zeroBytes apart inside inRanges endsInside
+unfolding sounding
 sound-one = refl
 
 sound-two : SoundCopy two
-unfolding sound every soundSegment nodeApart settled idle zeroBytes apart inside inRanges endsInside
+unfolding sounding
 sound-two = refl
 
 alike : Alike 0 2 one two
@@ -94,9 +91,11 @@ module _ (f : Name → List ℕ → ℕ → List ℕ) where
   unfolding tests effects computing
   replies-before = refl
 
-  -- the records before the last call: the other node's cluster has its segment
+  -- the records before the last call: the other node's cluster has its segment, and the one that is frozen stays
   abbrev records : Store
-  records = putRecord (one .store) 26 (withPlace (started (sixteen 3) (sixteen 4)) 7 (Present 0 2))
+  records =
+      putRecord (putRecord (one .store) 4 (withMark (withPlace (started (sixteen 3) (sixteen 4)) 6 (Present 4 1)) 6)) 26
+      (withPlace (started (sixteen 3) (sixteen 4)) 7 (Present 0 2))
 
   records-before : left .store ≡ records
   unfolding tests effects computing

@@ -37,7 +37,7 @@ use Rattle.store.specs.declared.Store.{Store}
 use Rattle.store.specs.Records.{recordOf, clusterAt, tableAt, readMode, writeMode, primaryOf}
 use Rattle.store.specs.Sound.{sound}
 use Rattle.calls.specs.Calls.{Copy, Call, call, Arguments, Kind, newCluster, deleteCluster, newSegment, deleteSegment}
-use Rattle.calls.specs.Calls.{read, write, weaken, reduce, newPassword, validate, look, Uses, uses}
+use Rattle.calls.specs.Calls.{read, write, weaken, reduce, newPassword, freeze, validate, look, Uses, uses}
 use Rattle.calls.specs.Calls.{handleOf, buffer, recordNamed}
 use Rattle.calls.specs.Numbers.{valid, rows, number}
 use Rattle.calls.specs.Clear.{Clear}
@@ -128,6 +128,7 @@ module _ (f : Name → List ℕ → ℕ → List ℕ) where
   MustHold weaken x s = Unit {0}
   MustHold reduce x s = Opener (x .args .mode) x s
   MustHold newPassword x s = Primary (x .args .mode) x s
+  MustHold freeze x s = Owner x s
   MustHold validate x s = Opener (x .args .mode) x s
   MustHold look x s = Local x s
 

@@ -19,6 +19,7 @@
 -- And of a call done or refused:
 --     OtherSegments      the record a has become b: active or not, passwords and the other segments are as they were
 --     OtherPassword      its table and the password of the other mode are as they were
+--     OtherMarks         all is as it was but for the mark of the segment that the call names
 --     Entries k x a b    what a call of the kind k leaves alone in its own cluster's record, a before it and b after
 --     EntriesStay        every call leaves these alone
 -- Assumes nothing.
@@ -39,10 +40,10 @@ use Rattle.handle.specs.Handles.{Name, nameOf, widthOf, decoded}
 use Rattle.store.specs.declared.Place.the-variants.{Absent}
 use Rattle.store.specs.declared.Cluster.{Cluster}
 use Rattle.store.specs.declared.Store.{Store}
-use Rattle.store.specs.Records.{inactive, tableOf, clusterAt, tableAt, segmentOf}
+use Rattle.store.specs.Records.{inactive, tableOf, clusterAt, tableAt, segmentOf, placeOf}
 use Rattle.calls.specs.Calls.{Copy, Call, call, Arguments, Kind, newCluster, deleteCluster, newSegment, deleteSegment}
 use Rattle.store.specs.Records.{readMode, writeMode, lengthOf, primaryOf}
-use Rattle.calls.specs.Calls.{read, write, weaken, reduce, newPassword, validate, look}
+use Rattle.calls.specs.Calls.{read, write, weaken, reduce, newPassword, freeze, validate, look}
 use Rattle.calls.specs.Calls.{handleOf, nodeFor, localFor, recordFor, placeFor}
 use Rattle.calls.specs.Numbers.{valid}
 use Rattle.calls.specs.Steps.{Outcome, step}
@@ -159,6 +160,10 @@ pub record OtherPassword (x : Call) (a b : Cluster) : Type 0 where
   pub table : tableOf b ≡ tableOf a
   pub password : primaryOf b (otherMode (x .args .mode)) ≡ primaryOf a (otherMode (x .args .mode))
 
+pub record OtherMarks (x : Call) (a b : Cluster) : Type 0 where
+  pub others : OtherSegments x a b
+  pub place : placeOf (tableOf b) (x .args .segment) ≡ placeOf (tableOf a) (x .args .segment)
+
 abbrev pub Entries : Kind → Call → Cluster → Cluster → Type 0
 Entries newCluster x a b = Unit {0}
 Entries deleteCluster x a b = Unit {0}
@@ -169,6 +174,7 @@ Entries write x a b = b ≡ a
 Entries weaken x a b = b ≡ a
 Entries reduce x a b = b ≡ a
 Entries newPassword x a b = OtherPassword x a b
+Entries freeze x a b = OtherMarks x a b
 Entries validate x a b = b ≡ a
 Entries look x a b = b ≡ a
 

@@ -5,4 +5,6 @@ pub mod Replies
 pub mod Witness
 pub mod ReaderWitness
 pub mod Effects
+pub mod Frozen
+pub mod FrozenWitness
 pub mod Reads

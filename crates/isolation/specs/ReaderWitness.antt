@@ -1,8 +1,8 @@
 -- That readers alter nothing is not empty: a list of calls by a holder of the read primary handle of the cluster set apart,
 -- on the copy `one` of the witness of condition 3. Handles and answers are written out.
 --     readerCalls        calls 5, 7, 8, 9, validation and a look done with that handle, and a read with the handle that call
---                        9 gave; each call that writes, and a new write password, tried with it and refused; and the same
---                        calls done for another cluster with its write primary handle
+--                        9 gave; each call that writes, a freeze and a new write password, tried with it and refused; and
+--                        the same calls done for other clusters with their write primary handles
 --     readerAnswers      what is answered
 -- For every conversion f:
 --     ReadersList        no call presents a handle of the cluster that validates for writing, and the answers are computed
@@ -17,7 +17,7 @@ use Rattle.handle.specs.Handles.{Name}
 use Rattle.store.specs.declared.Place.the-variants.{Present}
 use Rattle.store.specs.Records.{clusterAt, tableAt, placeOn}
 use Rattle.calls.specs.Calls.{Call, makingCluster, deletingCluster, makingSegment, deletingSegment, reading}
-use Rattle.calls.specs.Calls.{writing, weakeningBy, reducing, renewing, validating, looking}
+use Rattle.calls.specs.Calls.{writing, weakeningBy, reducing, renewing, freezing, validating, looking}
 use Rattle.calls.specs.Steps.{Reply, run}
 use Rattle.calls.specs.Literals.{sixteen, primary, none, told, shows}
 use Rattle.isolation.specs.Copies.{NoWriter}
@@ -38,6 +38,7 @@ readerCalls =
     ∷ deletingSegment 0 5 (primary 0 2 17)
     ∷ writing 5 (primary 0 2 17) (6 ∷ 6 ∷ 6 ∷ 6 ∷ [])
     ∷ renewing 2 (primary 0 2 17) (sixteen 6)
+    ∷ freezing 0 5 (primary 0 2 17)
     ∷ renewing 1 (primary 0 2 17) (sixteen 18)
     ∷ reading 5 (primary 0 2 18) (1 ∷ 2 ∷ 3 ∷ 4 ∷ [])
     -- with the write handle of another
@@ -47,6 +48,9 @@ readerCalls =
     ∷ renewing 2 (primary 0 3 4) (sixteen 6)
     ∷ deletingSegment 0 5 (primary 0 3 6)
     ∷ deletingCluster 0 (primary 0 3 6)
+    ∷ makingCluster 0 4 (sixteen 3) (sixteen 4)
+    ∷ makingSegment 0 5 2 (primary 0 4 4)
+    ∷ freezing 0 5 (primary 0 4 4)
     ∷ []
 
 abbrev pub readerAnswers : List Reply
@@ -63,6 +67,7 @@ readerAnswers =
     ∷ told 9 none none 0 0 []
     ∷ told 9 none none 0 0 (6 ∷ 6 ∷ 6 ∷ 6 ∷ [])
     ∷ told 9 none none 0 0 []
+    ∷ told 9 none none 0 0 []
     ∷ told 0 (primary 0 2 18) none 0 0 []
     ∷ told 0 none none 0 4 (7 ∷ 7 ∷ 7 ∷ 7 ∷ [])
     -- with the write handle of another
@@ -70,6 +75,9 @@ readerAnswers =
     ∷ told 0 none none 0 0 []
     ∷ told 0 none none 0 0 (6 ∷ 6 ∷ [])
     ∷ told 0 (primary 0 3 6) none 0 0 []
+    ∷ told 0 none none 0 0 []
+    ∷ told 0 none none 0 0 []
+    ∷ told 0 (primary 0 4 3) (primary 0 4 4) 0 0 []
     ∷ told 0 none none 0 0 []
     ∷ told 0 none none 0 0 []
     ∷ []

@@ -2,22 +2,25 @@
 -- starting store, by the conversion of the numbers' lists. Handles and replies are written out.
 --     weak b                    a handle of node 1 and local number 2 that references segment 5 alone: its password is
 --                               sixteen bytes b and 32, the parameter that keeps segment 5
---     doneCalls, doneReplies    the calls and their whole replies; the last ones take the highest node, local number,
---                               segment and size
+--     doneCalls, doneReplies    the calls and their whole replies; some take the highest node, local number, segment
+--                               and size; a freeze is the last, since what is frozen stays
 --     seen                      what is looked at in the end: the replies, the records, three bytes of the memory
---     EachDone                  they are the replies; the records are as at the start, and the bytes written stay
+--     frozenStore               the starting store but for one cluster, whose segment is frozen
+--     EachDone                  they are the replies; the records are those, and the bytes written stay
 -- Assumes nothing.
 use mathlib.Core.Path.{_≡_}
 use Prim.Native.Nat.{ℕ, _+_}
 use mathlib.Core.List.{List, [], _∷_}
-use lib.ListN.{take, drop}
+use mathlib.Core.Bool.{true, false}
+use lib.ListN.{take, drop, replicate}
+use Rattle.store.specs.declared.Place.the-variants.{Absent, Present}
 use Rattle.store.specs.declared.Store.{Store}
-use Rattle.store.specs.Records.{startingStore}
+use Rattle.store.specs.Records.{startingStore, putRecord}
 use Rattle.calls.specs.Calls.{start, Call}
 use Rattle.calls.specs.Steps.{Reply, Ran, run}
 use Rattle.calls.specs.Cases.{added}
 use Rattle.calls.specs.Calls.{makingCluster, deletingCluster, makingSegment, deletingSegment, reading}
-use Rattle.calls.specs.Calls.{writing, weakeningBy, reducing, renewing, validating, looking}
+use Rattle.calls.specs.Calls.{writing, weakeningBy, reducing, renewing, freezing, validating, looking}
 use Rattle.calls.specs.Literals.{sixteen, handle, primary, none, told, shows}
 
 abbrev weak : ℕ → List ℕ
@@ -42,6 +45,9 @@ doneCalls =
     ∷ makingCluster 3 7 (sixteen 5) (sixteen 6)
     ∷ makingSegment 3 7 4096 (primary 3 7 6)
     ∷ deletingCluster 3 (primary 3 7 6)
+    ∷ makingCluster 0 0 (sixteen 7) (sixteen 8)
+    ∷ makingSegment 0 0 1 (primary 0 0 8)
+    ∷ freezing 0 0 (primary 0 0 8)
     ∷ []
 
 abbrev pub doneReplies : List Reply
@@ -63,7 +69,21 @@ doneReplies =
     ∷ told 0 (primary 3 7 5) (primary 3 7 6) 0 0 []
     ∷ told 0 none none 0 0 []
     ∷ told 0 none none 0 0 []
+    ∷ told 0 (primary 0 0 7) (primary 0 0 8) 0 0 []
+    ∷ told 0 none none 0 0 []
+    ∷ told 0 none none 0 0 []
     ∷ []
+
+-- its first cluster is active, with these passwords; its segment 0 is the first byte of node 0's memory, and frozen
+abbrev pub frozenStore : Store
+frozenStore =
+    putRecord startingStore 0
+    (record {
+      active = true;
+      read = sixteen 7;
+      write = sixteen 8;
+      segments = record { place = Present 0 1; frozen = true } ∷ replicate 7 (record { place = Absent; frozen = false });
+    })
 
 pub record Seen : Type 0 where
   pub replies : List Reply
@@ -76,4 +96,4 @@ seen r = record { replies = r .replies; store = r .copy .store; bytes = take 3 (
 abbrev pub EachDone : Type 0
 EachDone =
     seen (run added doneCalls start)
-    ≡ record { replies = doneReplies; store = startingStore; bytes = 7 ∷ 8 ∷ 9 ∷ [] }
+    ≡ record { replies = doneReplies; store = frozenStore; bytes = 7 ∷ 8 ∷ 9 ∷ [] }

@@ -9,9 +9,9 @@
 --     weakPassword        what the parameter 128 turns the read password of local number 2 of node 3 into
 --     weakGiven           the bytes of the handle with that password, whose subselector 0 is 128
 --     weakShown           with the first sixteen bytes of that password; the same, where f gives sixteen bytes
---     before              each of the nine calls, validation and a look with a handle of the cluster that does not validate,
---                         all refused, and a weakening of one that does; each of them done for a cluster of the same node;
---                         and some for one with the same local number, whose read handle is weakened, with looks from its
+--     before              each of the ten calls, validation and a look with a handle of the cluster that does not validate,
+--                         all refused, and a weakening of one that does; each of them done for a cluster of the same node, a
+--                         freeze for a second one, which is then not deleted; and some for one with the same local number, whose read handle is weakened, with looks from its
 --                         node, one of them with a handle of the cluster set apart
 --     last, lastLook      a read and a look with the weakened handle
 --     tries, answers      all these calls, and what both copies answer
@@ -33,7 +33,7 @@ use Rattle.handle.specs.Handles.{Name}
 use Rattle.store.specs.declared.Place.the-variants.{Present}
 use Rattle.store.specs.Records.{startingStore, started, recordOf, clusterAt, tableAt, putRecord, withPlace}
 use Rattle.calls.specs.Calls.{Copy, Call, makingCluster, deletingCluster, makingSegment, deletingSegment, reading}
-use Rattle.calls.specs.Calls.{writing, weakeningBy, reducing, renewing, validating, looking}
+use Rattle.calls.specs.Calls.{writing, weakeningBy, reducing, renewing, freezing, validating, looking}
 use Rattle.calls.specs.Numbers.{number}
 use Rattle.calls.specs.Steps.{Reply, step, run}
 use Rattle.calls.specs.Literals.{sixteen, handle, primary, none, told, shows}
@@ -98,6 +98,7 @@ module _ (f : Name → List ℕ → ℕ → List ℕ) where
       ∷ weakeningBy 255 (primary 0 2 17)
       ∷ reducing 1 (primary 0 2 5)
       ∷ renewing 1 (primary 0 2 5) (sixteen 6)
+      ∷ freezing 0 5 (primary 0 2 5)
       ∷ validating 2 (primary 0 2 5)
       ∷ looking 0 5 (primary 0 2 5)
       -- a cluster of the same node
@@ -112,6 +113,11 @@ module _ (f : Name → List ℕ → ℕ → List ℕ) where
       ∷ validating 2 (primary 0 3 6)
       ∷ deletingSegment 0 7 (primary 0 3 6)
       ∷ deletingCluster 0 (primary 0 3 6)
+      ∷ makingCluster 0 4 (sixteen 3) (sixteen 4)
+      ∷ makingSegment 0 6 1 (primary 0 4 4)
+      ∷ freezing 0 6 (primary 0 4 4)
+      ∷ freezing 0 6 (primary 0 4 4)
+      ∷ deletingCluster 0 (primary 0 4 4)
       -- a cluster with the same local number
       ∷ makingCluster 3 2 (sixteen 3) (sixteen 4)
       ∷ makingSegment 3 7 2 (primary 3 2 4)
@@ -143,6 +149,7 @@ module _ (f : Name → List ℕ → ℕ → List ℕ) where
       ∷ told 9 none none 0 0 []
       ∷ told 9 none none 0 0 []
       ∷ told 9 none none 0 0 []
+      ∷ told 9 none none 0 0 []
       ∷ shows 9 []
       -- a cluster of the same node
       ∷ told 0 (primary 0 3 3) (primary 0 3 4) 0 0 []
@@ -156,6 +163,11 @@ module _ (f : Name → List ℕ → ℕ → List ℕ) where
       ∷ told 0 none none 0 0 []
       ∷ told 0 none none 0 0 []
       ∷ told 0 none none 0 0 []
+      ∷ told 0 (primary 0 4 3) (primary 0 4 4) 0 0 []
+      ∷ told 0 none none 0 0 []
+      ∷ told 0 none none 0 0 []
+      ∷ told 0 none none 0 0 []
+      ∷ told 22 none none 0 0 []
       -- a cluster with the same local number
       ∷ told 0 (primary 3 2 3) (primary 3 2 4) 0 0 []
       ∷ told 0 none none 0 0 []

@@ -1,5 +1,5 @@
 -- Stores to measure with: every cluster active with zero passwords, segment i of record n at entry n * 8 + i of two
--- tables, absent where its length is zero.
+-- tables, absent where its length is zero; none is frozen.
 -- Assumes nothing.
 use Prim.Native.Nat.{ℕ, _+_, _*_}
 use mathlib.Core.Bool.{true, false}
@@ -13,13 +13,14 @@ use Rattle.store.specs.declared.Place.the-variants.{Absent, Present}
 use Rattle.store.specs.declared.Segment.{Segment}
 use Rattle.store.specs.declared.Cluster.{Cluster}
 use Rattle.store.specs.declared.Store.{Store}
+use Rattle.store.specs.Records.{segmentAt}
 
 unfoldable pub placeFrom : ℕ → ℕ → Place
 placeFrom base length = elim (eqb length 0) [ true ↦ Absent | false ↦ Present base length ]
 
 abbrev pub segmentFrom : List ℕ → List ℕ → ℕ → ℕ → Segment
 segmentFrom bases lengths n i =
-    record { place = placeFrom (getD bases (n * segments + i) 0) (getD lengths (n * segments + i) 0) }
+    segmentAt (placeFrom (getD bases (n * segments + i) 0) (getD lengths (n * segments + i) 0))
 
 unfoldable pub clusterFrom : List ℕ → List ℕ → ℕ → Cluster
 clusterFrom bases lengths n =

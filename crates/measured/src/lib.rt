@@ -75,12 +75,14 @@ fn segments_from(bases: &[u16; 256], lengths: &[u16; 256], n: usize) -> [Segment
 {
     let absent = Segment {
         place: Place::Absent,
+        frozen: false,
     };
     let mut r = [absent; SEGMENTS];
     for i in 0..SEGMENTS {
         let at = n * SEGMENTS + i;
         r[i] = Segment {
             place: place_from(bases[at], lengths[at]),
+            frozen: false,
         };
     }
     r

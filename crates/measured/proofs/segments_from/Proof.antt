@@ -1,10 +1,10 @@
 -- Before turn i the first i segments are those of the tables.
 -- Assumes nothing.
-use mathlib.Core.Path.{refl}
+use mathlib.Core.Path.{refl, ap}
 use Prim.Native.Nat.{_-_}
 use borrow.Author.Needs.{needs}
 use Rattle.sizes.specs.Sizes.{segments}
-use Rattle.store.specs.Records.{absentSegment}
+use Rattle.store.specs.Records.{segmentAt, absentSegment}
 use Rattle.loops.proofs.TabulateLaws.{Filled, filled-none, filled-more, filled-all}
 use Rattle.measured.specs.Stores.{segmentFrom}
 use Rattle.measured.proofs.segments_from.Statement.{statement}
@@ -23,7 +23,7 @@ loop-again : tie.Need-loop-again Inv-loop μ-loop
 loop-again c =
     let l = c .before .before .before .before .loop in
     filled-more segments _ absentSegment (l .i) (l .r) (l .inv) (search needs) _
-    (λ j. record { place = c .place-from .ensures j })
+    (ap segmentAt (c .place-from .ensures))
 
 returns : tie.Need-returns Inv-loop μ-loop
 returns c = filled-all segments _ absentSegment _ _ (c .before .loop .inv) (search needs)
