@@ -1,8 +1,9 @@
 -- An inactive record of a sound store is all zeros. Zeros are the record of an inactive cluster; and the other way round,
--- an idle cluster that is not active is the inactive one, whose record is zeros, and good bytes are their cluster's record.
+-- an idle cluster that is not active, and of which no absent segment is frozen, is the inactive one, whose record is zeros,
+-- and good bytes are their cluster's record.
 -- Assumes nothing.
 use mathlib.Core.Path.{_≡_, refl, sym, ap, _∙_, subst}
-use mathlib.Core.Bool.{Bool, true, false, _&&_, _||_, true≢false}
+use mathlib.Core.Bool.{Bool, true, false, not, _&&_, _||_, true≢false}
 use mathlib.Core.List.{List}
 use Prim.Native.Nat.{ℕ, zero, suc, _+_, _-_, _<_}
 use native.Mathlib.Omega.{arith}
@@ -21,14 +22,16 @@ use Rattle.loops.specs.Turns.{turns}
 use Rattle.sizes.specs.Sizes.{segments, passwordBytes}
 use Rattle.store.specs.declared.Place.{Place}
 use Rattle.store.specs.declared.Place.the-variants.{Absent, Present}
+use Rattle.store.specs.declared.Segment.{Segment}
 use Rattle.store.specs.declared.Cluster.{Cluster}
-use Rattle.store.specs.Records.{absentSegment, inactive, tableOf, placeOf}
-use Rattle.store.specs.Sound.{inRanges, endsInside, inside, settled, idle, zeroBytes, isAbsent}
+use Rattle.store.specs.Records.{absentSegment, inactive, tableOf, segmentOf, placeOf}
+use Rattle.store.specs.Sound.{inRanges, endsInside, inside, soundMark, soundSegment, settled, idle, zeroBytes}
+use Rattle.store.specs.Sound.{isAbsent}
 use Rattle.store.specs.inner.Passes.{Map, free, claimable, stamped, stampedBy, claims}
-use Rattle.store.proofs.SoundLaws.{settled-inactive}
+use Rattle.store.proofs.SoundLaws.{segment-mark, settled-inactive}
 use Rattle.image.specs.Parts.{part, joined}
-use Rattle.image.specs.Images.{recordBytes, readAt, placeIn, segmentsIn, clusterIn, goodPlace, goodPlaces, goodRecord}
-use Rattle.image.specs.Images.{placeOut, placesOut, recordOut}
+use Rattle.image.specs.Images.{recordBytes, readAt, flagIn, placeIn, segmentsIn, clusterIn, goodPlace, goodSegment}
+use Rattle.image.specs.Images.{goodSegments, goodRecord, placeOut, segmentOut, segmentsOut, recordOut}
 use Rattle.image.specs.Ranges.{ClusterFits}
 use Rattle.image.specs.inner.Claims.{zeros, recordSound, RecordClaimed}
 use Rattle.image.proofs.TripLaws.{record-back}
@@ -40,7 +43,7 @@ blank = replicate recordBytes 0
 -- ---- zeros are the record of an inactive cluster
 
 blank-out : recordOut inactive ≡ blank
-unfolding recordOut placesOut placeOut joined bytes
+unfolding recordOut segmentsOut segmentOut placeOut joined bytes
 blank-out = refl
 
 blank-in : clusterIn blank ≡ inactive
@@ -48,12 +51,12 @@ unfolding clusterIn segmentsIn placeIn tabulate word wordFrom
 blank-in = refl
 
 blank-good : goodRecord blank ≡ true
-unfolding goodRecord goodPlaces goodPlace every word wordFrom
+unfolding goodRecord goodSegments goodSegment goodPlace every word wordFrom
 blank-good = refl
 
 -- the segments of an inactive cluster are claimable in their turns, and leave the map as it was
-vacant-claims : (map : Map) → claims segments (placeOf (tableOf inactive)) map ≡ true
-unfolding claims every claimable free inside inRanges endsInside
+vacant-claims : (map : Map) → claims segments (segmentOf (tableOf inactive)) map ≡ true
+unfolding claims every claimable soundSegment soundMark free inside inRanges endsInside
 vacant-claims map = refl
 
 vacant-leaves : (map : Map) → map ≡ stampedBy segments (placeOf (tableOf inactive)) map
@@ -64,7 +67,7 @@ blank-sound : (map : Map) → recordSound blank map ≡ true
 blank-sound map =
     and-both (goodRecord blank) _ blank-good
     (and-both (settled (clusterIn blank)) _ (ap settled blank-in ∙ settled-inactive)
-    (ap (λ (c : Cluster). claims segments (placeOf (tableOf c)) map) blank-in ∙ vacant-claims map))
+    (ap (λ (c : Cluster). claims segments (segmentOf (tableOf c)) map) blank-in ∙ vacant-claims map))
 
 blank-zeros : zeros (part blank readAt recordBytes) ≡ true
 unfolding zeros every
@@ -78,9 +81,18 @@ zero-bytes n l e z =
     (λ i h. let k : i < n = subst (λ (m : ℕ). i < m) e h in
     eqb-true (getD l i 0) 0 (every-at n (λ i. eqb (getD l i 0) 0) z i k) ∙ sym (getD-replicate n i 0 0 k))
 
-idle-inactive : (c : Cluster) → ClusterFits c → c .active ≡ false → idle c ≡ true → c ≡ inactive
-unfolding idle zeroBytes
-idle-inactive c fit e z =
+-- a segment that was claimable is not both absent and frozen
+claimed-mark : (gs : ℕ → Segment) (map : Map) → claims segments gs map ≡ true → (i : ℕ) → i < segments
+    → soundMark (gs i) ≡ true
+unfolding claims claimable
+claimed-mark gs map t i h =
+    segment-mark (gs i) (and-left (soundSegment (gs i)) _
+    (every-at segments (λ i. claimable (gs i) (stampedBy i (λ k. gs k .place) map)) t i h))
+
+idle-inactive : (c : Cluster) → ClusterFits c → c .active ≡ false → idle c ≡ true
+    → ((i : ℕ) → i < segments → soundMark (segmentOf (tableOf c) i) ≡ true) → c ≡ inactive
+unfolding idle zeroBytes soundMark
+idle-inactive c fit e z marked =
     λ j. record {
       active = e j;
       read = zero-bytes passwordBytes (c .read) (fit .read) (and-left (zeroBytes (c .read)) _ both) j;
@@ -91,20 +103,19 @@ idle-inactive c fit e z =
     both : (zeroBytes (c .read) && zeroBytes (c .write)) ≡ true
     both = and-left (zeroBytes (c .read) && zeroBytes (c .write)) _ z
 
-    absent : (p : Place) → isAbsent p ≡ true → p ≡ Absent
-    absent Absent t = refl
-    absent (Present base length) t = absurd (true≢false (sym t))
+    absent : (p : Place) (f : Bool) → isAbsent p ≡ true → not (isAbsent p && f) ≡ true
+        → _≡_ {A = Segment} (record { place = p; frozen = f }) absentSegment
+    absent Absent false t m = refl
+    absent Absent true t m = absurd (true≢false (sym m))
+    absent (Present base length) f t m = absurd (true≢false (sym t))
 
     none : c .segments ≡ replicate segments absentSegment
     none =
         ext-getD absentSegment (c .segments) (replicate segments absentSegment) (fit .eight)
         (λ i h. let k : i < segments = subst (λ (m : ℕ). i < m) (fit .eight) h in
-        (λ j. record {
-          place =
-              absent (placeOf (tableOf c) i)
-              (every-at segments (λ i. isAbsent (placeOf (tableOf c) i))
-              (and-right (zeroBytes (c .read) && zeroBytes (c .write)) _ z) i k) j;
-        })
+        absent (placeOf (tableOf c) i) (segmentOf (tableOf c) i .frozen)
+        (every-at segments (λ i. isAbsent (placeOf (tableOf c) i))
+        (and-right (zeroBytes (c .read) && zeroBytes (c .write)) _ z) i k) (marked i k)
         ∙ sym (getD-replicate segments i absentSegment absentSegment k))
 
 -- ---- a record whose active byte is 0
@@ -135,16 +146,20 @@ module _ (b : List ℕ) (off : getD b 0 0 ≡ 0) where
   unfolding settled clusterIn
   sound-blank h before t =
       sym (record-back b h (and-left (goodRecord b) _ t))
-      ∙ ap recordOut (idle-inactive (clusterIn b) (cluster-held b h) still idles)
+      ∙ ap recordOut (idle-inactive (clusterIn b) (cluster-held b h) still idles
+      (claimed-mark (segmentOf (tableOf (clusterIn b))) before (and-right (settled (clusterIn b)) _ told)))
       ∙ blank-out
     where
-      still : eqb (getD b 0 0) 1 ≡ false
-      still = ap (λ (n : ℕ). eqb n 1) off
+      told : (settled (clusterIn b) && claims segments (segmentOf (tableOf (clusterIn b))) before) ≡ true
+      told = and-right (goodRecord b) _ t
+
+      still : flagIn (getD b 0 0) ≡ false
+      still = ap flagIn off
 
       idles : idle (clusterIn b) ≡ true
       idles =
           sym (ap (λ (a : Bool). a || idle (clusterIn b)) still)
-          ∙ and-left (settled (clusterIn b)) _ (and-right (goodRecord b) _ t)
+          ∙ and-left (settled (clusterIn b)) _ told
 
   pub record-zero : length b ≡ recordBytes → ((i : ℕ) → Fits w8 (getD b i 0)) → (before : Map) (r : Bool)
       → r ≡ zeros (part b readAt recordBytes) → RecordClaimed b before r before

@@ -18,7 +18,7 @@ use Rattle.sizes.specs.Sizes.{nodes, clusters, segments, records, memory}
 use Rattle.spans.specs.Spans.{marks}
 use Rattle.spans.proofs.SpanLaws.{marks-none}
 use Rattle.store.specs.declared.Cluster.{Cluster}
-use Rattle.store.specs.Records.{Tables, recordOf, tableOf, tableAt, placeOf, placeOn}
+use Rattle.store.specs.Records.{Tables, recordOf, tableOf, tableAt, segmentOf, placeOf, placeOn}
 use Rattle.store.specs.Sound.{settled, sound}
 use Rattle.store.specs.inner.Passes.{Map, mapWords, stampedBy, claims, blank, nodeMap, clusterSound}
 use Rattle.store.proofs.ClaimLaws.{tested-told}
@@ -96,7 +96,7 @@ module _ (b : List ℕ) where
   passes-is : (v m : ℕ) → v < nodes → m < clusters → passes v m ≡ fine v m && sounds v m
   unfolding clusterSound
   passes-is v m hv hm =
-      ap (λ (c : Cluster). fine v m && (settled c && claims segments (placeOf (tableOf c)) (nodeMap tables v m)))
+      ap (λ (c : Cluster). fine v m && (settled c && claims segments (segmentOf (tableOf c)) (nodeMap tables v m)))
       (sym (cluster-at b (recordOf v m) (omega arith)))
 
   abbrev allFine : Bool

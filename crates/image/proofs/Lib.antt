@@ -1,7 +1,8 @@
 pub mod PartLaws
 pub mod WrittenLaws
-pub mod PlaceLaws
+pub mod SegmentLaws
 pub mod RecordLaws
+pub mod SegmentTripLaws
 pub mod TripLaws
 pub mod RangeLaws
 pub mod LiteralLaws

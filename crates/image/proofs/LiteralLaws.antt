@@ -5,11 +5,11 @@ use Rattle.bits.specs.Bytes.{bytes, wordFrom, word}
 use Rattle.loops.specs.Below.{every}
 use Rattle.loops.specs.Tabulate.{tabulate}
 use Rattle.image.specs.Parts.{joined}
-use Rattle.image.specs.Images.{placeIn, goodPlace, segmentsIn, goodPlaces, clusterIn, goodRecord, storeIn, good}
-use Rattle.image.specs.Images.{placeOut, placesOut, recordOut, imageOf}
+use Rattle.image.specs.Images.{placeIn, goodPlace, goodSegment, segmentsIn, goodSegments, clusterIn, goodRecord, storeIn}
+use Rattle.image.specs.Images.{good, placeOut, segmentOut, segmentsOut, recordOut, imageOf}
 use Rattle.image.specs.Literals.{ImageBytes}
 
 pub image-bytes : ImageBytes
-unfolding bytes wordFrom word every tabulate joined placeIn goodPlace segmentsIn goodPlaces clusterIn goodRecord storeIn
-    good placeOut placesOut recordOut imageOf
+unfolding bytes wordFrom word every tabulate joined placeIn goodPlace goodSegment segmentsIn goodSegments clusterIn
+    goodRecord storeIn good placeOut segmentOut segmentsOut recordOut imageOf
 image-bytes = record { image = refl; store = refl; good = refl }

@@ -7,8 +7,8 @@ use mathlib.Core.List.{List}
 use Prim.Native.Nat.{ℕ, _<_}
 use native.Mathlib.Decide.{ℕ-discrete}
 use native.Mathlib.Omega.{arith}
-use borrow.Author.Tests.{eqb-false}
-use lib.Dec.{eqb}
+use borrow.Author.Tests.{eqb-false, ltb-true, ltb-false}
+use lib.Dec.{eqb, ltb}
 use lib.ListN.{length, length-set, getD-replicate}
 use lib.Seq.{getD-set-same, getD-set-other}
 use Rattle.loops.proofs.TabulateLaws.{length-tabulate, getD-tabulate}
@@ -20,18 +20,19 @@ use Rattle.store.specs.declared.Segment.{Segment}
 use Rattle.store.specs.declared.Cluster.{Cluster}
 use Rattle.store.specs.declared.Store.{Store}
 use Rattle.store.specs.Records.{absentSegment, inactive, started, noCluster, clusterAt, tableOf, placeOf}
-use Rattle.store.specs.Records.{putRecord, withPlace, readMode, withPassword}
+use Rattle.store.specs.Records.{segmentAt, putRecord, withSegment, withPlace, withMark, readMode, withPassword}
 use Rattle.store.proofs.ChangeLaws.{put-other, put-same}
+use Rattle.store.proofs.RecordLaws.{place-beyond}
 use Rattle.image.specs.Parts.{slot, part}
-use Rattle.image.specs.Images.{placeBytes, recordBytes, imageBytes, placesAt, readAt, writeAt, baseIn, lengthIn}
-use Rattle.image.specs.Images.{placeWith, placeIn, segmentIn, segmentsIn, clusterIn, storeIn}
+use Rattle.image.specs.Images.{segmentBytes, recordBytes, imageBytes, segmentsAt, readAt, writeAt, baseIn, lengthIn}
+use Rattle.image.specs.Images.{placeWith, placeIn, segmentHeld, segmentsIn, clusterIn, storeIn}
 use Rattle.image.specs.Ranges.{PlaceFits, ClusterFits, StoreFits}
 use Rattle.image.proofs.PartLaws.{bytes-part, bytes-slot}
-use Rattle.image.proofs.PlaceLaws.{base-below, length-below}
+use Rattle.image.proofs.SegmentLaws.{base-below, length-below}
 
 -- ---- what bytes hold
 
-place-held : (q : List ℕ) → Bytes placeBytes q → PlaceFits (placeIn q)
+place-held : (q : List ℕ) → Bytes segmentBytes q → PlaceFits (placeIn q)
 unfolding PlaceFits placeIn
 place-held q h = go (eqb (lengthIn q) 0) refl
   where
@@ -46,15 +47,15 @@ unfolding clusterIn segmentsIn
 cluster-held q h =
     record {
       read = bytes-part recordBytes q readAt writeAt h (omega arith) .long;
-      write = bytes-part recordBytes q writeAt placesAt h (omega arith) .long;
-      eight = length-tabulate segments (segmentIn (part q placesAt recordBytes));
+      write = bytes-part recordBytes q writeAt segmentsAt h (omega arith) .long;
+      eight = length-tabulate segments (segmentHeld (part q segmentsAt recordBytes));
       places =
           λ i l.
           subst (λ (g : Segment). PlaceFits (g .place))
-          (sym (getD-tabulate segments (segmentIn (part q placesAt recordBytes)) absentSegment i l))
-          (place-held (slot placeBytes (part q placesAt recordBytes) i)
-          (bytes-slot placeBytes segments (part q placesAt recordBytes) i
-          (bytes-part recordBytes q placesAt recordBytes h (omega arith)) l));
+          (sym (getD-tabulate segments (segmentHeld (part q segmentsAt recordBytes)) absentSegment i l))
+          (place-held (slot segmentBytes (part q segmentsAt recordBytes) i)
+          (bytes-slot segmentBytes segments (part q segmentsAt recordBytes) i
+          (bytes-part recordBytes q segmentsAt recordBytes h (omega arith)) l));
     }
 
 pub store-held : (b : List ℕ) → Bytes imageBytes b → StoreFits (storeIn b)
@@ -79,27 +80,37 @@ put-fits s n c f g = record { whole = length-set (s .clusters) n c ∙ f .whole;
         (subst ClusterFits (sym (put-same s n c (let z = f .whole in omega arith))) g)
     at k h (no e) = subst ClusterFits (sym (put-other s n c k e)) (f .each k h)
 
-pub place-fits : (c : Cluster) (i : ℕ) (p : Place) → ClusterFits c → PlaceFits p → ClusterFits (withPlace c i p)
-place-fits c i p f g =
-    record {
-      read = f .read;
-      write = f .write;
-      eight = length-set (c .segments) i (record { place = p }) ∙ f .eight;
-      places = λ k h. at k h (ℕ-discrete k i);
-    }
-  where
-    at : (k : ℕ) → k < segments → Dec (k ≡ i) → PlaceFits (placeOf (tableOf (withPlace c i p)) k)
-    at k h (yes e) =
-        subst (λ (j : ℕ). PlaceFits (placeOf (tableOf (withPlace c i p)) j)) (sym e)
-        (subst (λ (s : Segment). PlaceFits (s .place))
-        (sym (getD-set-same (c .segments) i (record { place = p }) absentSegment (let z = f .eight in omega arith))) g)
-    at k h (no e) =
-        subst (λ (s : Segment). PlaceFits (s .place))
-        (sym (getD-set-other (c .segments) i k (record { place = p }) absentSegment e)) (f .places k h)
-
 pub absent-fits : PlaceFits Absent
 unfolding PlaceFits
 absent-fits = tt
+
+segment-fits : (c : Cluster) (i : ℕ) (g : Segment) → ClusterFits c → PlaceFits (g .place) → ClusterFits (withSegment c i g)
+segment-fits c i g f p =
+    record {
+      read = f .read;
+      write = f .write;
+      eight = length-set (c .segments) i g ∙ f .eight;
+      places = λ k h. at k h (ℕ-discrete k i);
+    }
+  where
+    at : (k : ℕ) → k < segments → Dec (k ≡ i) → PlaceFits (placeOf (tableOf (withSegment c i g)) k)
+    at k h (yes e) =
+        subst (λ (j : ℕ). PlaceFits (placeOf (tableOf (withSegment c i g)) j)) (sym e)
+        (subst (λ (s : Segment). PlaceFits (s .place))
+        (sym (getD-set-same (c .segments) i g absentSegment (let z = f .eight in omega arith))) p)
+    at k h (no e) =
+        subst (λ (s : Segment). PlaceFits (s .place))
+        (sym (getD-set-other (c .segments) i k g absentSegment e)) (f .places k h)
+
+pub place-fits : (c : Cluster) (i : ℕ) (p : Place) → ClusterFits c → PlaceFits p → ClusterFits (withPlace c i p)
+place-fits c i p f g = segment-fits c i (segmentAt p) f g
+
+pub mark-fits : (c : Cluster) (i : ℕ) → ClusterFits c → ClusterFits (withMark c i)
+mark-fits c i f = segment-fits c i (record { place = placeOf (tableOf c) i; frozen = true }) f (there (ltb i segments) refl)
+  where
+    there : (t : Bool) → ltb i segments ≡ t → PlaceFits (placeOf (tableOf c) i)
+    there true h = f .places i (ltb-true i segments h)
+    there false h = subst PlaceFits (place-beyond c i (f .eight) (ltb-false i segments h)) absent-fits
 
 -- eight absent segments
 none-fit : (i : ℕ) → i < segments → PlaceFits (placeOf (tableOf inactive) i)

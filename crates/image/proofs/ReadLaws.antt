@@ -6,7 +6,6 @@ use mathlib.Core.List.{List}
 use Prim.Native.Nat.{ℕ, _<_}
 use native.Mathlib.Omega.{arith}
 use borrow.Rule.Slice.PartMut.{mid-len}
-use lib.Dec.{eqb}
 use lib.ListN.{length, getD}
 use Rattle.loops.specs.First.{firstBytes}
 use Rattle.loops.proofs.FirstBytes.{first-whole}
@@ -19,22 +18,22 @@ use Rattle.store.specs.declared.Cluster.{Cluster}
 use Rattle.store.specs.Records.{recordOf, noCluster, clusterAt, tableOf, tableAt, placeOf, placeOn}
 use Rattle.store.specs.inner.Passes.{past, climb}
 use Rattle.image.specs.Parts.{part, slot}
-use Rattle.image.specs.Images.{placeBytes, recordBytes, readAt, writeAt, placesAt, placeIn, segmentsIn, clusterIn}
+use Rattle.image.specs.Images.{segmentBytes, recordBytes, readAt, writeAt, segmentsAt, flagIn, placeIn, segmentsIn, clusterIn}
 use Rattle.image.specs.Images.{storeIn}
 use Rattle.image.specs.inner.Claims.{placesIn}
 use Rattle.image.proofs.ClaimLaws.{placed-is}
 
 -- the code has cut a record where its fields begin
 pub cluster-cut : (b r w : List ℕ) (gs : List Segment) → length b ≡ recordBytes
-    → r ≡ firstBytes passwordBytes (part b readAt writeAt) → w ≡ firstBytes passwordBytes (part b writeAt placesAt)
-    → gs ≡ segmentsIn (part b placesAt recordBytes)
-    → record { active = eqb (getD b 0 0) 1; read = r; write = w; segments = gs } ≡ clusterIn b
+    → r ≡ firstBytes passwordBytes (part b readAt writeAt) → w ≡ firstBytes passwordBytes (part b writeAt segmentsAt)
+    → gs ≡ segmentsIn (part b segmentsAt recordBytes)
+    → record { active = flagIn (getD b 0 0); read = r; write = w; segments = gs } ≡ clusterIn b
 unfolding clusterIn
 cluster-cut b r w gs e er ew eg =
     λ j. record {
-      active = eqb (getD b 0 0) 1;
+      active = flagIn (getD b 0 0);
       read = (er ∙ first-whole passwordBytes (part b readAt writeAt) (mid-len readAt writeAt b (omega arith))) j;
-      write = (ew ∙ first-whole passwordBytes (part b writeAt placesAt) (mid-len writeAt placesAt b (omega arith))) j;
+      write = (ew ∙ first-whole passwordBytes (part b writeAt segmentsAt) (mid-len writeAt segmentsAt b (omega arith))) j;
       segments = eg j;
     }
 
@@ -54,14 +53,14 @@ climb-same ps qs n size base h =
     turns-same n (λ i. past size (ps i)) (λ i. past size (qs i)) base (λ i l. ap (past size) (h i l))
 
 -- the base to try after one place, and after the places of a record
-pub past-place : (b : List ℕ) (i base size r : ℕ) (p : Place) → p ≡ placeIn (slot placeBytes b i) → r ≡ past size p base
-    → r ≡ past size (placeIn (slot placeBytes b i)) base
+pub past-place : (b : List ℕ) (i base size r : ℕ) (p : Place) → p ≡ placeIn (slot segmentBytes b i) → r ≡ past size p base
+    → r ≡ past size (placeIn (slot segmentBytes b i)) base
 past-place b i base size r p e g = g ∙ ap (λ (q : Place). past size q base) e
 
-pub past-record : (b : List ℕ) (base size r : ℕ) → r ≡ climb segments (placesIn (part b placesAt recordBytes)) size base
+pub past-record : (b : List ℕ) (base size r : ℕ) → r ≡ climb segments (placesIn (part b segmentsAt recordBytes)) size base
     → r ≡ climb segments (placeOf (tableOf (clusterIn b))) size base
 past-record b base size r e =
-    e ∙ sym (climb-same (placeOf (tableOf (clusterIn b))) (placesIn (part b placesAt recordBytes)) segments size base (placed-is b))
+    e ∙ sym (climb-same (placeOf (tableOf (clusterIn b))) (placesIn (part b segmentsAt recordBytes)) segments size base (placed-is b))
 
 pub climbed : (b : List ℕ) (node l base size r : ℕ) → node < nodes → l < clusters
     → r ≡ climb segments (placeOf (tableOf (clusterIn (slot recordBytes b (recordOf node l))))) size base

@@ -1,223 +1,129 @@
--- An image and its store, each read back from the other: level by level, a place, eight places, a record, the store.
+-- An image and its store, each read back from the other: level by level, eight segments, a record, the store.
 -- A part of what was put together is what was put there, so each level rests on the one below.
 -- Assumes nothing.
 use mathlib.Core.Path.{_≡_, refl, sym, ap, ap₂, _∙_}
-use mathlib.Core.Bool.{Bool, true, false, not, _||_}
+use mathlib.Core.Bool.{Bool, true}
 use mathlib.Core.List.{List, [], _∷_, _++_, append-assoc}
-use Prim.Native.Nat.{ℕ, zero, suc, _+_, _*_, _≤_, _<_}
+use Prim.Native.Nat.{ℕ, _+_, _*_, _<_}
 use native.Mathlib.Omega.{arith}
-use borrow.Author.Tests.{eqb-true, leb-true, ne-eqb}
-use lib.Dec.{eqb, leb}
 use lib.ListN.{length, getD, take, drop, length-append, length-drop, take-append-drop, replicate}
 use lib.Seq.{take-at, drop-at, take-all, drop-drop}
 use mir.Val.{Fits}
 use mir.Syntax.{w8}
-use Rattle.bits.specs.Bytes.{bytes, word, Bytes}
-use Rattle.bits.proofs.ByteLaws.{length-bytes, word-bytes, bytes-word}
+use Rattle.bits.specs.Bytes.{bytes, Bytes}
 use Rattle.loops.proofs.BelowLaws.{and-left, and-right, and-both, every-at, every-in}
 use Rattle.loops.proofs.TabulateLaws.{getD-tabulate, tabulate-is}
 use Rattle.sizes.specs.Sizes.{records, segments, passwordBytes}
-use Rattle.store.specs.declared.Place.{Place}
-use Rattle.store.specs.declared.Place.the-variants.{Absent, Present}
 use Rattle.store.specs.declared.Segment.{Segment}
 use Rattle.store.specs.declared.Cluster.{Cluster}
 use Rattle.store.specs.declared.Store.{Store}
-use Rattle.store.specs.Records.{absentSegment, startingStore, noCluster, clusterAt, baseOf, lengthOf}
+use Rattle.store.specs.Records.{absentSegment, startingStore, noCluster, clusterAt}
 use Rattle.image.specs.Parts.{part, slot, joined}
-use Rattle.image.specs.Images.{wordBytes, placeBytes, recordBytes, imageBytes, readAt, writeAt, placesAt, baseIn}
-use Rattle.image.specs.Images.{lengthIn, placeWith, placeIn, goodPlace, segmentIn, segmentsIn, goodPlaces, clusterIn}
-use Rattle.image.specs.Images.{goodRecord, storeIn, good, placeOut, segmentOut, placesOut, activeOut, recordOut}
-use Rattle.image.specs.Images.{imageOf}
-use Rattle.image.specs.Ranges.{words, PlaceFits, ClusterFits, StoreFits}
+use Rattle.image.specs.Images.{segmentBytes, recordBytes, imageBytes, readAt, writeAt, segmentsAt, goodFlag}
+use Rattle.image.specs.Images.{segmentIn, goodSegment, segmentHeld, segmentsIn, goodSegments, clusterIn, goodRecord}
+use Rattle.image.specs.Images.{storeIn, good, flagOut, placeOut, segmentOut, segmentsOut, recordOut, imageOf}
+use Rattle.image.specs.Ranges.{PlaceFits, ClusterFits, StoreFits}
 use Rattle.image.proofs.PartLaws.{bytes-part, bytes-slot, joined-same, length-joined, slot-joined, joined-slots}
-
--- ---- a place
-
-length-place : (p : Place) → length (placeOut p) ≡ placeBytes
-unfolding placeOut
-length-place p =
-    length-append (bytes wordBytes (baseOf p)) (bytes wordBytes (lengthOf p))
-    ∙ ap₂ (λ (a b : ℕ). a + b) (length-bytes wordBytes (baseOf p)) (length-bytes wordBytes (lengthOf p))
-
-base-out : (p : Place) → baseOf p < words → baseIn (placeOut p) ≡ baseOf p
-unfolding placeOut
-base-out p h =
-    ap word (take-at (bytes wordBytes (baseOf p)) (bytes wordBytes (lengthOf p)) wordBytes (length-bytes wordBytes (baseOf p)))
-    ∙ word-bytes wordBytes (baseOf p) h
-
-length-out : (p : Place) → lengthOf p < words → lengthIn (placeOut p) ≡ lengthOf p
-unfolding placeOut
-length-out p h =
-    ap (λ (l : List ℕ). word (take wordBytes l))
-    (drop-at (bytes wordBytes (baseOf p)) (bytes wordBytes (lengthOf p)) wordBytes (length-bytes wordBytes (baseOf p)))
-    ∙ ap word (take-all wordBytes (bytes wordBytes (lengthOf p)) (short (length-bytes wordBytes (lengthOf p))))
-    ∙ word-bytes wordBytes (lengthOf p) h
-  where
-    short : length (bytes wordBytes (lengthOf p)) ≡ wordBytes → length (bytes wordBytes (lengthOf p)) ≤ wordBytes
-    short e = omega arith
-
-place-trip : (p : Place) → PlaceFits p → placeIn (placeOut p) ≡ p
-unfolding placeIn PlaceFits
-place-trip Absent h =
-    ap₂ (λ (b n : ℕ). placeWith (eqb n 0) b n) (base-out Absent (omega arith)) (length-out Absent (omega arith))
-place-trip (Present base length) h =
-    ap₂ (λ (b n : ℕ). placeWith (eqb n 0) b n) (base-out (Present base length) (h .starts)) (length-out (Present base length) (h .ends))
-    ∙ ap (λ (t : Bool). placeWith t base length) (ne-eqb length 0 (above (h .some)))
-  where
-    above : 1 ≤ length → length ≡ 0 → ⊥
-    above a z = omega arith
-
-place-good : (p : Place) → PlaceFits p → goodPlace (placeOut p) ≡ true
-unfolding goodPlace PlaceFits
-place-good Absent h =
-    ap₂ (λ (b n : ℕ). not (eqb n 0) || eqb b 0) (base-out Absent (omega arith)) (length-out Absent (omega arith))
-place-good (Present base length) h =
-    ap (λ (n : ℕ). not (eqb n 0) || eqb (baseIn (placeOut (Present base length))) 0) (length-out (Present base length) (h .ends))
-    ∙ ap (λ (t : Bool). not t || eqb (baseIn (placeOut (Present base length))) 0) (ne-eqb length 0 (above (h .some)))
-  where
-    above : 1 ≤ length → length ≡ 0 → ⊥
-    above a z = omega arith
-
-place-back : (q : List ℕ) → Bytes placeBytes q → goodPlace q ≡ true → placeOut (placeIn q) ≡ q
-unfolding placeOut placeIn goodPlace
-place-back q h g = go (eqb (lengthIn q) 0) refl
-  where
-    starts : bytes wordBytes (baseIn q) ≡ part q 0 wordBytes
-    starts =
-        let b = bytes-part placeBytes q 0 wordBytes h (omega arith) in
-        ap (λ (n : ℕ). bytes n (baseIn q)) (sym (b .long)) ∙ bytes-word (part q 0 wordBytes) (b .below)
-
-    ends : bytes wordBytes (lengthIn q) ≡ part q wordBytes placeBytes
-    ends =
-        let b = bytes-part placeBytes q wordBytes placeBytes h (omega arith) in
-        ap (λ (n : ℕ). bytes n (lengthIn q)) (sym (b .long)) ∙ bytes-word (part q wordBytes placeBytes) (b .below)
-
-    made : Place → List ℕ
-    made p = bytes wordBytes (baseOf p) ++ bytes wordBytes (lengthOf p)
-
-    whole : bytes wordBytes (baseIn q) ++ bytes wordBytes (lengthIn q) ≡ q
-    whole =
-        ap₂ (λ (a b : List ℕ). a ++ b) starts (ends ∙ take-all wordBytes (drop wordBytes q) (left (h .long)))
-        ∙ take-append-drop wordBytes q
-      where
-        left : length q ≡ placeBytes → length (drop wordBytes q) ≤ wordBytes
-        left e = omega (arith, length-drop wordBytes q)
-
-    go : (t : Bool) → eqb (lengthIn q) 0 ≡ t → made (placeWith t (baseIn q) (lengthIn q)) ≡ q
-    go false t = whole
-    go true t =
-        ap₂ (λ (a b : ℕ). bytes wordBytes a ++ bytes wordBytes b) (sym none) (sym (eqb-true (lengthIn q) 0 t)) ∙ whole
-      where
-        none : baseIn q ≡ 0
-        none = eqb-true (baseIn q) 0 (sym (ap (λ (u : Bool). not u || eqb (baseIn q) 0) t) ∙ g)
+use Rattle.image.proofs.SegmentTripLaws.{flag-trip, flag-good, flag-back}
+use Rattle.image.proofs.SegmentTripLaws.{length-segment, segment-trip, segment-good, segment-back}
 
 -- ---- eight segments
 
 module _ (gs : List Segment) where
-  pub length-places : length (placesOut gs) ≡ segments * placeBytes
-  unfolding placesOut
-  length-places = length-joined placeBytes segments (segmentOut gs) (λ i h. length-place (getD gs i absentSegment .place))
+  abbrev each : ℕ → List ℕ
+  each i = segmentOut (getD gs i absentSegment)
 
-  at : (i : ℕ) → i < segments → slot placeBytes (placesOut gs) i ≡ segmentOut gs i
-  unfolding placesOut
-  at i h = slot-joined placeBytes segments (segmentOut gs) (λ i h. length-place (getD gs i absentSegment .place)) i h
+  pub length-segments : length (segmentsOut gs) ≡ segments * segmentBytes
+  unfolding segmentsOut
+  length-segments = length-joined segmentBytes segments each (λ i h. length-segment (getD gs i absentSegment))
+
+  at : (i : ℕ) → i < segments → slot segmentBytes (segmentsOut gs) i ≡ each i
+  unfolding segmentsOut
+  at i h = slot-joined segmentBytes segments each (λ i h. length-segment (getD gs i absentSegment)) i h
 
   module _ (fit : (i : ℕ) → i < segments → PlaceFits (getD gs i absentSegment .place)) where
-    segments-trip : length gs ≡ segments → segmentsIn (placesOut gs) ≡ gs
+    segments-trip : length gs ≡ segments → segmentsIn (segmentsOut gs) ≡ gs
     unfolding segmentsIn
     segments-trip e =
-        sym (tabulate-is segments (segmentIn (placesOut gs)) absentSegment gs e
-        (λ i h. λ j. record { place = sym (ap placeIn (at i h) ∙ place-trip (getD gs i absentSegment .place) (fit i h)) j }))
+        sym (tabulate-is segments (segmentHeld (segmentsOut gs)) absentSegment gs e
+        (λ i h. sym (ap segmentIn (at i h) ∙ segment-trip (getD gs i absentSegment) (fit i h))))
 
-    places-good : goodPlaces (placesOut gs) ≡ true
-    unfolding goodPlaces
-    places-good =
-        every-in segments (λ i. goodPlace (slot placeBytes (placesOut gs) i))
-        (λ i h. ap goodPlace (at i h) ∙ place-good (getD gs i absentSegment .place) (fit i h))
+    segments-good : goodSegments (segmentsOut gs) ≡ true
+    unfolding goodSegments
+    segments-good =
+        every-in segments (λ i. goodSegment (slot segmentBytes (segmentsOut gs) i))
+        (λ i h. ap goodSegment (at i h) ∙ segment-good (getD gs i absentSegment) (fit i h))
 
-segments-back : (q : List ℕ) → Bytes (segments * placeBytes) q → goodPlaces q ≡ true → placesOut (segmentsIn q) ≡ q
-unfolding placesOut segmentsIn goodPlaces
+segments-back : (q : List ℕ) → Bytes (segments * segmentBytes) q → goodSegments q ≡ true → segmentsOut (segmentsIn q) ≡ q
+unfolding segmentsOut segmentsIn goodSegments
 segments-back q h g =
-    joined-same segments _ (slot placeBytes q)
-    (λ i l. ap (λ (s : Segment). placeOut (s .place)) (getD-tabulate segments (segmentIn q) absentSegment i l)
-    ∙ place-back (slot placeBytes q i) (bytes-slot placeBytes segments q i h l)
-    (every-at segments (λ k. goodPlace (slot placeBytes q k)) g i l))
-    ∙ joined-slots placeBytes segments q (h .long)
+    joined-same segments _ (slot segmentBytes q)
+    (λ i l. ap segmentOut (getD-tabulate segments (segmentHeld q) absentSegment i l)
+    ∙ segment-back (slot segmentBytes q i) (bytes-slot segmentBytes segments q i h l)
+    (every-at segments (λ k. goodSegment (slot segmentBytes q k)) g i l))
+    ∙ joined-slots segmentBytes segments q (h .long)
 
 -- ---- a record
 
 module _ (f : ℕ) (r w s : List ℕ) (lr : length r ≡ passwordBytes) (lw : length w ≡ passwordBytes)
-    (ls : length s ≡ segments * placeBytes) where
+    (ls : length s ≡ segments * segmentBytes) where
   part-read : part (f ∷ (r ++ (w ++ s))) readAt writeAt ≡ r
   part-read = take-at r (w ++ s) passwordBytes lr
 
-  part-write : part (f ∷ (r ++ (w ++ s))) writeAt placesAt ≡ w
+  part-write : part (f ∷ (r ++ (w ++ s))) writeAt segmentsAt ≡ w
   part-write = ap (take passwordBytes) (drop-at r (w ++ s) passwordBytes lr) ∙ take-at w s passwordBytes lw
 
-  part-places : part (f ∷ (r ++ (w ++ s))) placesAt recordBytes ≡ s
-  part-places =
-      ap (λ (z : List ℕ). take (segments * placeBytes) (drop (passwordBytes + passwordBytes) z)) (sym (append-assoc r w s))
-      ∙ ap (take (segments * placeBytes))
+  part-segments : part (f ∷ (r ++ (w ++ s))) segmentsAt recordBytes ≡ s
+  part-segments =
+      ap (λ (z : List ℕ). take (segments * segmentBytes) (drop (passwordBytes + passwordBytes) z)) (sym (append-assoc r w s))
+      ∙ ap (take (segments * segmentBytes))
       (drop-at (r ++ w) s (passwordBytes + passwordBytes) (length-append r w ∙ ap₂ (λ (a b : ℕ). a + b) lr lw))
-      ∙ take-all (segments * placeBytes) s (omega arith)
+      ∙ take-all (segments * segmentBytes) s (omega arith)
 
   length-all : length (f ∷ (r ++ (w ++ s))) ≡ recordBytes
   length-all = simp (length-append, lr, lw, ls)
 
 module _ (c : Cluster) (fit : ClusterFits c) where
-  ls : length (placesOut (c .segments)) ≡ segments * placeBytes
-  ls = length-places (c .segments)
+  ls : length (segmentsOut (c .segments)) ≡ segments * segmentBytes
+  ls = length-segments (c .segments)
 
   pub length-record : length (recordOut c) ≡ recordBytes
   unfolding recordOut
-  length-record = length-all (activeOut (c .active)) (c .read) (c .write) (placesOut (c .segments)) (fit .read) (fit .write) ls
+  length-record = length-all (flagOut (c .active)) (c .read) (c .write) (segmentsOut (c .segments)) (fit .read) (fit .write) ls
 
-  places : part (recordOut c) placesAt recordBytes ≡ placesOut (c .segments)
+  table : part (recordOut c) segmentsAt recordBytes ≡ segmentsOut (c .segments)
   unfolding recordOut
-  places = part-places (activeOut (c .active)) (c .read) (c .write) (placesOut (c .segments)) (fit .read) (fit .write) ls
+  table = part-segments (flagOut (c .active)) (c .read) (c .write) (segmentsOut (c .segments)) (fit .read) (fit .write) ls
 
   record-trip : clusterIn (recordOut c) ≡ c
   unfolding recordOut clusterIn
   record-trip =
       λ j. record {
-        active = active (c .active) j;
-        read = part-read (activeOut (c .active)) (c .read) (c .write) (placesOut (c .segments)) (fit .read) (fit .write) ls j;
-        write = part-write (activeOut (c .active)) (c .read) (c .write) (placesOut (c .segments)) (fit .read) (fit .write) ls j;
-        segments = (ap segmentsIn places ∙ segments-trip (c .segments) (fit .places) (fit .eight)) j;
+        active = flag-trip (c .active) j;
+        read = part-read (flagOut (c .active)) (c .read) (c .write) (segmentsOut (c .segments)) (fit .read) (fit .write) ls j;
+        write = part-write (flagOut (c .active)) (c .read) (c .write) (segmentsOut (c .segments)) (fit .read) (fit .write) ls j;
+        segments = (ap segmentsIn table ∙ segments-trip (c .segments) (fit .places) (fit .eight)) j;
       }
-    where
-      active : (b : Bool) → eqb (activeOut b) 1 ≡ b
-      active true = refl
-      active false = refl
 
   record-good : goodRecord (recordOut c) ≡ true
   unfolding recordOut goodRecord
   record-good =
-      and-both (leb (activeOut (c .active)) 1) (goodPlaces (part (recordOut c) placesAt recordBytes)) (low (c .active))
-      (ap goodPlaces places ∙ places-good (c .segments) (fit .places))
-    where
-      low : (b : Bool) → leb (activeOut b) 1 ≡ true
-      low true = refl
-      low false = refl
+      and-both (goodFlag (flagOut (c .active))) (goodSegments (part (recordOut c) segmentsAt recordBytes))
+      (flag-good (c .active)) (ap goodSegments table ∙ segments-good (c .segments) (fit .places))
 
 pub record-back : (q : List ℕ) → Bytes recordBytes q → goodRecord q ≡ true → recordOut (clusterIn q) ≡ q
 unfolding recordOut clusterIn goodRecord
 record-back [] h g = let e = h .long in absurd (omega arith)
 record-back (x ∷ q) h g =
-    λ j. active x (leb-true x 1 (and-left (leb x 1) (goodPlaces (part (x ∷ q) placesAt recordBytes)) g)) j ∷ rest j
+    λ j. flag-back x (and-left (goodFlag x) (goodSegments (part (x ∷ q) segmentsAt recordBytes)) g) j ∷ rest j
   where
-    active : (x : ℕ) → x ≤ 1 → activeOut (eqb x 1) ≡ x
-    active zero b = refl
-    active (suc zero) b = refl
-    active (suc (suc x)) b = absurd (omega arith)
-
-    last : placesOut (segmentsIn (part (x ∷ q) placesAt recordBytes)) ≡ drop (passwordBytes + passwordBytes) q
+    last : segmentsOut (segmentsIn (part (x ∷ q) segmentsAt recordBytes)) ≡ drop (passwordBytes + passwordBytes) q
     last =
-        segments-back (part (x ∷ q) placesAt recordBytes) (bytes-part recordBytes (x ∷ q) placesAt recordBytes h (omega arith))
-        (and-right (leb x 1) (goodPlaces (part (x ∷ q) placesAt recordBytes)) g)
-        ∙ take-all (segments * placeBytes) (drop (passwordBytes + passwordBytes) q) (rw length-drop (let z = h .long in omega arith))
+        segments-back (part (x ∷ q) segmentsAt recordBytes) (bytes-part recordBytes (x ∷ q) segmentsAt recordBytes h (omega arith))
+        (and-right (goodFlag x) (goodSegments (part (x ∷ q) segmentsAt recordBytes)) g)
+        ∙ take-all (segments * segmentBytes) (drop (passwordBytes + passwordBytes) q) (rw length-drop (let z = h .long in omega arith))
 
-    rest : take passwordBytes q ++ (take passwordBytes (drop passwordBytes q) ++ placesOut (segmentsIn (part (x ∷ q) placesAt recordBytes))) ≡ q
+    rest : take passwordBytes q ++ (take passwordBytes (drop passwordBytes q) ++ segmentsOut (segmentsIn (part (x ∷ q) segmentsAt recordBytes))) ≡ q
     rest =
         ap (λ (z : List ℕ). take passwordBytes q ++ (take passwordBytes (drop passwordBytes q) ++ z)) (last ∙ sym (drop-drop passwordBytes passwordBytes q))
         ∙ ap (λ (z : List ℕ). take passwordBytes q ++ z) (take-append-drop passwordBytes (drop passwordBytes q))
@@ -269,5 +175,5 @@ image-held b l f g eg s es t =
 
 -- the starting store's image is all zeros
 pub image-starting : imageOf startingStore ≡ replicate imageBytes 0
-unfolding imageOf joined recordOut placesOut placeOut bytes
+unfolding imageOf joined recordOut segmentsOut segmentOut placeOut bytes
 image-starting = refl

@@ -1,5 +1,6 @@
 -- Stores that an image can hold: as many records, segments and password bytes as document 01 gives, bases and lengths that
--- fit in two bytes, and no present segment of length zero. Whether the store is sound is another question.
+-- fit in two bytes, and no present segment of length zero. Nothing is asked of the marks: whether the store is sound is
+-- another question.
 --     words                  how many values two bytes have
 --     WordsFit               a base and a length fit, and the length is not zero
 --     PlaceFits              an absent place, or one whose base and length fit

@@ -1,4 +1,4 @@
-// The image of a store: its records as 2,080 bytes, for callers who keep the store themselves.
+// The image of a store: its records as 2,336 bytes, for callers who keep the store themselves.
 use store::Cluster;
 ghost use mathlib.Core.Path.{_≡_};
 ghost use mathlib.Core.Bool.{true};
@@ -14,19 +14,22 @@ pub use placement::new_base_in;
 pub use reading::record_in;
 pub use soundness::sound_in;
 
-// Bytes of the image, of a cluster's record, and of a segment's place, in that order.
-pub const IMAGE: usize = 2080;
+// Bytes of the image, of a cluster's record, and of a segment, in that order.
+pub const IMAGE: usize = 2336;
 
-const RECORD: usize = 65;
+const RECORD: usize = 73;
 
-const PLACE: usize = 4;
+const SEGMENT: usize = 5;
 
-// Where the passwords and the places begin in a record; the active byte is its first.
+// Where the passwords and the segments begin in a record; the active byte is its first.
 const READ_AT: usize = 1;
 
 const WRITE_AT: usize = 17;
 
-const PLACES_AT: usize = 33;
+const SEGMENTS_AT: usize = 33;
+
+// Where the mark stands in a segment, after base and length.
+const MARK_AT: usize = 4;
 
 // Replaces one record; past the last there is none. The image of a store becomes that of the store with the record replaced.
 pub fn put_record_in(cluster: Cluster, at: usize, image: &mut [u8; IMAGE])

@@ -1,8 +1,8 @@
 // Placement straight on the bytes: the places of one node are read where they stand.
 use crate::IMAGE;
-use crate::PLACE;
-use crate::PLACES_AT;
 use crate::RECORD;
+use crate::SEGMENT;
+use crate::SEGMENTS_AT;
 use crate::reading::place_in;
 use sizes::CLUSTERS;
 use sizes::NODE_MEMORY;
@@ -21,14 +21,14 @@ ghost use Rattle.image.specs.inner.Claims.{placesIn};
 
 // The base to try after the eight places of a record.
 fn past_places(b: &[u8], base: usize, size: usize) -> usize
-    requires { ⌜ length (now b) ≡ segments * images.placeBytes ⌝ }
+    requires { ⌜ length (now b) ≡ segments * images.segmentBytes ⌝ }
     ensures { λ r. ⌜ r ≡ climb segments (placesIn (now (b .entry))) size base ⌝ }
 {
     let mut next = base;
     let mut i: usize = 0;
     while i < SEGMENTS {
-        let from = i * PLACE;
-        let to = from + PLACE;
+        let from = i * SEGMENT;
+        let to = from + SEGMENT;
         let place = place_in(&b[from..to]);
         next = store::past(place, next, size);
         i += 1;
@@ -41,7 +41,7 @@ fn past_record(b: &[u8], base: usize, size: usize) -> usize
     requires { ⌜ length (now b) ≡ images.recordBytes ⌝ }
     ensures { λ r. ⌜ r ≡ climb segments (placeOf (tableOf (images.clusterIn (now (b .entry))))) size base ⌝ }
 {
-    past_places(&b[PLACES_AT..RECORD], base, size)
+    past_places(&b[SEGMENTS_AT..RECORD], base, size)
 }
 
 // The smallest base at which `size` bytes fit on the node in the store that the bytes hold, found as store::new_base finds

@@ -1,9 +1,10 @@
-// From bytes: a place, the segments of a record, one record of an image.
+// From bytes: a segment and its place, the segments of a record, one record of an image.
 use crate::IMAGE;
-use crate::PLACE;
-use crate::PLACES_AT;
+use crate::MARK_AT;
 use crate::READ_AT;
 use crate::RECORD;
+use crate::SEGMENT;
+use crate::SEGMENTS_AT;
 use crate::WRITE_AT;
 use bits::word;
 use sizes::SEGMENTS;
@@ -18,9 +19,9 @@ ghost use Rattle.sizes.specs.Sizes.{segments};
 ghost use Rattle.store.specs.Records.{clusterAt, recordAt};
 ghost use Rattle.image.specs.Images as images;
 
-// The place that four bytes hold.
+// The place in the five bytes of a segment.
 pub fn place_in(b: &[u8]) -> Place
-    requires { ⌜ length (now b) ≡ images.placeBytes ⌝ }
+    requires { ⌜ length (now b) ≡ images.segmentBytes ⌝ }
     ensures { λ r. ⌜ r ≡ images.placeIn (now (b .entry)) ⌝ }
 {
     let base = word(b[0], b[1]);
@@ -31,20 +32,30 @@ pub fn place_in(b: &[u8]) -> Place
     Place::Present { base, length }
 }
 
+fn segment_in(b: &[u8]) -> Segment
+    requires { ⌜ length (now b) ≡ images.segmentBytes ⌝ }
+    ensures { λ r. ⌜ r ≡ images.segmentIn (now (b .entry)) ⌝ }
+{
+    let place = place_in(b);
+    Segment {
+        place,
+        frozen: b[MARK_AT] == 1,
+    }
+}
+
 fn segments_in(b: &[u8]) -> [Segment; SEGMENTS]
-    requires { ⌜ length (now b) ≡ segments * images.placeBytes ⌝ }
+    requires { ⌜ length (now b) ≡ segments * images.segmentBytes ⌝ }
     ensures { λ r. ⌜ r ≡ images.segmentsIn (now (b .entry)) ⌝ }
 {
     let absent = Segment {
         place: Place::Absent,
+        frozen: false,
     };
     let mut r = [absent; SEGMENTS];
     for i in 0..SEGMENTS {
-        let from = i * PLACE;
-        let to = from + PLACE;
-        r[i] = Segment {
-            place: place_in(&b[from..to]),
-        };
+        let from = i * SEGMENT;
+        let to = from + SEGMENT;
+        r[i] = segment_in(&b[from..to]);
     }
     r
 }
@@ -54,8 +65,8 @@ fn cluster_in(b: &[u8]) -> Cluster
     ensures { λ r. ⌜ r ≡ images.clusterIn (now (b .entry)) ⌝ }
 {
     let read = store::password_in(&b[READ_AT..WRITE_AT]);
-    let write = store::password_in(&b[WRITE_AT..PLACES_AT]);
-    let segments = segments_in(&b[PLACES_AT..RECORD]);
+    let write = store::password_in(&b[WRITE_AT..SEGMENTS_AT]);
+    let segments = segments_in(&b[SEGMENTS_AT..RECORD]);
     Cluster {
         active: b[0] == 1,
         read,

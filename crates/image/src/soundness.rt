@@ -1,10 +1,11 @@
-// Soundness straight on the bytes: no record is decoded. An inactive record is all zeros; the places of an active one are
+// Soundness straight on the bytes: no record is decoded. An inactive record is all zeros; the segments of an active one are
 // marked in the map of its node.
 use crate::IMAGE;
-use crate::PLACE;
-use crate::PLACES_AT;
+use crate::MARK_AT;
 use crate::READ_AT;
 use crate::RECORD;
+use crate::SEGMENT;
+use crate::SEGMENTS_AT;
 use bits::word;
 use sizes::CLUSTERS;
 use sizes::MEMORY;
@@ -35,32 +36,34 @@ fn zero(b: &[u8]) -> bool
     ok
 }
 
-// Marks the place that four bytes hold: false if they hold none, or if it is out of range or meets one marked before.
-fn claim_place(b: &[u8], map: &mut [u64]) -> bool
-    requires { ⌜ (length (now b) ≡ images.placeBytes) × (length (now map) ≡ mapWords) ⌝ }
-    ensures { λ r. ⌜ claims.PlaceClaimed (now (b .entry)) (marks (now (map .entry))) r (marks (now (map .exit))) ⌝ }
+// Marks the bytes of the segment that five bytes hold: false if they hold none, or if it is out of range or meets one marked
+// before, or is absent and frozen.
+fn claim_segment(b: &[u8], map: &mut [u64]) -> bool
+    requires { ⌜ (length (now b) ≡ images.segmentBytes) × (length (now map) ≡ mapWords) ⌝ }
+    ensures { λ r. ⌜ claims.SegmentClaimed (now (b .entry)) (marks (now (map .entry))) r (marks (now (map .exit))) ⌝ }
 {
     let start = word(b[0], b[1]);
     let size = word(b[2], b[3]);
+    let mark = b[MARK_AT];
     let base = start as usize;
     let length = size as usize;
     if length == 0 {
-        return base == 0;
+        return (base == 0) & (mark == 0);
     }
     let to = base + length;
-    spans::mark(map, base, to)
+    (mark <= 1) & spans::mark(map, base, to)
 }
 
-fn claim_places(b: &[u8], map: &mut [u64]) -> bool
-    requires { ⌜ (length (now b) ≡ segments * images.placeBytes) × (length (now map) ≡ mapWords) ⌝ }
-    ensures { λ r. ⌜ claims.PlacesClaimed (now (b .entry)) (marks (now (map .entry))) r (marks (now (map .exit))) ⌝ }
+fn claim_segments(b: &[u8], map: &mut [u64]) -> bool
+    requires { ⌜ (length (now b) ≡ segments * images.segmentBytes) × (length (now map) ≡ mapWords) ⌝ }
+    ensures { λ r. ⌜ claims.SegmentsClaimed (now (b .entry)) (marks (now (map .entry))) r (marks (now (map .exit))) ⌝ }
 {
     let mut ok = true;
     let mut i: usize = 0;
     while i < SEGMENTS {
-        let from = i * PLACE;
-        let to = from + PLACE;
-        ok = claim_place(&b[from..to], map) & ok;
+        let from = i * SEGMENT;
+        let to = from + SEGMENT;
+        ok = claim_segment(&b[from..to], map) & ok;
         i += 1;
     }
     ok
@@ -78,7 +81,7 @@ fn claim_record(b: &[u8], map: &mut [u64]) -> bool
     if active != 1 {
         return false;
     }
-    claim_places(&b[PLACES_AT..RECORD], map)
+    claim_segments(&b[SEGMENTS_AT..RECORD], map)
 }
 
 // Whether the bytes hold a store, and one that is sound with a slice of `size` bytes.

@@ -1,8 +1,9 @@
-// To bytes: places and a record, each over a part of the image.
-use crate::PLACE;
-use crate::PLACES_AT;
+// To bytes: segments and a record, each over a part of the image.
+use crate::MARK_AT;
 use crate::READ_AT;
 use crate::RECORD;
+use crate::SEGMENT;
+use crate::SEGMENTS_AT;
 use crate::WRITE_AT;
 use bits::BYTE;
 use sizes::PASSWORD_BYTES;
@@ -10,7 +11,6 @@ use sizes::Password;
 use sizes::RECORDS;
 use sizes::SEGMENTS;
 use store::Cluster;
-use store::Place;
 use store::Segment;
 ghost use mathlib.Core.Path.{_≡_};
 ghost use mathlib.Core.Bool.{true};
@@ -20,29 +20,30 @@ ghost use Rattle.sizes.specs.Sizes.{segments, passwordBytes};
 ghost use Rattle.store.specs.Records.{putRecord};
 ghost use Rattle.image.specs.Images as images;
 
-// Base and length, two bytes each, high byte first; zeros for an absent segment.
-fn put_place(place: Place, out: &mut [u8])
-    requires { ⌜ length (now out) ≡ images.placeBytes ⌝ }
-    ensures { λ _. ⌜ now (out .exit) ≡ images.placeOut place ⌝ }
+// Base and length, two bytes each, high byte first, zeros for an absent segment; and the mark.
+fn put_segment(segment: Segment, out: &mut [u8])
+    requires { ⌜ length (now out) ≡ images.segmentBytes ⌝ }
+    ensures { λ _. ⌜ now (out .exit) ≡ images.segmentOut segment ⌝ }
 {
+    let place = segment.place;
     let base = store::base_of(place);
     let length = store::length_of(place);
     out[0] = (base / BYTE) as u8;
     out[1] = (base % BYTE) as u8;
     out[2] = (length / BYTE) as u8;
     out[3] = (length % BYTE) as u8;
+    out[MARK_AT] = segment.frozen as u8;
 }
 
-fn put_places(table: [Segment; SEGMENTS], out: &mut [u8])
-    requires { ⌜ length (now out) ≡ segments * images.placeBytes ⌝ }
-    ensures { λ _. ⌜ now (out .exit) ≡ images.placesOut table ⌝ }
+fn put_segments(table: [Segment; SEGMENTS], out: &mut [u8])
+    requires { ⌜ length (now out) ≡ segments * images.segmentBytes ⌝ }
+    ensures { λ _. ⌜ now (out .exit) ≡ images.segmentsOut table ⌝ }
 {
     for i in 0..SEGMENTS {
         let segment = table[i];
-        let place = segment.place;
-        let from = i * PLACE;
-        let to = from + PLACE;
-        put_place(place, &mut out[from..to]);
+        let from = i * SEGMENT;
+        let to = from + SEGMENT;
+        put_segment(segment, &mut out[from..to]);
     }
 }
 
@@ -63,8 +64,8 @@ fn put_record(cluster: Cluster, out: &mut [u8])
     let write = cluster.write;
     let segments = cluster.segments;
     put_password(read, &mut out[READ_AT..WRITE_AT]);
-    put_password(write, &mut out[WRITE_AT..PLACES_AT]);
-    put_places(segments, &mut out[PLACES_AT..RECORD]);
+    put_password(write, &mut out[WRITE_AT..SEGMENTS_AT]);
+    put_segments(segments, &mut out[SEGMENTS_AT..RECORD]);
     out[0] = cluster.active as u8;
 }
 

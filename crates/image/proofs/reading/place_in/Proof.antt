@@ -1,6 +1,6 @@
--- The two words of four bytes.
+-- The two words of a segment's bytes.
 -- Assumes nothing.
-use Rattle.image.proofs.PlaceLaws.{place-absent, place-present}
+use Rattle.image.proofs.SegmentLaws.{place-absent, place-present}
 use borrow.Author.Needs.{needs}
 use Rattle.image.proofs.reading.place_in.Statement.{statement}
 use Rattle.image.proofs.reading.place_in.Tie as tie

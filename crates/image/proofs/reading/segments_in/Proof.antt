@@ -5,14 +5,13 @@ use Prim.Native.Nat.{_-_}
 use Rattle.sizes.specs.Sizes.{segments}
 use Rattle.store.specs.Records.{absentSegment}
 use Rattle.loops.proofs.TabulateLaws.{Filled, filled-none, filled-more, filled-all}
-use Rattle.image.specs.Images.{segmentIn, segmentsIn}
-use Rattle.image.proofs.PlaceLaws.{segment-same}
+use Rattle.image.specs.Images.{segmentHeld, segmentsIn}
 use borrow.Author.Needs.{needs}
 use Rattle.image.proofs.reading.segments_in.Statement.{statement}
 use Rattle.image.proofs.reading.segments_in.Tie as tie
 
 abbrev Inv-loop : tie.InvT-loop
-Inv-loop b r₀ i₀ r i = Filled segments (segmentIn b) absentSegment i r
+Inv-loop b r₀ i₀ r i = Filled segments (segmentHeld b) absentSegment i r
 
 abbrev μ-loop : tie.MeasureT-loop
 μ-loop b r₀ i₀ r i = segments - i
@@ -21,7 +20,7 @@ loop-holds : tie.Need-loop-holds Inv-loop μ-loop
 loop-holds c = filled-none segments _ absentSegment _ refl
 
 loop-again : tie.Need-loop-again Inv-loop μ-loop
-loop-again c = search (needs, filled-more, segment-same)
+loop-again c = search (needs, filled-more)
 
 returns : tie.Need-returns Inv-loop μ-loop
 unfolding segmentsIn

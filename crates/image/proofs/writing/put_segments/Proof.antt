@@ -1,15 +1,17 @@
--- Before turn i the first i places are written.
+-- Before turn i the first i segments are written.
 -- Assumes nothing.
 use Prim.Native.Nat.{_-_}
+use lib.ListN.{getD}
 use Rattle.sizes.specs.Sizes.{segments}
-use Rattle.image.specs.Images.{placeBytes, segmentOut, placesOut}
+use Rattle.store.specs.Records.{absentSegment}
+use Rattle.image.specs.Images.{segmentBytes, segmentOut, segmentsOut}
 use Rattle.image.proofs.WrittenLaws.{Written, written-none, written-more, written-all}
 use borrow.Author.Needs.{needs}
-use Rattle.image.proofs.writing.put_places.Statement.{statement}
-use Rattle.image.proofs.writing.put_places.Tie as tie
+use Rattle.image.proofs.writing.put_segments.Statement.{statement}
+use Rattle.image.proofs.writing.put_segments.Tie as tie
 
 abbrev Inv-loop : tie.InvT-loop
-Inv-loop out₀ table i₀ out i = Written placeBytes segments (segmentOut table) i out₀ out
+Inv-loop out₀ table i₀ out i = Written segmentBytes segments (λ k. segmentOut (getD table k absentSegment)) i out₀ out
 
 abbrev μ-loop : tie.MeasureT-loop
 μ-loop out₀ table i₀ out i = segments - i
@@ -21,11 +23,11 @@ loop-again : tie.Need-loop-again Inv-loop μ-loop
 loop-again c = search (needs, written-more)
 
 returns : tie.Need-returns Inv-loop μ-loop
-unfolding placesOut
+unfolding segmentsOut
 returns c = search (needs, written-all)
 
-pub put-places-spec : {M : Type 1} → statement M
-put-places-spec =
+pub put-segments-spec : {M : Type 1} → statement M
+put-segments-spec =
     tie.close
     (tie.spec
     Inv-loop
