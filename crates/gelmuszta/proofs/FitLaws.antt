@@ -11,12 +11,12 @@ use Rattle.store.specs.Records.{tableAt}
 use Rattle.store.proofs.PlaceLaws.{inside-out}
 use Rattle.store.proofs.PlacementLaws.{newBase-fits}
 use Rattle.calls.specs.Calls.{Copy, Kind, Call, Arguments, call, newCluster, deleteCluster, newSegment, deleteSegment}
-use Rattle.calls.specs.Calls.{read, write, weaken, reduce, newPassword, validate, look, nodeFor, recordFor}
+use Rattle.calls.specs.Calls.{read, write, weaken, reduce, newPassword, freeze, validate, look, nodeFor, recordFor}
 use Rattle.calls.specs.Numbers.{number}
 use Rattle.calls.specs.Steps.{about, newBaseFor, outcome, step, left, effects}
 use Rattle.calls.proofs.DoneLaws.{done-range, new-base}
 use Rattle.image.specs.Ranges.{PlaceFits, ClusterFits, StoreFits}
-use Rattle.image.proofs.RangeLaws.{put-fits, place-fits, absent-fits, started-fits, inactive-fits, password-fits}
+use Rattle.image.proofs.RangeLaws.{put-fits, place-fits, mark-fits, absent-fits, started-fits, inactive-fits, password-fits}
 use Rattle.gelmuszta.specs.Fits.{PasswordsFit}
 
 module _ (f : Name → List ℕ → ℕ → List ℕ) where
@@ -54,6 +54,8 @@ module _ (f : Name → List ℕ → ℕ → List ℕ) where
     left-fits reduce p e = k
     left-fits newPassword p e =
         put-fits (c .store) _ _ k (password-fits _ (g .mode) (g .first) (about-fits (call newPassword g) e) (p .first refl))
+    left-fits freeze p e =
+        put-fits (c .store) _ _ k (mark-fits _ (g .segment) (about-fits (call freeze g) e))
     left-fits validate p e = k
     left-fits look p e = k
 

@@ -8,7 +8,7 @@ use Rattle.handle.specs.Conversion.{product}
 use Rattle.calls.specs.declared.Answer.{Answer}
 use Rattle.calls.specs.Answers.{replied}
 use Rattle.calls.specs.Calls.{Copy, Call, Arguments, call, newCluster, deleteCluster, newSegment, deleteSegment}
-use Rattle.calls.specs.Calls.{Kind, read, write, weaken, reduce, newPassword, validate, look, buffer}
+use Rattle.calls.specs.Calls.{Kind, read, write, weaken, reduce, newPassword, freeze, validate, look, buffer}
 use Rattle.calls.specs.Numbers.{number}
 use Rattle.calls.specs.Steps.{Reply, plain, handles, readReply, zeroHandle, segmentRead, segmentShown, given, outcome, step, aesStep}
 use Rattle.gelmuszta.specs.Exported.{replyOf}
@@ -76,6 +76,10 @@ module _ (g : Arguments) where
   unfolding given
   delete-segment-silent = record { gives = λ c. refl }
 
+  pub freeze-silent : Silent (call freeze g)
+  unfolding given
+  freeze-silent = record { gives = λ c. refl }
+
   pub write-silent : Silent (call write g)
   unfolding given
   write-silent = record { gives = λ c. refl }
@@ -116,6 +120,7 @@ done-number write x c = refl
 done-number weaken x c = refl
 done-number reduce x c = refl
 done-number newPassword x c = refl
+done-number freeze x c = refl
 done-number validate x c = refl
 done-number look x c = refl
 

@@ -1,4 +1,4 @@
-// Calls 1, 2, 4 and 9: they change the record of a cluster and no byte of the memory.
+// Calls 1, 2, 4, 9 and 10: they change the record of a cluster and no byte of the memory.
 use crate::keep;
 use crate::locate;
 use crate::look_up;
@@ -47,7 +47,7 @@ pub extern "C" fn gelmuszta_new_cluster(
     answer.number
 }
 
-// Call 2: the cluster's record becomes that of the starting store.
+// Call 2: the cluster's record becomes that of the starting store, unless a segment of it is frozen.
 #[no_mangle]
 pub extern "C" fn gelmuszta_delete_cluster(
     image: &mut [u8; IMAGE],
@@ -70,7 +70,7 @@ pub extern "C" fn gelmuszta_delete_cluster(
     answer.number
 }
 
-// Call 4: the segment is absent; memory bytes stay.
+// Call 4: the segment is absent, unless it is frozen; memory bytes stay.
 #[no_mangle]
 pub extern "C" fn gelmuszta_delete_segment(
     image: &mut [u8; IMAGE],
@@ -120,5 +120,29 @@ pub extern "C" fn gelmuszta_new_password(
     let answer = left.answer;
     let g = answer.first;
     *given = g;
+    answer.number
+}
+
+// Call 10: the segment is frozen where it lies; one that is frozen already stays so.
+#[no_mangle]
+pub extern "C" fn gelmuszta_freeze(
+    image: &mut [u8; IMAGE],
+    memory: &[u8],
+    current: usize,
+    segment: usize,
+    handle: &HandleBytes,
+) -> u8
+    ensures { λ r. ⌜ returned r zeroHandle zeroHandle 0 0 [] (now (image .exit)) (now (memory .entry))
+        ≡ exported (calls.freezing current segment (now (handle .entry))) (now (image .entry)) (now (memory .entry)) ⌝ }
+{
+    let h = *handle;
+    let o = look_up(image, memory.len(), h);
+    let sound = o.sound;
+    if !sound {
+        return UNSOUND;
+    }
+    let left = cluster::freeze(true, o.handle, o.cluster, current, segment);
+    keep(left, o.at, image);
+    let answer = left.answer;
     answer.number
 }

@@ -1,4 +1,4 @@
--- Document 01, "The list of calls": the sample's output line by line, and lines of the other forms.
+-- Document 01, "The list of calls": the sample's output line by line, and lines of the other forms; a freeze of document 02.
 --     Example            a line that the definitions give, and how it is printed
 --     handle b ss        the handle of node 0, local number 2, the password of sixteen bytes b and the selector ss
 --     primary b          the same with a flat selector
@@ -50,6 +50,10 @@ examples =
     ∷ prints (callLine 100 1 (answered 7 noHandle noHandle 0) []) "100 1 7\n"
     ∷ prints (callLine 99 255 (answered 3 noHandle noHandle 0) []) "99 255 3\n"
     ∷ prints (callLine 20 7 (answered 21 noHandle noHandle 0) []) "20 7 21\n"
+    -- a freeze done, and calls refused with 22
+    ∷ prints (callLine 4 10 (answered 0 noHandle noHandle 0) []) "4 10 0\n"
+    ∷ prints (callLine 7 2 (answered 22 noHandle noHandle 0) []) "7 2 22\n"
+    ∷ prints (callLine 6 6 (answered 22 noHandle noHandle 0) []) "6 6 22\n"
     -- an empty list, and a refused one
     ∷ prints (endLine 0) "end 0\n"
     ∷ prints (refusedLine 18) "list 18\n"

@@ -1,12 +1,10 @@
 -- Records and outputs written out are those of the definitions, which are computed.
 -- Assumes nothing.
 use mathlib.Core.Path.{refl}
-use Rattle.loops.specs.Below.{every}
 use Rattle.loops.specs.Search.{leastFrom, least}
-use Rattle.store.specs.Sound.{soundSegment, nodeApart, zeroBytes, idle, settled, sound}
 use Rattle.calls.specs.Numbers.{number, tests}
 use Rattle.calls.specs.Steps.{step, effects}
-use Rattle.calls.proofs.Computing.{computing}
+use Rattle.calls.proofs.Computing.{computing, sounding}
 use Rattle.chain.specs.Way.{reached, numbered, met, way, records}
 use Rattle.lines.specs.Text.{digit, decimalIn, decimal, hexadecimal}
 use Rattle.lines.specs.Lines.{spaced, line, gives, told, callLine, wordLine}
@@ -21,6 +19,5 @@ fields-at = record { code = refl; reading = λ b. refl; writing = λ b. refl; ki
 
 pub outputs-printed : OutputsPrinted
 unfolding output badLength checked recordLines performed kindOf way met reached numbered records leastFrom least callLine
-    wordLine told gives line spaced decimal decimalIn hexadecimal digit step number tests effects computing sound every
-    soundSegment nodeApart settled idle zeroBytes
-outputs-printed = record { sample = refl; codes = refl; full = refl; others = refl }
+    wordLine told gives line spaced decimal decimalIn hexadecimal digit step number tests effects computing sounding
+outputs-printed = record { sample = refl; codes = refl; frozen = refl; full = refl; others = refl }

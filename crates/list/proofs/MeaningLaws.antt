@@ -16,7 +16,7 @@ use Rattle.handle.specs.Conversion.{product}
 use Rattle.store.specs.declared.Store.{Store}
 use Rattle.store.specs.Sound.{sound}
 use Rattle.calls.specs.Calls.{Copy, Kind, newCluster, deleteCluster, newSegment, deleteSegment, read, write, weaken}
-use Rattle.calls.specs.Calls.{reduce, newPassword, validate, look, code, isLook, among, Arguments, call, uses, writing}
+use Rattle.calls.specs.Calls.{reduce, newPassword, freeze, validate, look, code, isLook, among, Arguments, call, uses, writing}
 use Rattle.calls.specs.Numbers.{unsound, noPlace}
 use Rattle.calls.specs.Steps.{Outcome}
 use Rattle.calls.specs.Answers.{copyOf, leftAlone}
@@ -134,6 +134,7 @@ rows-trimmed write g c = refl
 rows-trimmed weaken g c = refl
 rows-trimmed reduce g c = refl
 rows-trimmed newPassword g c = refl
+rows-trimmed freeze g c = refl
 rows-trimmed validate g c = refl
 rows-trimmed look g c = refl
 

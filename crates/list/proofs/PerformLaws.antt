@@ -18,14 +18,14 @@ use Rattle.handle.specs.Conversion.{product}
 use Rattle.store.specs.declared.Store.{Store}
 use Rattle.store.specs.Sound.{sound}
 use Rattle.calls.specs.Calls.{Kind, newCluster, deleteCluster, newSegment, deleteSegment, read, write, weaken, reduce}
-use Rattle.calls.specs.Calls.{newPassword, code, Arguments, call, uses}
+use Rattle.calls.specs.Calls.{newPassword, freeze, code, Arguments, call, uses}
 use Rattle.calls.specs.Numbers.{unsound, noPlace}
 use Rattle.calls.specs.Steps.{Outcome, aesStep}
 use Rattle.calls.specs.declared.Answer.{Answer}
 use Rattle.calls.specs.declared.Left.{Left}
 use Rattle.calls.specs.Answers.{copyOf, ended, leftAlone}
 use Rattle.calls.specs.Calls.{makingCluster, deletingCluster, makingSegment, deletingSegment, reading, writing}
-use Rattle.calls.specs.Calls.{weakeningBy, reducing, renewing}
+use Rattle.calls.specs.Calls.{weakeningBy, reducing, renewing, freezing}
 use Rattle.isolation.specs.Checks.{trimmed}
 use Rattle.isolation.proofs.UnusedLaws.{unused-ignored}
 use Rattle.list.specs.Records.{mostData, byte, field, codeOf, dataLength, ownCalls, otherCalls, kindAmong, kindOf}
@@ -70,7 +70,7 @@ module _ (r : List ℕ) (s : Store) (m : List ℕ) where
       (eo ∙ unused-ignored product k g (argumentsOf k r b) (copyOf s m) e)
       ∙ sym (ap (chosen k b) t)
 
-  -- ---- calls 1 to 4
+  -- ---- calls 1 to 4 and 10
 
   own : ℕ → (b : List ℕ) → Performed
   own c b = performedAs (kindAmong ownCalls c) r (bench s m b)
@@ -111,12 +111,20 @@ module _ (r : List ℕ) (s : Store) (m : List ℕ) where
         as-step deleteSegment (deletingSegment v i h .args) b refl (λ j. deletingSegment (ev j) (ei j) (eh j) .args) _ ed
         ∙ sym (ap (λ (c : ℕ). own c b) e)
 
-  pub own-none : (codeOf r ≡ 1 → ⊥) → (codeOf r ≡ 2 → ⊥) → (codeOf r ≡ 3 → ⊥) → (codeOf r ≡ 4 → ⊥) → (d : Left)
+    pub own-freeze : codeOf r ≡ 10 → (v : ℕ) → v ≡ byte r 2 → (i : ℕ) → i ≡ byte r 4 → (d : Left)
+        → ended (d .store) m (d .answer) [] ≡ aesStep (freezing v i h) (copyOf s m)
+        → (b : List ℕ) → ran d m b ≡ performedAs (kindAmong ownCalls (codeOf r)) r (bench s m b)
+    unfolding own
+    own-freeze e v ev i ei d ed b =
+        as-step freeze (freezing v i h .args) b refl (λ j. freezing (ev j) (ei j) (eh j) .args) _ ed
+        ∙ sym (ap (λ (c : ℕ). own c b) e)
+
+  pub own-none : (codeOf r ≡ 1 → ⊥) → (codeOf r ≡ 2 → ⊥) → (codeOf r ≡ 3 → ⊥) → (codeOf r ≡ 4 → ⊥) → (codeOf r ≡ 10 → ⊥) → (d : Left)
       → d ≡ leftAlone s 3 → (b : List ℕ) → ran d m b ≡ performedAs (kindAmong ownCalls (codeOf r)) r (bench s m b)
-  own-none t1 t2 t3 t4 d ed b =
+  own-none t1 t2 t3 t4 t10 d ed b =
       ap (λ (k : Left). ran k m b) ed
       ∙ sym
-      (ap (λ (k : Option Kind). performedAs k r (bench s m b)) (differ ownCalls (codeOf r) (t1, (t2, (t3, (t4, tt))))))
+      (ap (λ (k : Option Kind). performedAs k r (bench s m b)) (differ ownCalls (codeOf r) (t1, (t2, (t3, (t4, (t10, tt)))))))
 
   -- ---- call 6
 

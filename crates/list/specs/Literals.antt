@@ -1,10 +1,12 @@
--- Document 01, "The list of calls", written out: records by numbers and whole outputs by text, with no definition between.
+-- Document 01, "The list of calls", with code 10 of document 02, written out: records by numbers and whole outputs by text, with no definition between.
 --     pattern                   a record of 64 bytes, of which no two are equal
 --     patternCall bs            the arguments that it encodes, with the bytes bs
 --     patternData               a write's data in it: twenty bytes
 --     FieldsAt                  they are its code and arguments, for a read and for a write; the call that each code names
 --     sampleList, sampleText    the sample of document 01, its three records and its whole output
---     codesList, codesText      calls of all nine codes done, one refused, a bad code, a data length of 33
+--     codesList, codesText      calls of the codes 1 to 9 done, one refused, a bad code, a data length of 33
+--     frozenList, frozenText    a segment frozen, and again; written to, deleted, and its cluster deleted, all refused; a freeze
+--                               of a segment that is absent; and it is read
 --     fullList, fullText        a segment of the highest node, local number and number, as long as the node's memory, read
 --     handled                   a record with the fields in its first eight bytes, the primary handle of node 1 and local
 --                               number 4 with sixteen bytes b, and what stands where the passwords do
@@ -22,7 +24,7 @@ use mathlib.Core.List.{List, [], _∷_, _++_, map}
 use mathlib.Core.Option.{none, some}
 use lib.ListN.{replicate}
 use Rattle.calls.specs.Calls.{Arguments, newCluster, deleteCluster, newSegment, deleteSegment, read, write, weaken}
-use Rattle.calls.specs.Calls.{reduce, newPassword}
+use Rattle.calls.specs.Calls.{reduce, newPassword, freeze}
 use Rattle.lines.specs.Text.{ascii}
 use Rattle.list.specs.Records.{codeOf, kindOf, argumentsOf}
 use Rattle.list.specs.Texts.{output}
@@ -86,7 +88,7 @@ pub record FieldsAt : Type 0 where
   pub code : codeOf pattern ≡ 65
   pub reading : (b : List ℕ) → argumentsOf read pattern b ≡ patternCall b
   pub writing : (b : List ℕ) → argumentsOf write pattern b ≡ patternCall patternData
-  pub kinds : map kindOf (0 ∷ 1 ∷ 2 ∷ 3 ∷ 4 ∷ 5 ∷ 6 ∷ 7 ∷ 8 ∷ 9 ∷ 10 ∷ [])
+  pub kinds : map kindOf (0 ∷ 1 ∷ 2 ∷ 3 ∷ 4 ∷ 5 ∷ 6 ∷ 7 ∷ 8 ∷ 9 ∷ 10 ∷ 11 ∷ [])
       ≡ none
       ∷ some newCluster
       ∷ some deleteCluster
@@ -97,6 +99,7 @@ pub record FieldsAt : Type 0 where
       ∷ some weaken
       ∷ some reduce
       ∷ some newPassword
+      ∷ some freeze
       ∷ none
       ∷ []
 
@@ -147,7 +150,7 @@ codesList =
     ++ handled (9 ∷ 5 ∷ 0 ∷ 0 ∷ 6 ∷ 0 ∷ 0 ∷ 0 ∷ []) 0x11 (replicate 32 0)
     ++ handled (10 ∷ 4 ∷ 1 ∷ 0 ∷ 6 ∷ 0 ∷ 0 ∷ 0 ∷ []) 0x22 (replicate 32 0)
     ++ handled (11 ∷ 2 ∷ 1 ∷ 0 ∷ 0 ∷ 0 ∷ 0 ∷ 0 ∷ []) 0x22 (replicate 32 0)
-    ++ handled (12 ∷ 10 ∷ 0 ∷ 0 ∷ 0 ∷ 0 ∷ 0 ∷ 0 ∷ []) 0x22 (replicate 32 0)
+    ++ handled (12 ∷ 11 ∷ 0 ∷ 0 ∷ 0 ∷ 0 ∷ 0 ∷ 0 ∷ []) 0x22 (replicate 32 0)
     ++ handled (13 ∷ 6 ∷ 0 ∷ 0 ∷ 6 ∷ 33 ∷ 0 ∷ 0 ∷ []) 0x22 (replicate 32 0)
     ++ handled (0 ∷ 7 ∷ 0 ∷ 0 ∷ 0 ∷ 0 ∷ 0 ∷ 0 ∷ []) 0x22 (replicate 32 0)
 
@@ -163,10 +166,40 @@ codesText =
     ++ ascii "8 5 9\n"
     ++ ascii "9 4 0\n"
     ++ ascii "10 2 0\n"
-    ++ ascii "11 10 3\n"
+    ++ ascii "11 11 3\n"
     ++ ascii "12 6 3\n"
     ++ ascii "13 7 21\n"
     ++ ascii "end 13\n"
+
+abbrev frozenList : List ℕ
+frozenList =
+    (2 ∷ 1 ∷ 1 ∷ 0 ∷ 4 ∷ 0 ∷ 0 ∷ 0 ∷ [])
+    ++ replicate 24 0
+    ++ replicate 16 0x11
+    ++ replicate 16 0x22
+    ++ handled (3 ∷ 3 ∷ 1 ∷ 0 ∷ 6 ∷ 0 ∷ 0 ∷ 3 ∷ []) 0x22 (replicate 32 0)
+    ++ handled (4 ∷ 6 ∷ 0 ∷ 0 ∷ 6 ∷ 4 ∷ 0 ∷ 0 ∷ []) 0x22 (0xde ∷ 0xad ∷ 0xbe ∷ 0xef ∷ replicate 28 0)
+    ++ handled (5 ∷ 10 ∷ 1 ∷ 0 ∷ 6 ∷ 0 ∷ 0 ∷ 0 ∷ []) 0x22 (replicate 32 0)
+    ++ handled (6 ∷ 10 ∷ 1 ∷ 0 ∷ 6 ∷ 0 ∷ 0 ∷ 0 ∷ []) 0x22 (replicate 32 0)
+    ++ handled (7 ∷ 6 ∷ 0 ∷ 0 ∷ 6 ∷ 4 ∷ 0 ∷ 0 ∷ []) 0x22 (replicate 32 0)
+    ++ handled (8 ∷ 4 ∷ 1 ∷ 0 ∷ 6 ∷ 0 ∷ 0 ∷ 0 ∷ []) 0x22 (replicate 32 0)
+    ++ handled (9 ∷ 2 ∷ 1 ∷ 0 ∷ 0 ∷ 0 ∷ 0 ∷ 0 ∷ []) 0x22 (replicate 32 0)
+    ++ handled (10 ∷ 10 ∷ 1 ∷ 0 ∷ 5 ∷ 0 ∷ 0 ∷ 0 ∷ []) 0x22 (replicate 32 0)
+    ++ handled (0 ∷ 5 ∷ 0 ∷ 0 ∷ 6 ∷ 0 ∷ 0 ∷ 0 ∷ []) 0x11 (replicate 32 0)
+
+abbrev frozenText : List ℕ
+frozenText =
+    ascii "1 1 0 00010411111111111111111111111111111111ffffffff 00010422222222222222222222222222222222ffffffff\n"
+    ++ ascii "2 3 0\n"
+    ++ ascii "3 6 0\n"
+    ++ ascii "4 10 0\n"
+    ++ ascii "5 10 0\n"
+    ++ ascii "6 6 22\n"
+    ++ ascii "7 4 22\n"
+    ++ ascii "8 2 22\n"
+    ++ ascii "9 10 14\n"
+    ++ ascii "10 5 0 deadbe\n"
+    ++ ascii "end 10\n"
 
 abbrev fullList : List ℕ
 fullList =
@@ -234,5 +267,6 @@ printed =
 pub record OutputsPrinted : Type 0 where
   pub sample : output sampleList ≡ sampleText
   pub codes : output codesList ≡ codesText
+  pub frozen : output frozenList ≡ frozenText
   pub full : output fullList ≡ fullText
   pub others : map (λ (p : Printed). output (p .list)) printed ≡ map (λ (p : Printed). ascii (p .text)) printed

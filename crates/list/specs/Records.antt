@@ -1,4 +1,4 @@
--- Document 01, "The list of calls": a record of 64 bytes, and the call that it encodes.
+-- Document 01, "The list of calls": a record of 64 bytes, and the call that it encodes; with code 10 of document 02, §3.
 --     recordBytes, mostBytes    the bytes of a record; the most bytes that a list has, 255 records
 --     mostData                  the most bytes of data that a record holds
 --     recordIn list k           the 64 bytes of record k, numbered from 1
@@ -6,9 +6,9 @@
 --     field r a n               n bytes of a record, from byte a on
 --     codeOf r                  byte 1: the code
 --     dataLength r              byte 5: the length of a write's data
---     ownCalls, otherCalls      the kinds that a code may name: 1 to 4, which name a current node, and 5 to 9
+--     ownCalls, otherCalls      the kinds that a code may name: 1 to 4 and 10, which name a current node, and 5 to 9
 --     kindAmong ks c            the kind among ks whose code is c, if there is one
---     kindOf c                  the kind of the code c, none outside 1 to 9
+--     kindOf c                  the kind of the code c, none outside 1 to 10
 --     argumentsOf k r b         the arguments of a call of the kind k: byte 2 the current node, 3 the mode, 4 the segment,
 --                               the mask, or the local number of call 1; 6 and 7 the size, high byte first; 8 to 30 the
 --                               handle; 32 to 47 and 48 to 63 the passwords; a write's data, from 32 on, or the buffer b
@@ -22,7 +22,7 @@ use lib.ListN.{getD, take, drop}
 use Rattle.sizes.specs.Sizes.{passwordBytes}
 use Rattle.handle.specs.Sizes.{handleBytes}
 use Rattle.calls.specs.Calls.{Kind, newCluster, deleteCluster, newSegment, deleteSegment, read, write, weaken, reduce}
-use Rattle.calls.specs.Calls.{newPassword, Arguments, code, among}
+use Rattle.calls.specs.Calls.{newPassword, freeze, Arguments, code, among}
 
 abbrev pub recordBytes : ℕ
 recordBytes = 64
@@ -53,7 +53,7 @@ dataLength r = byte r 5
 -- ---- the call that it encodes
 
 abbrev pub ownCalls : List Kind
-ownCalls = newCluster ∷ deleteCluster ∷ newSegment ∷ deleteSegment ∷ []
+ownCalls = newCluster ∷ deleteCluster ∷ newSegment ∷ deleteSegment ∷ freeze ∷ []
 
 abbrev pub otherCalls : List Kind
 otherCalls = read ∷ write ∷ weaken ∷ reduce ∷ newPassword ∷ []

@@ -15,6 +15,7 @@ use crate::fields::second;
 use crate::fields::wide;
 use calls::DELETE_CLUSTER;
 use calls::DELETE_SEGMENT;
+use calls::FREEZE;
 use calls::Left;
 use calls::NEW_CLUSTER;
 use calls::NEW_PASSWORD;
@@ -60,7 +61,7 @@ fn misfit(store: Store, memory: &[u8], bytes: HandleBytes) -> u8
     FIELD
 }
 
-// Calls 1 to 4; any other code is 3, and nothing else is looked at.
+// Calls 1 to 4 and 10; any other code is 3, and nothing else is looked at.
 fn perform_own(store: Store, memory: &mut [u8], record: &[u8]) -> Left
     requires { ⌜ length (now «record») ≡ records.recordBytes ⌝ }
     ensures { λ r. ⌜ ((b : List ℕ)
@@ -98,6 +99,16 @@ fn perform_own(store: Store, memory: &mut [u8], record: &[u8]) -> Left
     if code == DELETE_SEGMENT {
         let bytes = handle(record);
         return guard::delete_segment(
+            store,
+            memory,
+            wide(record[CURRENT]),
+            wide(record[ENTRY]),
+            bytes,
+        );
+    }
+    if code == FREEZE {
+        let bytes = handle(record);
+        return guard::freeze(
             store,
             memory,
             wide(record[CURRENT]),
