@@ -15,7 +15,7 @@ use Rattle.store.specs.declared.Place.{Place}
 use Rattle.store.specs.declared.Place.the-variants.{Absent, Present}
 use Rattle.store.specs.declared.Segment.{Segment}
 use Rattle.store.specs.declared.Cluster.{Cluster}
-use Rattle.store.specs.Records.{absentSegment, tableOf, clusterAt, tableAt, segmentOf, placeOf, putRecord, withMark}
+use Rattle.store.specs.Records.{markedAt, absentSegment, tableOf, clusterAt, tableAt, segmentOf, placeOf, putRecord, withMark}
 use Rattle.store.specs.Sound.{isAbsent}
 use Rattle.store.proofs.ChangeLaws.{put-same, put-other}
 use Rattle.store.proofs.RecordLaws.{put-itself, mark-itself}
@@ -80,7 +80,7 @@ module _ (f : Name → List ℕ → ℕ → List ℕ) (g : Arguments) (c : Copy)
         go (no q) = ap p (put-other (c .store) n (withMark old (g .segment)) m q)
 
     new : segmentOf (tableOf (withMark old (g .segment))) (g .segment)
-        ≡ record { place = placeOf (tableOf old) (g .segment); frozen = true }
+        ≡ markedAt (placeOf (tableOf old) (g .segment))
     new = getD-set-same (old .segments) (g .segment) _ absentSegment (present-in old (g .segment) freeze-present)
 
     same : SameRecords n (g .segment) (putRecord (c .store) n (withMark old (g .segment))) (c .store)

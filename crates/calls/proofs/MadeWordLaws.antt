@@ -15,7 +15,7 @@ use Rattle.handle.specs.Handles.{Name, nodeOf}
 use Rattle.store.specs.declared.Segment.{Segment}
 use Rattle.store.specs.declared.Cluster.{Cluster}
 use Rattle.store.specs.declared.Store.{Store}
-use Rattle.store.specs.Records.{segmentAt, absentSegment, noCluster, tableOf, clusterAt, tableAt, placeOf, withPlace}
+use Rattle.store.specs.Records.{segmentAt, absentSegment, noCluster, tableOf, clusterAt, tableAt, segmentOf, frozenOf, withPlace}
 use Rattle.store.specs.Sound.{sound}
 use Rattle.store.specs.SoundWords.{SoundInWords}
 use Rattle.store.specs.Placement.{placedAt, newBase, placement}
@@ -27,7 +27,7 @@ use Rattle.store.proofs.PlacementLaws.{newBase-fits}
 use Rattle.store.proofs.PlacementWordLaws.{placement-in-words}
 use Rattle.calls.specs.Calls.{Copy, Call, Arguments, call, newSegment, handleOf, recordFor}
 use Rattle.calls.specs.Numbers.{unsound, badSegment, number}
-use Rattle.calls.specs.Words.{place}
+use Rattle.calls.specs.Words.{place, clusterOf}
 use Rattle.calls.specs.Steps.{Outcome, about, newBaseFor, newPlace, segmentMade, left, given, step}
 use Rattle.calls.specs.MadeWords.{Eight, MadeInWords}
 use Rattle.calls.proofs.DoneLaws.{NoRow, no-row, done-range, done-segment, done-active, new-base}
@@ -93,13 +93,12 @@ module _ (f : Name → List ℕ → ℕ → List ℕ) (g : Arguments) (c : Copy)
           base = base;
           number = ap (λ (o : Outcome). o .reply .number) step-made;
           present =
-              ap (λ (o : Outcome). place x (o .copy .store)) step-made
-              ∙ ap (λ (d : Cluster). placeOf (tableOf d) (g .segment))
-              (put-same (c .store) (recordFor x) made
-              (active-in (c .store) (recordFor x) (done-active f x (c .store) (length (c .memory)) e refl)))
-              ∙ ap (λ (z : Segment). z .place)
-              (getD-set-same (about x c .segments) (g .segment) (segmentAt (newPlace x (tableAt (c .store))))
-              absentSegment low);
+              ap (λ (o : Outcome). place x (o .copy .store)) step-made ∙ ap (λ (z : Segment). z .place) found;
+          unfrozen = λ t.
+              true≢false
+              (sym t
+              ∙ ap (λ (o : Outcome). frozenOf (tableOf (clusterOf x (o .copy .store))) (g .segment)) step-made
+              ∙ ap (λ (z : Segment). z .frozen) found);
           room = smallest .0;
           smallest = smallest .1;
           cleared = λ k h.
@@ -123,3 +122,11 @@ module _ (f : Name → List ℕ → ℕ → List ℕ) (g : Arguments) (c : Copy)
         low =
             let i = leb-false 8 (g .segment) (done-segment f x (c .store) (length (c .memory)) e) in
             omega (arith, eight)
+
+        found : segmentOf (tableOf (clusterAt (segmentMade x c .store) (recordFor x))) (g .segment)
+            ≡ segmentAt (newPlace x (tableAt (c .store)))
+        found =
+            ap (λ (d : Cluster). segmentOf (tableOf d) (g .segment))
+            (put-same (c .store) (recordFor x) made
+            (active-in (c .store) (recordFor x) (done-active f x (c .store) (length (c .memory)) e refl)))
+            ∙ getD-set-same (about x c .segments) (g .segment) (segmentAt (newPlace x (tableAt (c .store)))) absentSegment low

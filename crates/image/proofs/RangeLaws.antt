@@ -20,7 +20,7 @@ use Rattle.store.specs.declared.Segment.{Segment}
 use Rattle.store.specs.declared.Cluster.{Cluster}
 use Rattle.store.specs.declared.Store.{Store}
 use Rattle.store.specs.Records.{absentSegment, inactive, started, noCluster, clusterAt, tableOf, placeOf}
-use Rattle.store.specs.Records.{segmentAt, putRecord, withSegment, withPlace, withMark, readMode, withPassword}
+use Rattle.store.specs.Records.{segmentAt, markedAt, putRecord, withSegment, withPlace, withMark, readMode, withPassword}
 use Rattle.store.proofs.ChangeLaws.{put-other, put-same}
 use Rattle.store.proofs.RecordLaws.{place-beyond}
 use Rattle.image.specs.Parts.{slot, part}
@@ -106,7 +106,7 @@ pub place-fits : (c : Cluster) (i : ℕ) (p : Place) → ClusterFits c → Place
 place-fits c i p f g = segment-fits c i (segmentAt p) f g
 
 pub mark-fits : (c : Cluster) (i : ℕ) → ClusterFits c → ClusterFits (withMark c i)
-mark-fits c i f = segment-fits c i (record { place = placeOf (tableOf c) i; frozen = true }) f (there (ltb i segments) refl)
+mark-fits c i f = segment-fits c i (markedAt (placeOf (tableOf c) i)) f (there (ltb i segments) refl)
   where
     there : (t : Bool) → ltb i segments ≡ t → PlaceFits (placeOf (tableOf c) i)
     there true h = f .places i (ltb-true i segments h)

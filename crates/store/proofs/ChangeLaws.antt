@@ -3,7 +3,7 @@
 -- Assumes nothing.
 use mathlib.Core.Path.{_≡_, refl, sym, ap, _∙_, subst}
 use mathlib.Core.Logic.{_≢_, _⊎_, inl, inr}
-use mathlib.Core.Bool.{Bool, true, false, not, _&&_}
+use mathlib.Core.Bool.{true, false}
 use mathlib.Core.List.{List}
 use mathlib.Core.Option.{some}
 use Prim.Native.Nat.{ℕ, _≤_, _<_}
@@ -26,7 +26,7 @@ use Rattle.store.specs.Sound.{inRanges, endsInside, inside, isAbsent, so
 use Rattle.store.specs.Placement.{newBase}
 use Rattle.store.proofs.PlaceLaws.{apart-sym}
 use Rattle.store.proofs.PlacementLaws.{newBase-fits}
-use Rattle.store.proofs.SoundLaws.{Sound, segment-inside, segment-mark, segment-present, sound-out, sound-in}
+use Rattle.store.proofs.SoundLaws.{Sound, segment-inside, segment-mark, segment-present, present-mark, sound-out, sound-in}
 use Rattle.store.proofs.SoundLaws.{settled-active, settled-inactive}
 
 -- ---- one record replaced
@@ -228,6 +228,4 @@ module _ (s : Store) (size : ℕ) (e : sound s size ≡ true) (node local : ℕ)
     -- a present segment frozen: call 10
     pub sound-frozen : isAbsent (placeOf (tableOf c) i) ≡ false
         → sound (putRecord s (recordOf node local) (withMark c i)) size ≡ true
-    unfolding soundMark
-    sound-frozen h =
-        one (record { place = placeOf (tableOf c) i; frozen = true }) (kept refl (ap (λ (t : Bool). not (t && true)) h))
+    sound-frozen h = one _ (kept refl (present-mark _ h))

@@ -48,7 +48,7 @@ module _ (c : Cluster) (i : ℕ) (e : length (c .segments) ≡ segments) (h : se
   frozen-beyond = sym (ap (λ (g : Segment). g .frozen) (List·getD-eq-default (c .segments) absentSegment (rw e h)))
 
   pub mark-beyond : c ≡ withMark c i
-  mark-beyond = beyond (record { place = placeOf (tableOf c) i; frozen = true })
+  mark-beyond = beyond _
 
 -- ---- the primary password of a mode
 

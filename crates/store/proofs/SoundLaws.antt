@@ -1,7 +1,7 @@
 -- Soundness as facts: one law out of it, `sound-out`, and one into it, `sound-in`, clause by clause; no other law looks
 -- inside `sound`. The starting store is sound: every record in it is inactive and every segment absent.
 -- Assumes nothing.
-use mathlib.Core.Path.{_≡_, refl, ap, _∙_}
+use mathlib.Core.Path.{_≡_, refl, ap, ap₂, _∙_}
 use mathlib.Core.Logic.{_≢_, _⊎_, inl, inr}
 use mathlib.Core.Bool.{Bool, true, false, not, _&&_, _||_, or-true, and-true}
 use Prim.Native.Nat.{ℕ, _<_}
@@ -42,11 +42,15 @@ unfolding soundSegment
 segment-mark g e = and-right (inside (g .place)) (soundMark g) e
 
 -- of a present one the mark is not asked
+pub present-mark : (g : Segment) → isAbsent (g .place) ≡ false → soundMark g ≡ true
+unfolding soundMark
+present-mark g e = ap (λ (t : Bool). not (t && g .frozen)) e
+
 pub segment-present : (g : Segment) (base length : ℕ) → g .place ≡ Present base length
     → soundSegment g ≡ inside (Present base length)
-unfolding soundSegment soundMark
+unfolding soundSegment
 segment-present g base length e =
-    ap (λ (p : Place). inside p && not (isAbsent p && g .frozen)) e ∙ and-true (inside (Present base length))
+    ap₂ (λ (p : Place) (t : Bool). inside p && t) e (present-mark g (ap isAbsent e)) ∙ and-true (inside (Present base length))
 
 pub settled-active : (c : Cluster) → c .active ≡ true → settled c ≡ true
 unfolding settled

@@ -1,6 +1,6 @@
 -- Document 01, "The store": the nodes, the clusters' records and how a segment is found in them. With the mark of document
 -- 02, §3: a segment is frozen or not.
---     segmentAt                    a segment at a place, not frozen
+--     segmentAt, markedAt          a segment at a place, not frozen, and frozen
 --     absentSegment, inactive      an absent segment, and a cluster's record as in the starting store
 --     startingStore                all clusters inactive
 --     started                      the record of a new cluster with these passwords
@@ -40,6 +40,9 @@ use Rattle.store.specs.declared.Store.{Store}
 
 abbrev pub segmentAt : Place → Segment
 segmentAt p = record { place = p; frozen = false }
+
+abbrev pub markedAt : Place → Segment
+markedAt p = record { place = p; frozen = true }
 
 abbrev pub absentSegment : Segment
 absentSegment = segmentAt Absent
@@ -142,7 +145,7 @@ abbrev pub withPlace : Cluster → ℕ → Place → Cluster
 withPlace c i p = withSegment c i (segmentAt p)
 
 abbrev pub withMark : Cluster → ℕ → Cluster
-withMark c i = withSegment c i (record { place = placeOf (tableOf c) i; frozen = true })
+withMark c i = withSegment c i (markedAt (placeOf (tableOf c) i))
 
 abbrev pub withPassword : Cluster → ℕ → List ℕ → Cluster
 withPassword c mode p =
