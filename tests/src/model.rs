@@ -42,7 +42,7 @@ fn carry_out(store: &mut Store, memory: &mut [u8], buffer: &mut [u8], call: &Cal
         Call::DeleteSegment {
             segment, handle, ..
         } => {
-            cluster_mut(store, &handle).segments[segment as usize] = Segment::Absent;
+            cluster_mut(store, &handle).segments[segment as usize] = Segment::ABSENT;
             Reply::DONE
         }
         Call::Read { segment, handle } => read(&memory[part(store, &handle, segment)], buffer),
@@ -112,10 +112,7 @@ fn new_segment(
     let base = store
         .place(node, size)
         .expect("row 16 refuses what has no base");
-    let placed = Segment::Present {
-        base: base as u16,
-        length: size as u16,
-    };
+    let placed = Segment::present(base as u16, size as u16);
     cluster_mut(store, handle).segments[segment] = placed;
     memory[part(store, handle, segment as u32)].fill(0);
     Reply::DONE

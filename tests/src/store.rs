@@ -8,18 +8,38 @@ use crate::sizes::{
 };
 use std::ops::Range;
 
+/// Where a segment is in its node's memory, if it is there.
 #[derive(Clone, Copy, Debug, PartialEq, Eq)]
-pub enum Segment {
+pub enum Place {
     Absent,
     Present { base: u16, length: u16 },
 }
 
+#[derive(Clone, Copy, Debug, PartialEq, Eq)]
+pub struct Segment {
+    pub place: Place,
+}
+
 impl Segment {
+    pub const ABSENT: Segment = Segment {
+        place: Place::Absent,
+    };
+
+    pub const fn present(base: u16, length: u16) -> Segment {
+        Segment {
+            place: Place::Present { base, length },
+        }
+    }
+
+    pub fn is_present(&self) -> bool {
+        self.place != Place::Absent
+    }
+
     /// The bytes of its node's memory that a present segment has.
     pub fn extent(&self) -> Option<Extent> {
-        match *self {
-            Segment::Absent => None,
-            Segment::Present { base, length } => Some(Extent {
+        match self.place {
+            Place::Absent => None,
+            Place::Present { base, length } => Some(Extent {
                 base: usize::from(base),
                 length: usize::from(length),
             }),
@@ -80,13 +100,11 @@ impl Cluster {
         active: false,
         read: [0; PASSWORD_BYTES],
         write: [0; PASSWORD_BYTES],
-        segments: [Segment::Absent; SEGMENTS],
+        segments: [Segment::ABSENT; SEGMENTS],
     };
 
     pub fn has_segments(&self) -> bool {
-        self.segments
-            .iter()
-            .any(|segment| *segment != Segment::Absent)
+        self.segments.iter().any(Segment::is_present)
     }
 
     /// An inactive cluster keeps no passwords and no segments.
@@ -123,7 +141,7 @@ impl Extents {
         let mut count = 0;
         let active = clusters.iter().filter(|cluster| cluster.active);
         for segment in active.flat_map(|cluster| &cluster.segments) {
-            if let Segment::Present { base, length } = *segment {
+            if let Place::Present { base, length } = segment.place {
                 list[count] = u32::from(base) << 16 | u32::from(length);
                 count += 1;
             }

@@ -232,7 +232,10 @@ fn present(call: &Call, found: &Found) -> bool {
 
 fn absent(call: &Call, found: &Found) -> bool {
     let concerned = matches!(call, Call::DeleteSegment { .. }) || call.reaches_bytes();
-    concerned && found.named_segment(call) == Some(&Segment::Absent)
+    concerned
+        && found
+            .named_segment(call)
+            .is_some_and(|segment| !segment.is_present())
 }
 
 fn short(call: &Call, found: &Found) -> bool {

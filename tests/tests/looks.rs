@@ -38,7 +38,7 @@ fn bench(node: usize, segments: &[(u16, u16)]) -> Bench {
         ..Cluster::INACTIVE
     };
     for (segment, &(base, length)) in cluster.segments.iter_mut().zip(segments) {
-        *segment = Segment::Present { base, length };
+        *segment = Segment::present(base, length);
     }
     bench
 }

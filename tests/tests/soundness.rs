@@ -17,16 +17,13 @@ fn store() -> Store {
     cluster.active = true;
     cluster.read = READ;
     cluster.write = WRITE;
-    cluster.segments[0] = Segment::Present {
-        base: 10,
-        length: 20,
-    };
+    cluster.segments[0] = Segment::present(10, 20);
     store
 }
 
 fn with_segment(base: u16, length: u16) -> Store {
     let mut store = store();
-    store.clusters[1][3].segments[7] = Segment::Present { base, length };
+    store.clusters[1][3].segments[7] = Segment::present(base, length);
     store
 }
 
@@ -78,10 +75,7 @@ fn segments_out_of_range_or_overlapping() {
     }
     let mut overlapping = store();
     overlapping.clusters[1][4].active = true;
-    overlapping.clusters[1][4].segments[2] = Segment::Present {
-        base: 29,
-        length: 5,
-    };
+    overlapping.clusters[1][4].segments[2] = Segment::present(29, 5);
     assert!(!overlapping.is_sound(MEMORY_BYTES));
 }
 
@@ -92,7 +86,7 @@ fn inactive_with_something_left() {
     let mut write = Store::starting();
     write.clusters[3][7].write[0] = 1;
     let mut segment = Store::starting();
-    segment.clusters[2][5].segments[6] = Segment::Present { base: 0, length: 1 };
+    segment.clusters[2][5].segments[6] = Segment::present(0, 1);
     for store in [read, write, segment] {
         assert!(!store.is_sound(MEMORY_BYTES));
     }
@@ -144,10 +138,7 @@ fn calls() -> Vec<Call> {
 #[test]
 fn damage_anywhere_refuses_all_but_weakening_and_changes_nothing() {
     let mut damaged = store();
-    damaged.clusters[3][7].segments[0] = Segment::Present {
-        base: 4000,
-        length: 97,
-    };
+    damaged.clusters[3][7].segments[0] = Segment::present(4000, 97);
     for call in calls() {
         let mut memory = vec![0xaa; MEMORY_BYTES];
         let mut buffer = vec![0xbb; 64];

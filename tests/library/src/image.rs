@@ -2,7 +2,7 @@
 
 use model::handle::Password;
 use model::sizes::{CLUSTERS, NODES, PASSWORD_BYTES, SEGMENTS};
-use model::store::{Cluster, Segment, Store};
+use model::store::{Cluster, Place, Segment, Store};
 use std::ops::Range;
 
 pub const READ_AT: usize = 1;
@@ -58,9 +58,9 @@ fn encode_cluster(cluster: &Cluster, record: &mut [u8]) {
 }
 
 fn encode_segment(segment: &Segment) -> [u8; SEGMENT_BYTES] {
-    match *segment {
-        Segment::Absent => [0; SEGMENT_BYTES],
-        Segment::Present { base, length } => {
+    match segment.place {
+        Place::Absent => [0; SEGMENT_BYTES],
+        Place::Present { base, length } => {
             let ([b0, b1], [l0, l1]) = (base.to_be_bytes(), length.to_be_bytes());
             [b0, b1, l0, l1]
         }
@@ -84,7 +84,7 @@ fn decode_cluster(record: &[u8]) -> Option<Cluster> {
         _ => return None,
     };
     let password = |at: usize| Password::try_from(&record[at..at + PASSWORD_BYTES]).ok();
-    let mut segments = [Segment::Absent; SEGMENTS];
+    let mut segments = [Segment::ABSENT; SEGMENTS];
     let places = record[SEGMENTS_AT..].chunks_exact(SEGMENT_BYTES);
     for (segment, place) in segments.iter_mut().zip(places) {
         *segment = decode_segment(place)?;
@@ -101,8 +101,8 @@ fn decode_segment(place: &[u8]) -> Option<Segment> {
     let base = u16::from_be_bytes([place[0], place[1]]);
     let length = u16::from_be_bytes([place[2], place[3]]);
     match (base, length) {
-        (0, 0) => Some(Segment::Absent),
+        (0, 0) => Some(Segment::ABSENT),
         (_, 0) => None,
-        _ => Some(Segment::Present { base, length }),
+        _ => Some(Segment::present(base, length)),
     }
 }

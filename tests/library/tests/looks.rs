@@ -15,7 +15,7 @@ use model::call::{Call, Part, Reply};
 use model::handle::Handle;
 use model::random::Random;
 use model::sizes::{CLUSTERS, NODES, NODE_BYTES, SEGMENTS};
-use model::store::{Segment, Store};
+use model::store::{Place, Store};
 
 /// The reply; image and memory have to stay as they were.
 fn look(held: &Held, node: usize, segment: usize, handle: Handle) -> Reply {
@@ -87,9 +87,9 @@ fn each_segment_where_its_record_says() {
         let held = held(random, &store);
         for (node, local, segment) in segments(&store) {
             let cluster = &store.clusters[node][local];
-            let expected = match cluster.segments[segment] {
-                Segment::Absent => Reply::refused(14),
-                Segment::Present { base, length } => {
+            let expected = match cluster.segments[segment].place {
+                Place::Absent => Reply::refused(14),
+                Place::Present { base, length } => {
                     shown(4096 * node + usize::from(base), length.into())
                 }
             };

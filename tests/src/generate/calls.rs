@@ -9,7 +9,7 @@ use crate::list::{
 };
 use crate::random::Random;
 use crate::sizes::{CLUSTERS, HANDLE_BYTES, NODES, NODE_BYTES, PASSWORD_BYTES, SEGMENTS};
-use crate::store::{Mode, Segment};
+use crate::store::Mode;
 
 /// Few passwords, so that equal ones meet.
 const PASSWORDS: u64 = 5;
@@ -121,7 +121,7 @@ impl Maker {
         let referenced_only = !self.random.one_in(4);
         let fits = |segment: &u8| {
             let at = usize::from(*segment);
-            let is_present = cluster.is_some_and(|cluster| cluster.segments[at] != Segment::Absent);
+            let is_present = cluster.is_some_and(|cluster| cluster.segments[at].is_present());
             is_present == present && (!referenced_only || handle.selector.references(at))
         };
         let fitting: Vec<u8> = (0..SEGMENTS as u8).filter(fits).collect();

@@ -55,10 +55,7 @@ fn store() -> Store {
         write: WRITE,
         ..Cluster::INACTIVE
     };
-    let present = |base: usize, length: usize| Segment::Present {
-        base: base as u16,
-        length: length as u16,
-    };
+    let present = |base: usize, length: usize| Segment::present(base as u16, length as u16);
     cluster.segments[5] = present(BASE, LENGTH);
     cluster.segments[4] = present(BASE + LENGTH, 10);
     store

@@ -62,7 +62,7 @@ fn make_room(store: &mut Store, node: usize, extent: Extent) {
     for segment in clusters.flat_map(|cluster| &mut cluster.segments) {
         let taken = segment.extent();
         if taken.is_some_and(|taken| taken.base < extent.end() && extent.base < taken.end()) {
-            *segment = Segment::Absent;
+            *segment = Segment::ABSENT;
         }
     }
 }

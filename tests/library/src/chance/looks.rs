@@ -72,10 +72,6 @@ impl Maker<'_> {
     }
 }
 
-fn is_present(segment: &Segment) -> bool {
-    *segment != Segment::Absent
-}
-
 /// The segments of a cluster that `fits` is true of.
 fn segments(cluster: &Cluster, fits: impl Fn(&Segment) -> bool) -> Vec<usize> {
     let fitting = (0..SEGMENTS).filter(|&at| fits(&cluster.segments[at]));
@@ -86,7 +82,7 @@ fn segments(cluster: &Cluster, fits: impl Fn(&Segment) -> bool) -> Vec<usize> {
 fn right(random: &mut Random, store: &Store) -> Option<Look> {
     let (node, local) = handles::place(random, store, Cluster::has_segments)?;
     let cluster = &store.clusters[node][local];
-    let segment = *random.pick(&segments(cluster, is_present))?;
+    let segment = *random.pick(&segments(cluster, Segment::is_present))?;
     let mut handle = Handle::primary(node as u16, local as u8, cluster.read);
     for _ in 0..random.below(3) {
         let mask = random.byte() | 1 << segment;
@@ -115,7 +111,7 @@ impl Look {
         let own = &store.clusters[usize::from(self.handle.node)][usize::from(self.handle.local)];
         match fault {
             Fault::Absent => {
-                let absent = segments(own, |segment| !is_present(segment));
+                let absent = segments(own, |segment| !segment.is_present());
                 let chosen = random.pick(&absent).map(|&segment| segment as u32);
                 self.segment = chosen.unwrap_or(self.segment);
             }

@@ -117,8 +117,7 @@ impl Maker<'_> {
         let referenced_only = !self.random.one_in(4);
         let cluster = self.cluster(handle);
         let fits = |&segment: &usize| {
-            let is_present =
-                cluster.is_some_and(|cluster| cluster.segments[segment] != Segment::Absent);
+            let is_present = cluster.is_some_and(|cluster| cluster.segments[segment].is_present());
             is_present == present && (!referenced_only || handle.selector.references(segment))
         };
         let fitting: Vec<usize> = (0..SEGMENTS).filter(fits).collect();

@@ -176,10 +176,7 @@ fn put(clusters: &mut [Cluster; CLUSTERS], places: &[(usize, usize)], parts: &[E
 }
 
 pub fn present(base: usize, length: usize) -> Segment {
-    Segment::Present {
-        base: base as u16,
-        length: length as u16,
-    }
+    Segment::present(base as u16, length as u16)
 }
 
 /// The present segments of a node in the order of their bases.

@@ -11,7 +11,7 @@ use library::question::Held;
 use library::tally::Tally;
 use library::{guard, single};
 use model::sizes::{MEMORY_BYTES, NODE_BYTES};
-use model::store::{Extent, Segment, Store};
+use model::store::{Extent, Place, Segment, Store};
 
 const SEED: u64 = 7;
 const CALLS: u64 = 20_000;
@@ -113,15 +113,12 @@ fn shorten(image: &mut Image, byte_of_a_word: u16) {
     mend_store(image, |store| {
         let clusters = store.clusters.as_flattened_mut().iter_mut();
         for segment in clusters.flat_map(|cluster| &mut cluster.segments) {
-            *segment = match *segment {
-                Segment::Present { base, length } if base % 64 == byte_of_a_word => match length {
-                    1 => Segment::Absent,
-                    _ => Segment::Present {
-                        base: base + 1,
-                        length: length - 1,
-                    },
+            *segment = match segment.place {
+                Place::Present { base, length } if base % 64 == byte_of_a_word => match length {
+                    1 => Segment::ABSENT,
+                    _ => Segment::present(base + 1, length - 1),
                 },
-                other => other,
+                _ => *segment,
             };
         }
     });
@@ -143,7 +140,7 @@ fn hide(image: &mut Image, hidden: fn(Extent, Extent) -> bool) {
                 .flat_map(|cluster| &mut cluster.segments)
             {
                 if segment.extent().is_some_and(is_hidden) {
-                    *segment = Segment::Absent;
+                    *segment = Segment::ABSENT;
                 }
             }
         }

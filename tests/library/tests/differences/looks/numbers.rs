@@ -36,7 +36,7 @@ impl Seen {
     fn is_absent(&self) -> bool {
         let cluster = self.cluster();
         let segment = cluster.and_then(|own| own.segments.get(self.segment as usize).copied());
-        segment == Some(Segment::Absent)
+        segment == Some(Segment::ABSENT)
     }
 
     /// The same look in the node of its handle.
