@@ -31,25 +31,26 @@ pub type Record = [u8; RECORD_BYTES];
 
 /// For each number, the calls that a list can bring to it. A list starts from a sound store and has
 /// a buffer that any segment fits in, so 1 is not among them, nor 15 for a read.
-const REACHABLE: [(u8, &[u8]); 18] = [
-    (0, &[1, 2, 3, 4, 5, 6, 7, 8, 9]),
-    (2, &[1, 2, 3, 4, 5, 6, 7, 8, 9]),
-    (3, &[3, 4, 5, 6, 8, 9]),
-    (4, &[2, 3, 4, 5, 6, 7, 8, 9]),
-    (5, &[2, 3, 4]),
+const REACHABLE: [(u8, &[u8]); 19] = [
+    (0, &[1, 2, 3, 4, 5, 6, 7, 8, 9, 10]),
+    (2, &[1, 2, 3, 4, 5, 6, 7, 8, 9, 10]),
+    (3, &[3, 4, 5, 6, 8, 9, 10]),
+    (4, &[2, 3, 4, 5, 6, 7, 8, 9, 10]),
+    (5, &[2, 3, 4, 10]),
     (6, &[1]),
     (7, &[1]),
-    (8, &[2, 3, 4, 5, 6, 8, 9]),
-    (9, &[2, 3, 4, 5, 6, 8, 9]),
-    (10, &[2, 3, 4, 9]),
+    (8, &[2, 3, 4, 5, 6, 8, 9, 10]),
+    (9, &[2, 3, 4, 5, 6, 8, 9, 10]),
+    (10, &[2, 3, 4, 9, 10]),
     (11, &[5, 6]),
     (12, &[9]),
     (13, &[3]),
-    (14, &[4, 5, 6]),
+    (14, &[4, 5, 6, 10]),
     (15, &[6]),
     (16, &[3]),
     (17, &[7]),
     (21, &[7]),
+    (22, &[2, 4, 6]),
 ];
 
 /// The pairs that a list can reach: the code of a call and a number.
@@ -98,6 +99,7 @@ fn call_of(record: &Record) -> Option<Call> {
         call::WEAKEN => Call::Weaken { mask: record[SEGMENT_AT], handle },
         call::REDUCE => Call::Reduce { mode, handle },
         call::NEW_PASSWORD => Call::NewPassword { mode, handle, password: first },
+        call::FREEZE => Call::Freeze { node, segment, handle },
         _ => return None,
     };
     Some(call)

@@ -1,5 +1,6 @@
 //! Lists made by chance: what holds of the model on all of them.
 
+use model::frozen::Watch;
 use model::generate;
 use model::list::{chain, output, reachable, records, request, run, Request, Session, CODE_AT};
 use model::nothing::Way;
@@ -41,13 +42,15 @@ fn lists_reach_what_can_be_reached() {
 }
 
 #[test]
-fn refused_calls_change_nothing_and_soundness_is_kept() {
+fn refused_calls_change_nothing_and_what_is_sound_or_frozen_stays() {
+    let mut frozen = 0;
     for list in lists(2) {
         let Some(Ok((order, records))) = records(&list).map(|all| Ok::<_, u8>((chain(&all)?, all)))
         else {
             continue;
         };
         let mut session = Session::starting();
+        let mut watch = Watch::default();
         for number in order {
             let before = (
                 session.store.clone(),
@@ -68,8 +71,11 @@ fn refused_calls_change_nothing_and_soundness_is_kept() {
                 assert_eq!((reply.count, reply.length), (0, 0));
             }
             assert!(session.store.is_sound(MEMORY_BYTES));
+            assert_eq!(watch.see(&session.store, &session.memory), Ok(()));
         }
+        frozen += watch.met();
     }
+    assert!(frozen > LISTS / 3, "{frozen}");
 }
 
 #[test]

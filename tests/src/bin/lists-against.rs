@@ -7,7 +7,7 @@ use model::list::{reachable, request, run, Request, CODE_AT};
 use model::nothing::Way;
 use model::program::{Outcome, Program};
 use model::random::Random;
-use model::table::{word, EMPTY, LIST_LENGTH, LOOP, SPENT};
+use model::table::{word, EMPTY, FROZEN, LIST_LENGTH, LOOP, SPENT};
 use std::collections::BTreeMap;
 use std::ffi::OsString;
 use std::io;
@@ -128,7 +128,7 @@ fn compare(task: &Task, tally: &mut Tally) -> io::Result<bool> {
 }
 
 fn print_tally(tally: &Tally) {
-    let numbers: Vec<u8> = (0..=SPENT).chain([EMPTY]).collect();
+    let numbers: Vec<u8> = (0..=SPENT).chain([EMPTY, FROZEN]).collect();
     let row = |name: &str, code: u8| {
         let count = |number: &u8| tally.pairs.get(&(code, *number)).copied();
         let cells = numbers.iter().map(|number| match count(number) {

@@ -14,8 +14,8 @@ use crate::store::Mode;
 /// Few passwords, so that equal ones meet.
 const PASSWORDS: u64 = 5;
 /// Codes as often as they are wanted: what fills the store comes more often than what empties it.
-const CODES: [u8; 24] = [
-    1, 1, 1, 2, 3, 3, 3, 3, 3, 4, 5, 5, 5, 5, 6, 6, 6, 6, 7, 7, 8, 8, 9, 9,
+const CODES: [u8; 26] = [
+    1, 1, 1, 2, 3, 3, 3, 3, 3, 4, 5, 5, 5, 5, 6, 6, 6, 6, 7, 7, 8, 8, 9, 9, 10, 10,
 ];
 
 pub struct Maker {
@@ -45,7 +45,7 @@ impl Maker {
         record[CODE_AT] = code;
         match code {
             call::NEW_CLUSTER => self.new_cluster(&mut record),
-            call::DELETE_CLUSTER | call::NEW_SEGMENT | call::DELETE_SEGMENT => {
+            call::DELETE_CLUSTER | call::NEW_SEGMENT | call::DELETE_SEGMENT | call::FREEZE => {
                 self.local_call(&mut record);
             }
             call::READ => self.move_bytes(&mut record, Mode::Read),
@@ -139,9 +139,9 @@ impl Maker {
         record[FIRST_PASSWORD_AT..].copy_from_slice(&passwords.concat());
     }
 
-    /// Calls 2, 3 and 4.
+    /// Calls 2, 3, 4 and 10.
     fn local_call(&mut self, record: &mut Record) {
-        let wanted = record[CODE_AT] == call::DELETE_SEGMENT;
+        let wanted = matches!(record[CODE_AT], call::DELETE_SEGMENT | call::FREEZE);
         let wish = Wish {
             mode: Mode::Write,
             primary: true,
