@@ -1,7 +1,12 @@
-//! What is frozen and has to stay, for those who watch a row of calls.
+//! What is frozen and has to stay, for those who watch a row of calls; and what calls come to where something
+//! is frozen.
 
+use crate::call::Call;
 use crate::sizes::{CLUSTERS, NODES, SEGMENTS};
-use crate::store::{Place, Store};
+use crate::store::{Cluster, Place, Store};
+use crate::table::{
+    Found, DONE, FROZEN, NOT_PRIMARY, NOT_REFERENCED, PRESENT, VIOLATED_PROTECTION,
+};
 use std::collections::BTreeMap;
 
 /// Node, local number and segment.
@@ -49,4 +54,110 @@ fn frozen(store: &Store, memory: &[u8]) -> Met {
             (cluster.active && segment.frozen).then_some((name, (segment.place, bytes)))
         })
         .collect()
+}
+
+/// What calls come to where something is frozen. What is made by chance has to come to each.
+#[derive(Clone, Copy, Debug, PartialEq, Eq, PartialOrd, Ord)]
+pub enum Case {
+    /// A freeze of a segment that is frozen is done.
+    Again,
+    /// 22 for call 2: by segment 0 alone, by the last alone, by others and not by segment 0.
+    FirstAlone,
+    LastAlone,
+    NotTheFirst,
+    /// Something of the cluster is frozen, and for call 2 there is 9 or 10 before 22.
+    ClusterViolatedFirst,
+    ClusterNotPrimaryFirst,
+    /// Call 2 is done, and another cluster of the node has a frozen segment.
+    OtherClusterDeleted,
+    /// 13 for call 3.
+    Present,
+    /// The segment is frozen, and there is 9, 10 or 11 before 22.
+    ViolatedFirst,
+    NotPrimaryFirst,
+    NotReferencedFirst,
+    /// 22 for call 6 with data that is short, and with data that is not.
+    Short,
+    LongEnough,
+    /// Done beside a frozen segment of the same cluster.
+    OtherDeleted,
+    OtherWritten,
+    /// Done with a frozen one as with any other.
+    Read,
+    Shown,
+    /// Call 9 is done, and something of the cluster is frozen.
+    Renewed,
+}
+
+impl Case {
+    #[rustfmt::skip]
+    pub const ALL: [Case; 18] = [
+        Case::Again, Case::FirstAlone, Case::LastAlone, Case::NotTheFirst,
+        Case::ClusterViolatedFirst, Case::ClusterNotPrimaryFirst, Case::OtherClusterDeleted,
+        Case::Present, Case::ViolatedFirst, Case::NotPrimaryFirst, Case::NotReferencedFirst,
+        Case::Short, Case::LongEnough, Case::OtherDeleted, Case::OtherWritten,
+        Case::Read, Case::Shown, Case::Renewed,
+    ];
+
+    /// Those that a list can come to: it asks for no look.
+    pub fn in_lists() -> impl Iterator<Item = Case> {
+        Case::ALL.into_iter().filter(|case| *case != Case::Shown)
+    }
+
+    /// The case of a call that came to `number`, if it is one; `found` is what it was put to.
+    pub fn of(found: &Found, call: &Call, number: u8) -> Option<Case> {
+        let handle = call.handle()?;
+        let (node, local) = (usize::from(handle.node), usize::from(handle.local));
+        let cluster = found.store.cluster(node, local)?;
+        if let Call::DeleteCluster { .. } = call {
+            return Case::of_cluster(&found.store.clusters[node], cluster, number);
+        }
+        let named = call.segment().map(|segment| segment as usize);
+        let segment = named.and_then(|segment| cluster.segments.get(segment));
+        match segment {
+            Some(segment) if segment.frozen => {
+                let length = segment.extent().map_or(0, |extent| extent.length);
+                Case::of_frozen(call, number, found.buffer_bytes < length)
+            }
+            _ if cluster.has_frozen() && number == DONE => match call {
+                Call::DeleteSegment { .. } => Some(Case::OtherDeleted),
+                Call::Write { .. } => Some(Case::OtherWritten),
+                Call::NewPassword { .. } => Some(Case::Renewed),
+                _ => None,
+            },
+            _ => None,
+        }
+    }
+
+    /// A call about a segment that is frozen.
+    fn of_frozen(call: &Call, number: u8, short: bool) -> Option<Case> {
+        match (call, number) {
+            (Call::Freeze { .. }, DONE) => Some(Case::Again),
+            (Call::Read { .. }, DONE) => Some(Case::Read),
+            (Call::Look { .. }, DONE) => Some(Case::Shown),
+            (Call::NewSegment { .. }, PRESENT) => Some(Case::Present),
+            (Call::Write { .. }, NOT_REFERENCED) => Some(Case::NotReferencedFirst),
+            (Call::Write { .. }, FROZEN) if short => Some(Case::Short),
+            (Call::Write { .. }, FROZEN) => Some(Case::LongEnough),
+            (Call::DeleteSegment { .. }, NOT_PRIMARY) => Some(Case::NotPrimaryFirst),
+            (Call::DeleteSegment { .. } | Call::Write { .. }, VIOLATED_PROTECTION) => {
+                Some(Case::ViolatedFirst)
+            }
+            _ => None,
+        }
+    }
+
+    fn of_cluster(node: &[Cluster], cluster: &Cluster, number: u8) -> Option<Case> {
+        let [first, .., last] = cluster.segments.map(|segment| segment.frozen);
+        let count = cluster.segments.iter().filter(|segment| segment.frozen);
+        match (number, count.count()) {
+            (DONE, _) if node.iter().any(Cluster::has_frozen) => Some(Case::OtherClusterDeleted),
+            (FROZEN, 1) if first => Some(Case::FirstAlone),
+            (FROZEN, 1) if last => Some(Case::LastAlone),
+            (FROZEN, _) if !first => Some(Case::NotTheFirst),
+            (VIOLATED_PROTECTION, 1..) => Some(Case::ClusterViolatedFirst),
+            (NOT_PRIMARY, 1..) => Some(Case::ClusterNotPrimaryFirst),
+            _ => None,
+        }
+    }
 }

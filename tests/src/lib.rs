@@ -12,7 +12,7 @@
 //! - [`list`]: records of 64 bytes, the chain, and the text that a list comes out as.
 //! - [`vectors`]: the published handles.
 //! - [`nothing`]: the ways to a handle that would reference nothing, for those who count what was met.
-//! - [`frozen`]: whether what is frozen stays, for those who watch a row of calls.
+//! - [`frozen`]: whether what is frozen stays, and what calls come to there, for those who watch them.
 //! - [`random`], [`generate`]: lists made by chance from a seed.
 //! - [`program`], [`streams`]: a program run, with its input and output in every way that they can come.
 

@@ -161,6 +161,18 @@ impl Session {
         }
     }
 
+    /// What the call of a record finds in `store`: the memory, and the buffer or the write's data.
+    fn found<'a>(&self, store: &'a Store, record: &Record) -> Found<'a> {
+        Found {
+            store,
+            memory_bytes: self.memory.len(),
+            buffer_bytes: match record[CODE_AT] {
+                call::WRITE => usize::from(record[DATA_LENGTH_AT]),
+                _ => self.buffer.len(),
+            },
+        }
+    }
+
     /// Runs the call of one record.
     pub fn run(&mut self, record: &Record) -> Reply {
         match request(record) {
@@ -241,9 +253,9 @@ fn push_last(text: &mut Vec<u8>, word: &[u8], number: u32) {
     text.push(b'\n');
 }
 
-/// Runs a list from the starting store and tells `each` of every record that the chain meets.
-/// Gives the whole text that `benchrun` prints for these bytes.
-pub fn run(list: &[u8], mut each: impl FnMut(&Record, &Reply)) -> Vec<u8> {
+/// Runs a list from the starting store and tells `each` of every record that the chain meets: what the
+/// record's call found, the record, and the reply. Gives the whole text that `benchrun` prints for these bytes.
+pub fn run(list: &[u8], mut each: impl FnMut(&Found, &Record, &Reply)) -> Vec<u8> {
     let mut text = Vec::new();
     let checked = records(list).ok_or(LIST_LENGTH);
     match checked.and_then(|records| Ok((chain(&records)?, records))) {
@@ -252,8 +264,9 @@ pub fn run(list: &[u8], mut each: impl FnMut(&Record, &Reply)) -> Vec<u8> {
             let mut session = Session::starting();
             for &number in &order {
                 let record = records[usize::from(number) - 1];
+                let store = session.store.clone();
                 let reply = session.run(record);
-                each(record, &reply);
+                each(&session.found(&store, record), record, &reply);
                 session.push_line(&mut text, number, record[CODE_AT], &reply);
             }
             push_last(&mut text, b"end", order.len() as u32);
@@ -264,5 +277,5 @@ pub fn run(list: &[u8], mut each: impl FnMut(&Record, &Reply)) -> Vec<u8> {
 
 /// The whole text that `benchrun` prints for these bytes.
 pub fn output(list: &[u8]) -> Vec<u8> {
-    run(list, |_, _| {})
+    run(list, |_, _, _| {})
 }

@@ -1,6 +1,6 @@
 //! Lists made by chance: what holds of the model on all of them.
 
-use model::frozen::Watch;
+use model::frozen::{Case, Watch};
 use model::generate;
 use model::list::{chain, output, reachable, records, request, run, Request, Session, CODE_AT};
 use model::nothing::Way;
@@ -25,19 +25,22 @@ fn a_seed_repeats_its_lists() {
 fn lists_reach_what_can_be_reached() {
     let mut pairs = BTreeSet::new();
     let mut ways = BTreeSet::new();
+    let mut cases = BTreeSet::new();
     let mut refused = BTreeSet::new();
     for list in lists(1) {
-        let text = run(&list, |record, reply| match request(record) {
+        let text = run(&list, |found, record, reply| match request(record) {
             Request::BadCode => {}
             Request::Overlong(call) | Request::Call(call) => {
                 pairs.insert((record[CODE_AT], reply.number));
                 ways.extend(Way::of(&call, reply.number));
+                cases.extend(Case::of(found, &call, reply.number));
             }
         });
         refused.extend(text.strip_prefix(b"list ").map(<[u8]>::to_vec));
     }
     assert_eq!(pairs, reachable().collect());
     assert_eq!(ways, Way::in_lists().collect());
+    assert_eq!(cases, Case::in_lists().collect());
     assert_eq!(refused.len(), 3);
 }
 
@@ -75,7 +78,7 @@ fn refused_calls_change_nothing_and_what_is_sound_or_frozen_stays() {
         }
         frozen += watch.met();
     }
-    assert!(frozen > LISTS / 3, "{frozen}");
+    assert!(frozen > LISTS / 6, "{frozen}");
 }
 
 #[test]

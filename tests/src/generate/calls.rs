@@ -14,8 +14,8 @@ use crate::store::Mode;
 /// Few passwords, so that equal ones meet.
 const PASSWORDS: u64 = 5;
 /// Codes as often as they are wanted: what fills the store comes more often than what empties it.
-const CODES: [u8; 26] = [
-    1, 1, 1, 2, 3, 3, 3, 3, 3, 4, 5, 5, 5, 5, 6, 6, 6, 6, 7, 7, 8, 8, 9, 9, 10, 10,
+const CODES: [u8; 28] = [
+    1, 1, 1, 2, 2, 3, 3, 3, 3, 3, 4, 4, 5, 5, 5, 5, 6, 6, 6, 6, 7, 7, 8, 8, 9, 9, 10, 10,
 ];
 
 pub struct Maker {
