@@ -108,6 +108,11 @@ impl Lent<'_> {
                 handle,
                 password,
             } => self.new_password(wide(mode), &handle, &password),
+            Call::Freeze {
+                node,
+                segment,
+                handle,
+            } => self.freeze(wide(node), wide(segment), &handle),
             Call::Look {
                 node,
                 segment,
@@ -231,6 +236,15 @@ impl Lent<'_> {
             first,
             ..bare(number)
         }
+    }
+
+    fn freeze(self, current: usize, segment: usize, handle: &Handle) -> Reply {
+        let (memory, length) = (self.memory.as_mut_ptr(), self.memory.len());
+        let handle = handle.to_bytes();
+        // SAFETY: see the head of this file.
+        bare(unsafe {
+            ffi::gelmuszta_freeze(self.image, memory, length, current, segment, &handle)
+        })
     }
 
     fn look(self, current: usize, segment: usize, handle: &Handle) -> Reply {

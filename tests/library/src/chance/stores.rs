@@ -9,6 +9,9 @@ use model::sizes::{CLUSTERS, MEMORY_BYTES, NODE_BYTES, SEGMENTS};
 use model::store::{Cluster, Extent, Segment, Store};
 use std::collections::BTreeSet;
 
+/// How many of so many segments are frozen is chosen for a store.
+const FROZEN_OF: u64 = 8;
+
 #[derive(Clone, Copy, Debug, PartialEq, Eq, PartialOrd, Ord)]
 pub enum Fill {
     /// The starting store's records.
@@ -55,7 +58,22 @@ pub fn store(random: &mut Random, fill: Fill) -> Store {
             Fill::AtWords => at_words(random, clusters),
         }
     }
+    freeze_some(random, &mut store);
     store
+}
+
+/// Marks no present segment, all of them, or some.
+fn freeze_some(random: &mut Random, store: &mut Store) {
+    let share = match random.below(8) {
+        0 | 1 => 0,
+        2 => FROZEN_OF,
+        _ => 1 + random.below(FROZEN_OF / 2),
+    };
+    let clusters = store.clusters.as_flattened_mut().iter_mut();
+    let segments = clusters.flat_map(|cluster| &mut cluster.segments);
+    for segment in segments.filter(|segment| segment.is_present()) {
+        segment.frozen = random.below(FROZEN_OF) < share;
+    }
 }
 
 /// The store with a memory that has any bytes.

@@ -5,7 +5,8 @@ use library::batch::{self, BatchGuard};
 use library::compare::{is_sound, Guard};
 use library::edges::{self, Judge};
 use library::image::{
-    decode, encode, Image, IMAGE_BYTES, RECORD_BYTES, SEGMENTS_AT, SEGMENT_BYTES,
+    decode, encode, Image, IMAGE_BYTES, LENGTH_AT, MARK_AT, RECORD_BYTES, SEGMENTS_AT,
+    SEGMENT_BYTES,
 };
 use library::question::Held;
 use library::tally::Tally;
@@ -65,6 +66,10 @@ fn places(image: &mut Image) -> impl Iterator<Item = &mut [u8]> {
     records.flat_map(|record| record[SEGMENTS_AT..].chunks_exact_mut(SEGMENT_BYTES))
 }
 
+fn absent(image: &mut Image) -> impl Iterator<Item = &mut [u8]> {
+    places(image).filter(|place| place[LENGTH_AT..MARK_AT] == [0, 0])
+}
+
 overlooked!(the_last_record, |image| image[LAST_RECORD..].fill(0));
 
 overlooked!(an_active_byte_of_2, |image| {
@@ -90,12 +95,42 @@ overlooked!(the_segments_of_an_inactive_cluster, |image| {
 });
 
 overlooked!(the_base_of_an_absent_segment, |image| {
-    let absent = places(image).filter(|place| place[2..] == [0, 0]);
-    absent.for_each(|place| place.fill(0));
+    absent(image).for_each(|place| place[..LENGTH_AT].fill(0));
+});
+
+overlooked!(a_mark_on_an_absent_segment, |image| {
+    absent(image)
+        .filter(|place| place[MARK_AT] == 1)
+        .for_each(|place| place[MARK_AT] = 0);
+});
+
+overlooked!(a_mark_in_an_inactive_cluster, |image| {
+    for record in inactive_records(image) {
+        let places = record[SEGMENTS_AT..].chunks_exact_mut(SEGMENT_BYTES);
+        places.for_each(|place| place[MARK_AT] = 0);
+    }
+});
+
+overlooked!(a_mark_of_2, |image| {
+    places(image).for_each(|place| place[MARK_AT] -= u8::from(place[MARK_AT] == 2));
+});
+
+overlooked!(any_mark_taken_for_frozen, |image| {
+    places(image).for_each(|place| place[MARK_AT] = place[MARK_AT].min(1));
+});
+
+overlooked!(any_mark_taken_for_none, |image| {
+    for place in places(image).filter(|place| place[MARK_AT] > 1) {
+        place[MARK_AT] = 0;
+    }
+});
+
+overlooked!(the_marks_of_absent_segments, |image| {
+    absent(image).for_each(|place| place[MARK_AT] = 0);
 });
 
 overlooked!(one_byte_behind_the_node, |image| {
-    for place in places(image).filter(|place| **place == [0x0f, 0xff, 0, 2]) {
+    for place in places(image).filter(|place| place[..MARK_AT] == [0x0f, 0xff, 0, 2]) {
         place[3] = 1;
     }
 });
@@ -171,14 +206,14 @@ fn a_byte_of_an_image() {
         guard::is_sound(&mut seen, MEMORY_BYTES)
     };
     let told = edges::every_byte(judge, SEED).expect_err("the last byte is overlooked");
-    assert!(told.contains("byte 2079 made"), "{told}");
+    assert!(told.contains("byte 2335 made"), "{told}");
 }
 
 #[test]
 fn touching_taken_for_sharing() {
     let judge: Judge = |image, size| {
         let mut longer = *image;
-        for place in places(&mut longer).filter(|place| place[2..] == [0, 63]) {
+        for place in places(&mut longer).filter(|place| place[LENGTH_AT..MARK_AT] == [0, 63]) {
             place[3] = 64;
         }
         guard::is_sound(image, size) && guard::is_sound(&mut longer, size)

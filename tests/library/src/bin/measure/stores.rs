@@ -8,7 +8,7 @@ use model::store::{Cluster, Segment, Store};
 /// The cluster that calls are about, and one that a call can make.
 pub const PLACE: (usize, usize) = (2, 3);
 pub const FREE_PLACE: (usize, usize) = (2, 6);
-/// The segment that is read, looked at, written and deleted.
+/// The segment that is read, looked at, written, frozen and deleted.
 pub const SEGMENT: usize = 1;
 
 pub const TYPICAL_CLUSTERS: usize = 5;
