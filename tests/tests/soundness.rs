@@ -111,50 +111,24 @@ fn marks_on_absent_segments() {
 
 /// Every call, a look and validation, all of them about places where nothing is damaged.
 fn calls() -> Vec<Call> {
-    let read = Handle::primary(1, 3, READ);
+    let reader = Handle::primary(1, 3, READ);
     let handle = Handle::primary(1, 3, WRITE);
-    vec![
-        Call::NewCluster {
-            node: 0,
-            local: 0,
-            read: READ,
-            write: WRITE,
-        },
-        Call::DeleteCluster { node: 1, handle },
-        Call::NewSegment {
-            node: 1,
-            segment: 1,
-            size: 5,
-            handle,
-        },
-        Call::DeleteSegment {
-            node: 1,
-            segment: 0,
-            handle,
-        },
-        Call::Read {
-            segment: 0,
-            handle: read,
-        },
-        Call::Write { segment: 0, handle },
-        Call::Reduce { mode: 2, handle },
-        Call::NewPassword {
-            mode: 2,
-            handle,
-            password: [9; 16],
-        },
-        Call::Freeze {
-            node: 1,
-            segment: 0,
-            handle,
-        },
-        Call::Look {
-            node: 1,
-            segment: 0,
-            handle: read,
-        },
-        Call::Validate { mode: 2, handle },
-    ]
+    let (node, segment, mode) = (1, 0, 2);
+    #[rustfmt::skip]
+    let calls = vec![
+        Call::NewCluster { node: 0, local: 0, read: READ, write: WRITE },
+        Call::DeleteCluster { node, handle },
+        Call::NewSegment { node, segment: 1, size: 5, handle },
+        Call::DeleteSegment { node, segment, handle },
+        Call::Read { segment, handle: reader },
+        Call::Write { segment, handle },
+        Call::Reduce { mode, handle },
+        Call::NewPassword { mode, handle, password: [9; 16] },
+        Call::Freeze { node, segment, handle },
+        Call::Look { node, segment, handle: reader },
+        Call::Validate { mode, handle },
+    ];
+    calls
 }
 
 /// A segment in an inactive cluster that goes beyond its node, and marks where no segment is.

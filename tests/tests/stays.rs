@@ -148,53 +148,44 @@ fn lines(mut records: Vec<Record>) -> Vec<String> {
     text.lines().map(str::to_string).collect()
 }
 
+/// A cluster and a segment made, the segment frozen twice, what is refused for it, and freezes that are refused.
+fn freezes(unused: u8) -> Vec<Record> {
+    let mut new_cluster = record(1, 0, 2, &reader(), 0);
+    new_cluster[32..48].fill(0x11);
+    new_cluster[48..].fill(0x22);
+    let mut new_segment = record(3, 0, 5, &writer(), 0);
+    new_segment[7] = 4;
+    let mut write = record(6, 0, 5, &writer(), unused);
+    write[5] = 3;
+    let by = |node, segment, handle| record(10, node, segment, &handle, unused);
+    vec![
+        new_cluster,
+        new_segment,
+        by(0, 5, writer()),
+        by(0, 5, writer()),
+        write,
+        record(4, 0, 5, &writer(), unused),
+        record(2, 0, 5, &writer(), unused),
+        by(4, 5, writer()),
+        by(0, 8, writer()),
+        by(1, 5, writer()),
+        by(0, 5, Handle::primary(0, 3, [0; 16])),
+        by(0, 5, reader()),
+        by(0, 5, writer().weaken(0x20).unwrap()),
+        by(0, 6, writer()),
+        record(5, 0, 5, &reader(), unused),
+        record(11, 0, 5, &writer(), unused),
+    ]
+}
+
 #[test]
 fn code_10_and_a_line_that_stops_at_the_number() {
+    #[rustfmt::skip]
+    let expected = [
+        "2 3 0", "3 10 0", "4 10 0", "5 6 22", "6 4 22", "7 2 22", "8 10 2", "9 10 3", "10 10 5",
+        "11 10 8", "12 10 9", "13 10 10", "14 10 14", "15 5 0 00000000", "16 11 3", "end 16",
+    ];
     for unused in [0, 1, 0xff] {
-        let mut new_cluster = record(1, 0, 2, &reader(), 0);
-        new_cluster[32..48].fill(0x11);
-        new_cluster[48..].fill(0x22);
-        let mut new_segment = record(3, 0, 5, &writer(), 0);
-        new_segment[7] = 4;
-        let mut write = record(6, 0, 5, &writer(), unused);
-        write[5] = 3;
-        let by = |node, segment, handle| record(10, node, segment, &handle, unused);
-        let told = lines(vec![
-            new_cluster,
-            new_segment,
-            by(0, 5, writer()),
-            by(0, 5, writer()),
-            write,
-            record(4, 0, 5, &writer(), unused),
-            record(2, 0, 5, &writer(), unused),
-            by(4, 5, writer()),
-            by(0, 8, writer()),
-            by(1, 5, writer()),
-            by(0, 5, Handle::primary(0, 3, [0; 16])),
-            by(0, 5, reader()),
-            by(0, 5, writer().weaken(0x20).unwrap()),
-            by(0, 6, writer()),
-            record(5, 0, 5, &reader(), unused),
-            record(11, 0, 5, &writer(), unused),
-        ]);
-        let expected = [
-            "2 3 0",
-            "3 10 0",
-            "4 10 0",
-            "5 6 22",
-            "6 4 22",
-            "7 2 22",
-            "8 10 2",
-            "9 10 3",
-            "10 10 5",
-            "11 10 8",
-            "12 10 9",
-            "13 10 10",
-            "14 10 14",
-            "15 5 0 00000000",
-            "16 11 3",
-            "end 16",
-        ];
-        assert_eq!(told[1..], expected);
+        assert_eq!(lines(freezes(unused))[1..], expected);
     }
 }
