@@ -7,7 +7,7 @@ mod faults;
 use faults::Kind;
 use library::chance::bytes;
 use library::chance::damage::{inflict, Damage, LAST_PLACE};
-use library::chance::stores::{held, store, Fill};
+use library::chance::stores::{held, segments, store, Fill};
 use library::edges;
 use library::guard;
 use library::image::encode;
@@ -15,8 +15,8 @@ use library::question::{Held, Question};
 use model::call::{Call, Part, Reply};
 use model::handle::Handle;
 use model::random::Random;
-use model::sizes::{CLUSTERS, NODES, NODE_BYTES, SEGMENTS};
-use model::store::{Place, Store};
+use model::sizes::{NODES, NODE_BYTES};
+use model::store::Place;
 
 fn look(held: &Held, node: usize, segment: usize, handle: Handle) -> Reply {
     let call = Call::Look {
@@ -57,15 +57,6 @@ fn read(held: &Held, segment: usize, handle: Handle) -> Result<Vec<u8>, u8> {
         0 => Ok(answer.buffer),
         number => Err(number),
     }
-}
-
-/// Every segment of every active cluster, as node, local number and segment.
-fn segments(store: &Store) -> Vec<(usize, usize, usize)> {
-    let clusters = (0..NODES).flat_map(|node| (0..CLUSTERS).map(move |local| (node, local)));
-    let active = clusters.filter(|&(node, local)| store.clusters[node][local].active);
-    active
-        .flat_map(|(node, local)| (0..SEGMENTS).map(move |segment| (node, local, segment)))
-        .collect()
 }
 
 /// Looks at a segment by a handle that opens it; a read has to give the same. Tells whether it is shown.

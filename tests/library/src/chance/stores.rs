@@ -5,7 +5,7 @@ use super::{below, bytes, password};
 use crate::image::encode;
 use crate::question::Held;
 use model::random::Random;
-use model::sizes::{CLUSTERS, MEMORY_BYTES, NODE_BYTES, SEGMENTS};
+use model::sizes::{CLUSTERS, MEMORY_BYTES, NODES, NODE_BYTES, SEGMENTS};
 use model::store::{Cluster, Extent, Segment, Store};
 use std::collections::BTreeSet;
 
@@ -195,6 +195,15 @@ fn put(clusters: &mut [Cluster; CLUSTERS], places: &[(usize, usize)], parts: &[E
 
 pub fn present(base: usize, length: usize) -> Segment {
     Segment::present(base as u16, length as u16)
+}
+
+/// Every segment of every active cluster, as node, local number and segment.
+pub fn segments(store: &Store) -> Vec<(usize, usize, usize)> {
+    let clusters = (0..NODES).flat_map(|node| (0..CLUSTERS).map(move |local| (node, local)));
+    let active = clusters.filter(|&(node, local)| store.clusters[node][local].active);
+    active
+        .flat_map(|(node, local)| (0..SEGMENTS).map(move |segment| (node, local, segment)))
+        .collect()
 }
 
 /// The present segments of a node in the order of their bases.
