@@ -76,7 +76,7 @@ pub fn seen(watch: &mut Watch, held: &Held) -> Result<Store, String> {
     Ok(store)
 }
 
-/// A question; mostly by the write primary handle of a cluster that has a frozen segment.
+/// A question; every second one by the write primary handle of a cluster that has a frozen segment, if there is one.
 fn question(random: &mut Random, store: &Store) -> Question {
     let maker = &mut Maker {
         random,
