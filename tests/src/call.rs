@@ -17,9 +17,10 @@ pub const WRITE: u8 = 6;
 pub const WEAKEN: u8 = 7;
 pub const REDUCE: u8 = 8;
 pub const NEW_PASSWORD: u8 = 9;
+pub const FREEZE: u8 = 10;
 
 /// The codes with the calls' names, in order.
-pub const CALLS: [(u8, &str); 9] = [
+pub const CALLS: [(u8, &str); 10] = [
     (NEW_CLUSTER, "new cluster"),
     (DELETE_CLUSTER, "delete cluster"),
     (NEW_SEGMENT, "new segment"),
@@ -29,6 +30,7 @@ pub const CALLS: [(u8, &str); 9] = [
     (WEAKEN, "weaken"),
     (REDUCE, "reduce"),
     (NEW_PASSWORD, "new password"),
+    (FREEZE, "freeze"),
 ];
 
 /// One call, a look, or validation asked for by itself. Numbers are as the caller gave them, right
@@ -78,6 +80,11 @@ pub enum Call {
         handle: Handle,
         password: Password,
     },
+    Freeze {
+        node: u32,
+        segment: u32,
+        handle: Handle,
+    },
     Look {
         node: u32,
         segment: u32,
@@ -101,6 +108,7 @@ impl Call {
             | Call::Weaken { handle, .. }
             | Call::Reduce { handle, .. }
             | Call::NewPassword { handle, .. }
+            | Call::Freeze { handle, .. }
             | Call::Look { handle, .. }
             | Call::Validate { handle, .. } => Some(handle),
         }
@@ -112,6 +120,7 @@ impl Call {
             | Call::DeleteCluster { node, .. }
             | Call::NewSegment { node, .. }
             | Call::DeleteSegment { node, .. }
+            | Call::Freeze { node, .. }
             | Call::Look { node, .. } => Some(node),
             _ => None,
         }
@@ -123,6 +132,7 @@ impl Call {
             | Call::DeleteSegment { segment, .. }
             | Call::Read { segment, .. }
             | Call::Write { segment, .. }
+            | Call::Freeze { segment, .. }
             | Call::Look { segment, .. } => Some(segment),
             _ => None,
         }
@@ -145,7 +155,8 @@ impl Call {
             Call::DeleteCluster { .. }
             | Call::NewSegment { .. }
             | Call::DeleteSegment { .. }
-            | Call::Write { .. } => Some(Mode::Write),
+            | Call::Write { .. }
+            | Call::Freeze { .. } => Some(Mode::Write),
             Call::Read { .. } | Call::Look { .. } => Some(Mode::Read),
             Call::Reduce { mode, .. }
             | Call::NewPassword { mode, .. }
@@ -160,6 +171,7 @@ impl Call {
                 | Call::NewSegment { .. }
                 | Call::DeleteSegment { .. }
                 | Call::NewPassword { .. }
+                | Call::Freeze { .. }
         )
     }
 

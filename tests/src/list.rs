@@ -31,25 +31,26 @@ pub type Record = [u8; RECORD_BYTES];
 
 /// For each number, the calls that a list can bring to it. A list starts from a sound store and has
 /// a buffer that any segment fits in, so 1 is not among them, nor 15 for a read.
-const REACHABLE: [(u8, &[u8]); 18] = [
-    (0, &[1, 2, 3, 4, 5, 6, 7, 8, 9]),
-    (2, &[1, 2, 3, 4, 5, 6, 7, 8, 9]),
-    (3, &[3, 4, 5, 6, 8, 9]),
-    (4, &[2, 3, 4, 5, 6, 7, 8, 9]),
-    (5, &[2, 3, 4]),
+const REACHABLE: [(u8, &[u8]); 19] = [
+    (0, &[1, 2, 3, 4, 5, 6, 7, 8, 9, 10]),
+    (2, &[1, 2, 3, 4, 5, 6, 7, 8, 9, 10]),
+    (3, &[3, 4, 5, 6, 8, 9, 10]),
+    (4, &[2, 3, 4, 5, 6, 7, 8, 9, 10]),
+    (5, &[2, 3, 4, 10]),
     (6, &[1]),
     (7, &[1]),
-    (8, &[2, 3, 4, 5, 6, 8, 9]),
-    (9, &[2, 3, 4, 5, 6, 8, 9]),
-    (10, &[2, 3, 4, 9]),
+    (8, &[2, 3, 4, 5, 6, 8, 9, 10]),
+    (9, &[2, 3, 4, 5, 6, 8, 9, 10]),
+    (10, &[2, 3, 4, 9, 10]),
     (11, &[5, 6]),
     (12, &[9]),
     (13, &[3]),
-    (14, &[4, 5, 6]),
+    (14, &[4, 5, 6, 10]),
     (15, &[6]),
     (16, &[3]),
     (17, &[7]),
     (21, &[7]),
+    (22, &[2, 4, 6]),
 ];
 
 /// The pairs that a list can reach: the code of a call and a number.
@@ -98,6 +99,7 @@ fn call_of(record: &Record) -> Option<Call> {
         call::WEAKEN => Call::Weaken { mask: record[SEGMENT_AT], handle },
         call::REDUCE => Call::Reduce { mode, handle },
         call::NEW_PASSWORD => Call::NewPassword { mode, handle, password: first },
+        call::FREEZE => Call::Freeze { node, segment, handle },
         _ => return None,
     };
     Some(call)
@@ -156,6 +158,18 @@ impl Session {
             store: Store::starting(),
             memory: vec![0; MEMORY_BYTES],
             buffer: vec![0; NODE_BYTES],
+        }
+    }
+
+    /// What the call of a record finds in `store`: the memory, and the buffer or the write's data.
+    fn found<'a>(&self, store: &'a Store, record: &Record) -> Found<'a> {
+        Found {
+            store,
+            memory_bytes: self.memory.len(),
+            buffer_bytes: match record[CODE_AT] {
+                call::WRITE => usize::from(record[DATA_LENGTH_AT]),
+                _ => self.buffer.len(),
+            },
         }
     }
 
@@ -239,9 +253,9 @@ fn push_last(text: &mut Vec<u8>, word: &[u8], number: u32) {
     text.push(b'\n');
 }
 
-/// Runs a list from the starting store and tells `each` of every record that the chain meets.
-/// Gives the whole text that `benchrun` prints for these bytes.
-pub fn run(list: &[u8], mut each: impl FnMut(&Record, &Reply)) -> Vec<u8> {
+/// Runs a list from the starting store and tells `each` of every record that the chain meets: what the
+/// record's call found, the record, and the reply. Gives the whole text that `benchrun` prints for these bytes.
+pub fn run(list: &[u8], mut each: impl FnMut(&Found, &Record, &Reply)) -> Vec<u8> {
     let mut text = Vec::new();
     let checked = records(list).ok_or(LIST_LENGTH);
     match checked.and_then(|records| Ok((chain(&records)?, records))) {
@@ -250,8 +264,9 @@ pub fn run(list: &[u8], mut each: impl FnMut(&Record, &Reply)) -> Vec<u8> {
             let mut session = Session::starting();
             for &number in &order {
                 let record = records[usize::from(number) - 1];
+                let store = session.store.clone();
                 let reply = session.run(record);
-                each(record, &reply);
+                each(&session.found(&store, record), record, &reply);
                 session.push_line(&mut text, number, record[CODE_AT], &reply);
             }
             push_last(&mut text, b"end", order.len() as u32);
@@ -262,5 +277,5 @@ pub fn run(list: &[u8], mut each: impl FnMut(&Record, &Reply)) -> Vec<u8> {
 
 /// The whole text that `benchrun` prints for these bytes.
 pub fn output(list: &[u8]) -> Vec<u8> {
-    run(list, |_, _| {})
+    run(list, |_, _, _| {})
 }

@@ -1,4 +1,4 @@
-//! The nine calls, looks and validation, carried out on a store, a memory and a buffer that are lent.
+//! The ten calls, looks and validation, carried out on a store, a memory and a buffer that are lent.
 
 use crate::call::{Call, Reply};
 use crate::handle::{Handle, Password};
@@ -29,22 +29,16 @@ fn carry_out(store: &mut Store, memory: &mut [u8], buffer: &mut [u8], call: &Cal
             read,
             write,
         } => new_cluster(store, node as usize, local as usize, read, write),
-        Call::DeleteCluster { handle, .. } => {
-            *cluster_mut(store, &handle) = Cluster::INACTIVE;
-            Reply::DONE
-        }
+        Call::DeleteCluster { handle, .. } => delete_cluster(store, &handle),
         Call::NewSegment {
             segment,
             size,
             handle,
             ..
-        } => new_segment(store, memory, segment as usize, size as usize, &handle),
+        } => new_segment(store, memory, segment, size as usize, &handle),
         Call::DeleteSegment {
             segment, handle, ..
-        } => {
-            cluster_mut(store, &handle).segments[segment as usize] = Segment::Absent;
-            Reply::DONE
-        }
+        } => delete_segment(store, &handle, segment),
         Call::Read { segment, handle } => read(&memory[part(store, &handle, segment)], buffer),
         Call::Write { segment, handle } => {
             write(&mut memory[part(store, &handle, segment)], buffer)
@@ -54,6 +48,9 @@ fn carry_out(store: &mut Store, memory: &mut [u8], buffer: &mut [u8], call: &Cal
         Call::NewPassword {
             handle, password, ..
         } => new_password(store, call, handle, password),
+        Call::Freeze {
+            segment, handle, ..
+        } => freeze(store, &handle, segment),
         Call::Look {
             segment, handle, ..
         } => look(part(store, &handle, segment)),
@@ -63,6 +60,10 @@ fn carry_out(store: &mut Store, memory: &mut [u8], buffer: &mut [u8], call: &Cal
 
 fn cluster_mut<'a>(store: &'a mut Store, handle: &Handle) -> &'a mut Cluster {
     &mut store.clusters[usize::from(handle.node)][usize::from(handle.local)]
+}
+
+fn segment_mut<'a>(store: &'a mut Store, handle: &Handle, segment: u32) -> &'a mut Segment {
+    &mut cluster_mut(store, handle).segments[segment as usize]
 }
 
 /// The mode that a call which was not refused named.
@@ -101,10 +102,15 @@ fn new_cluster(
     }
 }
 
+fn delete_cluster(store: &mut Store, handle: &Handle) -> Reply {
+    *cluster_mut(store, handle) = Cluster::INACTIVE;
+    Reply::DONE
+}
+
 fn new_segment(
     store: &mut Store,
     memory: &mut [u8],
-    segment: usize,
+    segment: u32,
     size: usize,
     handle: &Handle,
 ) -> Reply {
@@ -112,12 +118,20 @@ fn new_segment(
     let base = store
         .place(node, size)
         .expect("row 16 refuses what has no base");
-    let placed = Segment::Present {
-        base: base as u16,
-        length: size as u16,
-    };
-    cluster_mut(store, handle).segments[segment] = placed;
-    memory[part(store, handle, segment as u32)].fill(0);
+    let placed = Segment::present(base as u16, size as u16);
+    *segment_mut(store, handle, segment) = placed;
+    memory[part(store, handle, segment)].fill(0);
+    Reply::DONE
+}
+
+fn delete_segment(store: &mut Store, handle: &Handle, segment: u32) -> Reply {
+    *segment_mut(store, handle, segment) = Segment::ABSENT;
+    Reply::DONE
+}
+
+/// Where the mark is set already, nothing changes.
+fn freeze(store: &mut Store, handle: &Handle, segment: u32) -> Reply {
+    segment_mut(store, handle, segment).frozen = true;
     Reply::DONE
 }
 

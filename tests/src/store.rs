@@ -1,6 +1,7 @@
 //! The records of all clusters, when they are sound, and where a new segment goes.
 //!
-//! The types hold damaged stores too: any base, any length, an inactive cluster with secrets.
+//! The types hold damaged stores too: any base, any length, a mark on an absent segment, an inactive
+//! cluster with secrets.
 
 use crate::handle::Password;
 use crate::sizes::{
@@ -8,18 +9,56 @@ use crate::sizes::{
 };
 use std::ops::Range;
 
+/// Where a segment is in its node's memory, if it is there.
 #[derive(Clone, Copy, Debug, PartialEq, Eq)]
-pub enum Segment {
+pub enum Place {
     Absent,
     Present { base: u16, length: u16 },
 }
 
+/// A segment's place and, beside it, its mark.
+#[derive(Clone, Copy, Debug, PartialEq, Eq)]
+pub struct Segment {
+    pub place: Place,
+    pub frozen: bool,
+}
+
 impl Segment {
+    pub const ABSENT: Segment = Segment {
+        place: Place::Absent,
+        frozen: false,
+    };
+
+    /// Present and not frozen, as new ones are.
+    pub const fn present(base: u16, length: u16) -> Segment {
+        Segment {
+            place: Place::Present { base, length },
+            frozen: false,
+        }
+    }
+
+    /// The same with its mark set.
+    pub const fn marked(self) -> Segment {
+        Segment {
+            frozen: true,
+            ..self
+        }
+    }
+
+    pub fn is_present(&self) -> bool {
+        self.place != Place::Absent
+    }
+
+    /// An absent segment is never frozen.
+    fn is_sound(&self) -> bool {
+        self.is_present() || !self.frozen
+    }
+
     /// The bytes of its node's memory that a present segment has.
     pub fn extent(&self) -> Option<Extent> {
-        match *self {
-            Segment::Absent => None,
-            Segment::Present { base, length } => Some(Extent {
+        match self.place {
+            Place::Absent => None,
+            Place::Present { base, length } => Some(Extent {
                 base: usize::from(base),
                 length: usize::from(length),
             }),
@@ -80,19 +119,22 @@ impl Cluster {
         active: false,
         read: [0; PASSWORD_BYTES],
         write: [0; PASSWORD_BYTES],
-        segments: [Segment::Absent; SEGMENTS],
+        segments: [Segment::ABSENT; SEGMENTS],
     };
 
     pub fn has_segments(&self) -> bool {
-        self.segments
-            .iter()
-            .any(|segment| *segment != Segment::Absent)
+        self.segments.iter().any(Segment::is_present)
+    }
+
+    pub fn has_frozen(&self) -> bool {
+        self.segments.iter().any(|segment| segment.frozen)
     }
 
     /// An inactive cluster keeps no passwords and no segments.
     fn is_sound(&self) -> bool {
         let zero = [0; PASSWORD_BYTES];
-        self.active || (self.read == zero && self.write == zero && !self.has_segments())
+        let keeps_nothing = self.read == zero && self.write == zero && !self.has_segments();
+        (self.active || keeps_nothing) && self.segments.iter().all(Segment::is_sound)
     }
 
     pub fn primary(&self, mode: Mode) -> &Password {
@@ -123,7 +165,7 @@ impl Extents {
         let mut count = 0;
         let active = clusters.iter().filter(|cluster| cluster.active);
         for segment in active.flat_map(|cluster| &cluster.segments) {
-            if let Segment::Present { base, length } = *segment {
+            if let Place::Present { base, length } = segment.place {
                 list[count] = u32::from(base) << 16 | u32::from(length);
                 count += 1;
             }

@@ -27,8 +27,9 @@ pub const LIST_LENGTH: u8 = 18;
 pub const LINK: u8 = 19;
 pub const LOOP: u8 = 20;
 pub const EMPTY: u8 = 21;
+pub const FROZEN: u8 = 22;
 
-const WORDS: [&str; 22] = [
+const WORDS: [&str; 23] = [
     "done",
     "unsound",
     "no such place",
@@ -51,6 +52,7 @@ const WORDS: [&str; 22] = [
     "link",
     "loop",
     "empty",
+    "frozen",
 ];
 
 /// The word that stands beside `number` in the table.
@@ -89,8 +91,9 @@ impl Found<'_> {
 type Test = fn(&Call, &Found) -> bool;
 
 /// The rows that concern calls, in the table's order; a number added later stands at the place named
-/// for it. A row's test may count on the rows above it not applying.
-const ROWS: [(u8, Test); 18] = [
+/// for it, and 22 at two: one for call 2, one for calls 4 and 6. A row's test may count on the rows
+/// above it not applying.
+const ROWS: [(u8, Test); 20] = [
     (UNSOUND, unsound),
     (NO_SUCH_PLACE, no_such_place),
     (FIELD, field),
@@ -101,17 +104,19 @@ const ROWS: [(u8, Test); 18] = [
     (INACTIVE, inactive),
     (VIOLATED_PROTECTION, violated_protection),
     (NOT_PRIMARY, not_primary),
+    (FROZEN, frozen_in_the_cluster),
     (NOT_REFERENCED, not_referenced),
     (OLD_PASSWORD, old_password),
     (PRESENT, present),
     (ABSENT, absent),
+    (FROZEN, frozen),
     (SHORT, short),
     (NO_ROOM, no_room),
     (EMPTY, empty),
     (SPENT, spent),
 ];
 
-/// The numbers of the rows that concern calls, in the table's order.
+/// The numbers of the rows that concern calls, in the table's order; 22 comes twice.
 pub fn numbers_of_calls() -> impl Iterator<Item = u8> {
     ROWS.iter().map(|(number, _)| *number)
 }
@@ -128,10 +133,11 @@ pub fn refusal_above(row: u8, call: &Call, found: &Found) -> Option<u8> {
 }
 
 /// The first number that applies of those standing below `row`, where neither `row` nor any above
-/// it applies.
+/// it applies. Below 22 is below its second place: what stands between the two is nothing of call 2's,
+/// which alone comes to the first.
 pub fn refusal_below(row: u8, call: &Call, found: &Found) -> Option<u8> {
-    let above = ROWS.iter().take_while(|(number, _)| *number != row).count();
-    first_of(&ROWS[above + 1..], call, found)
+    let last = ROWS.iter().rposition(|(number, _)| *number == row)?;
+    first_of(&ROWS[last + 1..], call, found)
 }
 
 fn first_of(rows: &[(u8, Test)], call: &Call, found: &Found) -> Option<u8> {
@@ -210,6 +216,11 @@ fn not_primary(call: &Call, _: &Found) -> bool {
             .is_some_and(|handle| !handle.selector.is_primary())
 }
 
+fn frozen_in_the_cluster(call: &Call, found: &Found) -> bool {
+    matches!(call, Call::DeleteCluster { .. })
+        && found.named_cluster(call).is_some_and(Cluster::has_frozen)
+}
+
 fn not_referenced(call: &Call, _: &Found) -> bool {
     match (call.reaches_bytes(), call.handle(), call.segment()) {
         (true, Some(handle), Some(segment)) => !handle.selector.references(segment as usize),
@@ -231,8 +242,19 @@ fn present(call: &Call, found: &Found) -> bool {
 }
 
 fn absent(call: &Call, found: &Found) -> bool {
-    let concerned = matches!(call, Call::DeleteSegment { .. }) || call.reaches_bytes();
-    concerned && found.named_segment(call) == Some(&Segment::Absent)
+    let concerned =
+        matches!(call, Call::DeleteSegment { .. } | Call::Freeze { .. }) || call.reaches_bytes();
+    concerned
+        && found
+            .named_segment(call)
+            .is_some_and(|segment| !segment.is_present())
+}
+
+fn frozen(call: &Call, found: &Found) -> bool {
+    matches!(call, Call::DeleteSegment { .. } | Call::Write { .. })
+        && found
+            .named_segment(call)
+            .is_some_and(|segment| segment.frozen)
 }
 
 fn short(call: &Call, found: &Found) -> bool {

@@ -49,7 +49,7 @@ fn new_segment_hands_out_zeros() {
     assert_eq!(&bench.memory[..5], b"abcd\x77");
     assert_eq!(bench.reply(new_segment(1, 4)), Reply::DONE);
     assert_eq!(&bench.memory[..5], b"\0\0\0\0\x77");
-    let placed = Segment::Present { base: 0, length: 4 };
+    let placed = Segment::present(0, 4);
     assert_eq!(bench.store.clusters[0][2].segments[1], placed);
 }
 
@@ -65,7 +65,7 @@ fn placement_looks_at_every_cluster_of_the_node() {
         handle,
     };
     assert_eq!(bench.number(call), 0);
-    let placed = Segment::Present { base: 4, length: 9 };
+    let placed = Segment::present(4, 9);
     assert_eq!(bench.store.clusters[0][6].segments[0], placed);
 }
 
@@ -73,7 +73,7 @@ fn placement_looks_at_every_cluster_of_the_node() {
 fn delete_segment_leaves_its_bytes() {
     let mut bench = Bench::with_segment();
     assert_eq!(bench.reply(delete_segment(5)), Reply::DONE);
-    assert_eq!(bench.store.clusters[0][2].segments[5], Segment::Absent);
+    assert_eq!(bench.store.clusters[0][2].segments[5], Segment::ABSENT);
     assert_eq!(&bench.memory[..4], b"abcd");
 }
 

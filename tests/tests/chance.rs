@@ -1,5 +1,6 @@
 //! Lists made by chance: what holds of the model on all of them.
 
+use model::frozen::{Case, Watch};
 use model::generate;
 use model::list::{chain, output, reachable, records, request, run, Request, Session, CODE_AT};
 use model::nothing::Way;
@@ -24,30 +25,35 @@ fn a_seed_repeats_its_lists() {
 fn lists_reach_what_can_be_reached() {
     let mut pairs = BTreeSet::new();
     let mut ways = BTreeSet::new();
+    let mut cases = BTreeSet::new();
     let mut refused = BTreeSet::new();
     for list in lists(1) {
-        let text = run(&list, |record, reply| match request(record) {
+        let text = run(&list, |found, record, reply| match request(record) {
             Request::BadCode => {}
             Request::Overlong(call) | Request::Call(call) => {
                 pairs.insert((record[CODE_AT], reply.number));
                 ways.extend(Way::of(&call, reply.number));
+                cases.extend(Case::of(found, &call, reply.number));
             }
         });
         refused.extend(text.strip_prefix(b"list ").map(<[u8]>::to_vec));
     }
     assert_eq!(pairs, reachable().collect());
     assert_eq!(ways, Way::in_lists().collect());
+    assert_eq!(cases, Case::in_lists().collect());
     assert_eq!(refused.len(), 3);
 }
 
 #[test]
-fn refused_calls_change_nothing_and_soundness_is_kept() {
+fn refused_calls_change_nothing_and_what_is_sound_or_frozen_stays() {
+    let mut frozen = 0;
     for list in lists(2) {
         let Some(Ok((order, records))) = records(&list).map(|all| Ok::<_, u8>((chain(&all)?, all)))
         else {
             continue;
         };
         let mut session = Session::starting();
+        let mut watch = Watch::default();
         for number in order {
             let before = (
                 session.store.clone(),
@@ -68,8 +74,11 @@ fn refused_calls_change_nothing_and_soundness_is_kept() {
                 assert_eq!((reply.count, reply.length), (0, 0));
             }
             assert!(session.store.is_sound(MEMORY_BYTES));
+            assert_eq!(watch.see(&session.store, &session.memory), Ok(()));
         }
+        frozen += watch.met();
     }
+    assert!(frozen > LISTS / 6, "{frozen}");
 }
 
 #[test]

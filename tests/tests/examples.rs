@@ -25,7 +25,7 @@ fn lists() -> Vec<PathBuf> {
 fn outputs_are_the_files() {
     assert!(lists().len() > 20);
     for path in lists() {
-        let found = run(&fs::read(&path).unwrap(), |_, _| {});
+        let found = run(&fs::read(&path).unwrap(), |_, _, _| {});
         let expected = fs::read(path.with_extension("out")).unwrap();
         assert!(found == expected, "{}", path.display());
     }
@@ -35,13 +35,13 @@ fn outputs_are_the_files() {
 fn every_pair_that_a_list_can_reach() {
     let mut reached = BTreeSet::new();
     for path in lists() {
-        run(&fs::read(path).unwrap(), |record, reply| {
+        run(&fs::read(path).unwrap(), |_, record, reply| {
             reached.insert((record[CODE_AT], reply.number));
         });
     }
     let (calls, bad): (BTreeSet<_>, BTreeSet<_>) = reached
         .into_iter()
-        .partition(|(code, _)| (1..=9).contains(code));
+        .partition(|(code, _)| (1..=10).contains(code));
     assert_eq!(calls, reachable().collect());
     assert!(bad.len() > 3 && bad.iter().all(|(_, number)| *number == 3));
 }
@@ -50,7 +50,7 @@ fn every_pair_that_a_list_can_reach() {
 fn every_refusal_of_a_list() {
     let mut texts = BTreeSet::new();
     for path in lists() {
-        texts.insert(run(&fs::read(path).unwrap(), |_, _| {}));
+        texts.insert(run(&fs::read(path).unwrap(), |_, _, _| {}));
     }
     for refused in ["list 18\n", "list 19\n", "list 20\n", "end 0\n"] {
         assert!(texts.contains(refused.as_bytes()), "{refused}");

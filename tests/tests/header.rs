@@ -1,6 +1,6 @@
 //! The header's numbers are those of the table, in its order and with its words.
 
-use model::table::{numbers_of_calls, word, DONE};
+use model::table::{numbers_of_calls, word, DONE, FROZEN};
 
 const HEADER: &str = include_str!("../../include/gelmuszta.h");
 
@@ -16,11 +16,20 @@ fn lines() -> impl Iterator<Item = (&'static str, u8, Option<&'static str>)> {
     })
 }
 
+/// The table's order, in which 22 alone has two places; an enumeration has a number once, and this one has it
+/// at the first of them.
+fn expected() -> Vec<u8> {
+    let mut numbers: Vec<u8> = [DONE].into_iter().chain(numbers_of_calls()).collect();
+    let second = numbers.iter().rposition(|&number| number == FROZEN);
+    numbers.remove(second.expect("22 has its places"));
+    numbers
+}
+
 #[test]
 fn numbers_in_the_table_s_order() {
     let numbers: Vec<u8> = lines().map(|(_, number, _)| number).collect();
-    let expected: Vec<u8> = [DONE].into_iter().chain(numbers_of_calls()).collect();
-    assert_eq!(numbers, expected);
+    assert_eq!(numbers, expected());
+    assert_eq!(numbers[10..13], [10, 22, 11]);
     assert_eq!(numbers[numbers.len() - 3..], [16, 21, 17]);
 }
 
@@ -36,8 +45,13 @@ fn words_and_names() {
             assert_eq!(said, Some(word));
         }
     }
-    let empty = lines().find(|(name, ..)| *name == "GELMUSZTA_EMPTY");
-    assert!(empty.is_some_and(|(_, number, comment)| {
-        number == 21 && comment.is_some_and(|comment| comment.starts_with("empty, 7: "))
-    }));
+    for (name, number, said) in [
+        ("GELMUSZTA_EMPTY", 21, "empty, 7: "),
+        ("GELMUSZTA_FROZEN", 22, "frozen, "),
+    ] {
+        let line = lines().find(|line| line.0 == name);
+        assert!(line.is_some_and(|(_, found, comment)| {
+            found == number && comment.is_some_and(|comment| comment.starts_with(said))
+        }));
+    }
 }

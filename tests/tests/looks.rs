@@ -8,6 +8,7 @@ use model::list::{request, Request, CODE_AT, RECORD_BYTES};
 use model::random::Random;
 use model::sizes::{MEMORY_BYTES, NODES, NODE_BYTES};
 use model::store::{Cluster, Segment};
+use support::faults::{self, Kind};
 use support::*;
 
 fn look(node: u32, segment: u32, handle: Handle) -> Call {
@@ -38,7 +39,7 @@ fn bench(node: usize, segments: &[(u16, u16)]) -> Bench {
         ..Cluster::INACTIVE
     };
     for (segment, &(base, length)) in cluster.segments.iter_mut().zip(segments) {
-        *segment = Segment::Present { base, length };
+        *segment = Segment::present(base, length);
     }
     bench
 }
@@ -142,21 +143,21 @@ fn whatever_the_buffer() {
 /// Every set of faults: alone each gives its number, and of several the first is given.
 #[test]
 fn numbers_in_their_order() {
-    for faulty in faults::all() {
+    for faulty in faults::all(Kind::Look) {
         let mut bench = Bench {
             store: faulty.store.clone(),
             memory: vec![0x77; faulty.memory_bytes],
         };
-        let reply = bench.reply(look(faulty.node, faulty.segment, faulty.handle));
-        let expected = match faulty.expected() {
-            Ok((from, length)) => shown(from, length),
-            Err(number) => Reply::refused(number),
+        let expected = match faulty.number() {
+            0 => shown(2 * 4096 + 100, 4),
+            number => Reply::refused(number),
         };
-        assert_eq!(reply, expected, "{:?}", faulty.faults);
+        assert_eq!(bench.reply(faulty.call), expected, "{:?}", faulty.faults);
         assert_eq!(bench.store, faulty.store);
         assert!(bench.memory == vec![0x77; faulty.memory_bytes]);
     }
-    assert_eq!(faults::all().count(), 512);
+    // Each with the segment frozen and not.
+    assert_eq!(faults::all(Kind::Look).count(), 2 * 512);
 }
 
 #[test]
@@ -259,6 +260,6 @@ fn no_code_stands_for_it() {
         let mut record = [0; RECORD_BYTES];
         record[CODE_AT] = code;
         let is_call = request(&record) != Request::BadCode;
-        assert_eq!(is_call, (1..=9).contains(&code));
+        assert_eq!(is_call, (1..=10).contains(&code));
     }
 }

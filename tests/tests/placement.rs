@@ -10,7 +10,7 @@ fn store_with(extents: &[(u16, u16)]) -> Store {
     for (at, &(base, length)) in extents.iter().enumerate() {
         let cluster = &mut store.clusters[0][at / 8];
         cluster.active = true;
-        cluster.segments[at % 8] = Segment::Present { base, length };
+        cluster.segments[at % 8] = Segment::present(base, length);
     }
     store
 }

@@ -17,16 +17,13 @@ fn store() -> Store {
     cluster.active = true;
     cluster.read = READ;
     cluster.write = WRITE;
-    cluster.segments[0] = Segment::Present {
-        base: 10,
-        length: 20,
-    };
+    cluster.segments[0] = Segment::present(10, 20);
     store
 }
 
 fn with_segment(base: u16, length: u16) -> Store {
     let mut store = store();
-    store.clusters[1][3].segments[7] = Segment::Present { base, length };
+    store.clusters[1][3].segments[7] = Segment::present(base, length);
     store
 }
 
@@ -78,10 +75,7 @@ fn segments_out_of_range_or_overlapping() {
     }
     let mut overlapping = store();
     overlapping.clusters[1][4].active = true;
-    overlapping.clusters[1][4].segments[2] = Segment::Present {
-        base: 29,
-        length: 5,
-    };
+    overlapping.clusters[1][4].segments[2] = Segment::present(29, 5);
     assert!(!overlapping.is_sound(MEMORY_BYTES));
 }
 
@@ -92,91 +86,95 @@ fn inactive_with_something_left() {
     let mut write = Store::starting();
     write.clusters[3][7].write[0] = 1;
     let mut segment = Store::starting();
-    segment.clusters[2][5].segments[6] = Segment::Present { base: 0, length: 1 };
+    segment.clusters[2][5].segments[6] = Segment::present(0, 1);
     for store in [read, write, segment] {
         assert!(!store.is_sound(MEMORY_BYTES));
     }
 }
 
+/// In whichever segment, of an active cluster or an inactive one.
+#[test]
+fn marks_on_absent_segments() {
+    for segment in 0..8 {
+        let mut present = store();
+        present.clusters[1][3].segments[segment] = Segment::present(100, 1).marked();
+        assert!(present.is_sound(MEMORY_BYTES));
+        let mut active = store();
+        active.clusters[1][3].segments[segment] = Segment::ABSENT.marked();
+        let mut inactive = store();
+        inactive.clusters[3][7].segments[segment] = Segment::ABSENT.marked();
+        for damaged in [active, inactive] {
+            assert!(!damaged.is_sound(MEMORY_BYTES));
+        }
+    }
+}
+
 /// Every call, a look and validation, all of them about places where nothing is damaged.
 fn calls() -> Vec<Call> {
-    let read = Handle::primary(1, 3, READ);
+    let reader = Handle::primary(1, 3, READ);
     let handle = Handle::primary(1, 3, WRITE);
-    vec![
-        Call::NewCluster {
-            node: 0,
-            local: 0,
-            read: READ,
-            write: WRITE,
-        },
-        Call::DeleteCluster { node: 1, handle },
-        Call::NewSegment {
-            node: 1,
-            segment: 1,
-            size: 5,
-            handle,
-        },
-        Call::DeleteSegment {
-            node: 1,
-            segment: 0,
-            handle,
-        },
-        Call::Read {
-            segment: 0,
-            handle: read,
-        },
-        Call::Write { segment: 0, handle },
-        Call::Reduce { mode: 2, handle },
-        Call::NewPassword {
-            mode: 2,
-            handle,
-            password: [9; 16],
-        },
-        Call::Look {
-            node: 1,
-            segment: 0,
-            handle: read,
-        },
-        Call::Validate { mode: 2, handle },
+    let (node, segment, mode) = (1, 0, 2);
+    #[rustfmt::skip]
+    let calls = vec![
+        Call::NewCluster { node: 0, local: 0, read: READ, write: WRITE },
+        Call::DeleteCluster { node, handle },
+        Call::NewSegment { node, segment: 1, size: 5, handle },
+        Call::DeleteSegment { node, segment, handle },
+        Call::Read { segment, handle: reader },
+        Call::Write { segment, handle },
+        Call::Reduce { mode, handle },
+        Call::NewPassword { mode, handle, password: [9; 16] },
+        Call::Freeze { node, segment, handle },
+        Call::Look { node, segment, handle: reader },
+        Call::Validate { mode, handle },
+    ];
+    calls
+}
+
+/// A segment in an inactive cluster that goes beyond its node, and marks where no segment is.
+fn damaged() -> [Store; 3] {
+    let put = |(node, local): (usize, usize), segment| {
+        let mut store = store();
+        store.clusters[node][local].segments[7] = segment;
+        store
+    };
+    [
+        put((3, 7), Segment::present(4000, 97)),
+        put((3, 7), Segment::ABSENT.marked()),
+        put((1, 3), Segment::ABSENT.marked()),
     ]
 }
 
 #[test]
 fn damage_anywhere_refuses_all_but_weakening_and_changes_nothing() {
-    let mut damaged = store();
-    damaged.clusters[3][7].segments[0] = Segment::Present {
-        base: 4000,
-        length: 97,
-    };
     for call in calls() {
-        let mut memory = vec![0xaa; MEMORY_BYTES];
-        let mut buffer = vec![0xbb; 64];
-        assert_eq!(
-            run(&mut store(), &mut memory, &mut buffer, &call).number,
-            0,
-            "{call:?}"
-        );
-
         let (mut memory, mut buffer) = (vec![0xaa; MEMORY_BYTES], vec![0xbb; 64]);
-        let mut left = damaged.clone();
-        let reply = run(&mut left, &mut memory, &mut buffer, &call);
-        assert_eq!(reply, Reply::refused(UNSOUND));
-        assert_eq!(left, damaged);
-        assert_eq!((memory, buffer), (vec![0xaa; MEMORY_BYTES], vec![0xbb; 64]));
+        let reply = run(&mut store(), &mut memory, &mut buffer, &call);
+        assert_eq!(reply.number, 0, "{call:?}");
+        for damaged in damaged() {
+            let (mut memory, mut buffer) = (vec![0xaa; MEMORY_BYTES], vec![0xbb; 64]);
+            let mut left = damaged.clone();
+            let reply = run(&mut left, &mut memory, &mut buffer, &call);
+            assert_eq!(reply, Reply::refused(UNSOUND));
+            assert_eq!(left, damaged);
+            assert_eq!((memory, buffer), (vec![0xaa; MEMORY_BYTES], vec![0xbb; 64]));
+        }
     }
-    let handle = Handle::primary(1, 3, READ);
-    let mut weaken = |mask| {
-        run(
-            &mut damaged,
-            &mut [],
-            &mut [],
-            &Call::Weaken { mask, handle },
-        )
-    };
-    let reply = weaken(1);
-    assert_eq!((reply.number, reply.count), (0, 1));
-    assert_eq!(weaken(0), Reply::refused(EMPTY));
     assert_eq!(word(UNSOUND), Some("unsound"));
+}
+
+#[test]
+fn damage_does_not_matter_to_weakening() {
+    let handle = Handle::primary(1, 3, READ);
+    for mut damaged in damaged() {
+        let mut weaken = |mask| {
+            let call = Call::Weaken { mask, handle };
+            run(&mut damaged, &mut [], &mut [], &call)
+        };
+        let reply = weaken(1);
+        assert_eq!((reply.number, reply.count), (0, 1));
+        assert_eq!(weaken(0), Reply::refused(EMPTY));
+    }
 }
 
 #[test]

@@ -11,7 +11,7 @@ use model::call::Call;
 use model::handle::{derive, Handle, Password};
 use model::random::Random;
 use model::store::{Segment, Store};
-use model::table::VIOLATED_PROTECTION;
+use model::table::{FROZEN, VIOLATED_PROTECTION};
 use std::ops::Range;
 
 /// Calls of one list.
@@ -26,7 +26,9 @@ struct Pair {
 }
 
 /// How many calls there were, how many were done, and how many named the cluster set apart; how many
-/// looks showed something, and how many nothing but the password kept from the cluster set apart.
+/// looks showed something, how many freezes were done, and how many of both nothing but the password kept from
+/// the cluster set apart; how many calls were refused for something frozen, and in how many pairs the cluster
+/// set apart had a frozen segment.
 #[derive(Debug, Default)]
 pub struct Count {
     pub calls: u64,
@@ -34,6 +36,10 @@ pub struct Count {
     pub naming: u64,
     pub looks: u64,
     pub looks_apart: u64,
+    pub freezes: u64,
+    pub freezes_apart: u64,
+    pub frozen: u64,
+    pub frozen_apart: u64,
 }
 
 impl Count {
@@ -42,10 +48,14 @@ impl Count {
         self.calls += 1;
         self.naming += u64::from(naming);
         self.done += u64::from(done);
-        if let Call::Look { .. } = question.call {
-            self.looks += u64::from(done);
-            self.looks_apart += u64::from(naming && pair.kept_by_the_password(question, answer));
-        }
+        self.frozen += u64::from(answer.reply.number == FROZEN);
+        let (here, apart) = match question.call {
+            Call::Look { .. } => (&mut self.looks, &mut self.looks_apart),
+            Call::Freeze { .. } => (&mut self.freezes, &mut self.freezes_apart),
+            _ => return,
+        };
+        *here += u64::from(done);
+        *apart += u64::from(naming && pair.kept_by_the_password(question, answer));
     }
 
     /// What lists have to come to, and these did not.
@@ -57,6 +67,16 @@ impl Count {
             (
                 self.looks_apart,
                 "a look that the password alone keeps from the cluster set apart",
+            ),
+            (self.freezes, "a freeze done"),
+            (
+                self.freezes_apart,
+                "a freeze that the password alone keeps from the cluster set apart",
+            ),
+            (self.frozen, "a call refused with 22 (frozen)"),
+            (
+                self.frozen_apart,
+                "a cluster set apart with a frozen segment",
             ),
         ];
         let missing = due.iter().filter(|(count, _)| *count == 0);
@@ -74,6 +94,7 @@ pub fn compare(guard: Guard, seed: u64, pairs: u64) -> Result<Count, String> {
 
 fn one(guard: Guard, random: &mut Random, count: &mut Count) -> Result<(), String> {
     let mut pair = by_chance(random);
+    count.frozen_apart += u64::from(pair.has_frozen_apart());
     let start = pair.copies.clone();
     let mut given = Vec::new();
     for at in 1..=LIST_CALLS {
@@ -163,16 +184,22 @@ impl Pair {
             cluster.read,
         ];
         let chosen = choices[below(random, choices.len())];
-        if let Some(handle) = handle_mut(&mut question.call) {
+        if let Some(handle) = question.handle_mut() {
             handle.node = self.apart.0 as u16;
             handle.local = self.apart.1 as u8;
             if random.one_in(2) {
                 handle.password = chosen;
             }
         }
-        if let (Call::Look { node, .. }, false) = (&mut question.call, random.one_in(4)) {
+        let local = (&mut question.call, random.one_in(4));
+        if let (Call::Look { node, .. } | Call::Freeze { node, .. }, false) = local {
             *node = self.apart.0 as u32;
         }
+    }
+
+    fn has_frozen_apart(&self) -> bool {
+        let store = decode(&self.copies[0].image);
+        store.is_some_and(|store| store.clusters[self.apart.0][self.apart.1].has_frozen())
     }
 
     fn names_apart(&self, question: &Question) -> bool {
@@ -199,9 +226,12 @@ impl Pair {
         let (Some(store), VIOLATED_PROTECTION) = (decode(&copy.image), answer.reply.number) else {
             return false;
         };
-        let primary = store.clusters[self.apart.0][self.apart.1].read;
+        let Some(mode) = question.call.needed_mode() else {
+            return false;
+        };
+        let primary = *store.clusters[self.apart.0][self.apart.1].primary(mode);
         let mut opening = question.clone();
-        if let Some(handle) = handle_mut(&mut opening.call) {
+        if let Some(handle) = opening.handle_mut() {
             handle.password = derive(&primary, &handle.selector);
         }
         by_model(&mut copy.clone(), &opening).reply.is_done()
@@ -237,21 +267,5 @@ impl Pair {
             }
         }
         Ok(())
-    }
-}
-
-fn handle_mut(call: &mut Call) -> Option<&mut Handle> {
-    match call {
-        Call::NewCluster { .. } => None,
-        Call::DeleteCluster { handle, .. }
-        | Call::NewSegment { handle, .. }
-        | Call::DeleteSegment { handle, .. }
-        | Call::Read { handle, .. }
-        | Call::Write { handle, .. }
-        | Call::Weaken { handle, .. }
-        | Call::Reduce { handle, .. }
-        | Call::NewPassword { handle, .. }
-        | Call::Look { handle, .. }
-        | Call::Validate { handle, .. } => Some(handle),
     }
 }

@@ -2,6 +2,7 @@
 
 use crate::chance::damage::{Damage, LAST_PLACE};
 use crate::question::{name, BATCH, CODES};
+use model::call::CALLS;
 use std::collections::BTreeMap;
 use std::fmt;
 
@@ -101,9 +102,17 @@ impl Damages {
     }
 }
 
+/// A call by its code, what has none by its name; a column has room for so much of it.
+fn heading(code: u8) -> String {
+    match CALLS.iter().any(|call| call.0 == code) {
+        true => code.to_string(),
+        false => format!("{:.6}", name(code)),
+    }
+}
+
 impl fmt::Display for Damages {
     fn fmt(&self, to: &mut fmt::Formatter) -> fmt::Result {
-        let codes = CODES.map(|code| format!("{code:>7}")).concat();
+        let codes = CODES.map(|code| format!("{:>7}", heading(code))).concat();
         let places = Where::RECORDS.map(|place| format!("{:>12}", format!("{place:?}")));
         writeln!(to, "{:<30}{codes}{}", "damage \\ call", places.concat())?;
         for damage in Damage::ALL {

@@ -1,6 +1,6 @@
 //! Soundness where it changes: every byte of an image with every value, and two segments of one node
-//! that begin and end about the borders of words. Looks where their part or their arguments come to an
-//! end: the first and the last byte of a node, the whole of it, and numbers just out of range.
+//! that begin and end about the borders of words. Looks and freezes where their segment or their arguments come
+//! to an end: the first and the last byte of a node, the whole of it, and numbers just out of range.
 
 use crate::chance::stores::{self, active, present, Fill};
 use crate::chance::words::{Beside, LENGTHS};
@@ -12,7 +12,7 @@ use model::call::Call;
 use model::handle::Handle;
 use model::random::Random;
 use model::sizes::{CLUSTERS, MEMORY_BYTES, NODES, NODE_BYTES, SEGMENTS};
-use model::store::{Extent, Store};
+use model::store::{Cluster, Extent, Mode, Store};
 
 /// Something that tells whether an image holds a sound store; [`crate::guard::is_sound`] is the one
 /// to be compared.
@@ -21,7 +21,7 @@ pub type Judge = fn(&mut Image, usize) -> bool;
 /// The first words of a node, those in its middle, and its last; 64 begins behind it.
 const WORDS: [usize; 10] = [0, 1, 2, 3, 31, 32, 33, 62, 63, 64];
 
-/// Segments that are looked at: base and length.
+/// Segments that are looked at and frozen: base and length.
 const STRETCHES: [(usize, usize); 9] = [
     (0, 1),
     (0, NODE_BYTES - 1),
@@ -137,6 +137,28 @@ fn same(judge: Judge, held: &mut Held) -> Result<bool, String> {
 /// Each stretch in each node, looked at with every argument where it changes. Gives how many looks there
 /// were, and how many of them showed something.
 pub fn looks(guard: Guard, seed: u64) -> Result<(u64, u64), String> {
+    around_segments(guard, seed, |lone, current, segment| {
+        let primary = lone.handle(Mode::Read);
+        let weaker = primary.weaken(1 << lone.segment).expect("all are flat");
+        [primary, weaker].map(|handle| look(current, segment, handle))
+    })
+}
+
+/// The same with freezes: by the write primary handle, again, and by one that is not primary.
+pub fn freezes(guard: Guard, seed: u64) -> Result<(u64, u64), String> {
+    around_segments(guard, seed, |lone, current, segment| {
+        let primary = lone.handle(Mode::Write);
+        let weaker = primary.weaken(1 << lone.segment).expect("all are flat");
+        [primary, primary, weaker].map(|handle| freeze(current, segment, handle))
+    })
+}
+
+/// What `questions` makes of a segment, a current node and a number of a segment is asked in turn.
+fn around_segments<const N: usize>(
+    guard: Guard,
+    seed: u64,
+    questions: impl Fn(&LoneSegment, usize, usize) -> [Question; N],
+) -> Result<(u64, u64), String> {
     let (mut asked, mut done) = (0, 0);
     let places = (0..NODES).flat_map(|node| STRETCHES.map(|stretch| (node, stretch)));
     let mut places = places.collect::<Vec<_>>().into_iter();
@@ -148,8 +170,7 @@ pub fn looks(guard: Guard, seed: u64) -> Result<(u64, u64), String> {
             for side in [&mut sides.guard, &mut sides.model] {
                 side.memory.resize(memory_bytes, 0);
             }
-            for handle in lone.handles {
-                let question = look(current, segment, handle);
+            for question in questions(&lone, current, segment) {
                 let answer = ask(guard, &mut sides, &question)
                     .map_err(|what| format!("segment at {base}, {length} bytes: {what}"))?;
                 asked += 1;
@@ -161,12 +182,13 @@ pub fn looks(guard: Guard, seed: u64) -> Result<(u64, u64), String> {
     Ok((asked, done))
 }
 
-/// A store with one segment, and two handles that open it.
+/// A store with one segment, and the cluster that it is of.
 struct LoneSegment {
     held: Held,
+    cluster: Cluster,
     node: usize,
+    local: usize,
     segment: usize,
-    handles: [Handle; 2],
 }
 
 impl LoneSegment {
@@ -176,14 +198,21 @@ impl LoneSegment {
         let cluster = &mut store.clusters[node][local];
         *cluster = active(random);
         cluster.segments[segment] = present(extent.base, extent.length);
-        let primary = Handle::primary(node as u16, local as u8, cluster.read);
-        let weaker = primary.weaken(1 << segment).expect("all are flat");
         LoneSegment {
+            cluster: *cluster,
             held: stores::held(random, &store),
             node,
+            local,
             segment,
-            handles: [primary, weaker],
         }
+    }
+
+    fn handle(&self, mode: Mode) -> Handle {
+        Handle::primary(
+            self.node as u16,
+            self.local as u8,
+            *self.cluster.primary(mode),
+        )
     }
 
     /// Lengths of the memory, current nodes and segments: in each row all but one are right.
@@ -203,12 +232,31 @@ fn around(right: usize, bound: usize) -> impl Iterator<Item = usize> {
 }
 
 fn look(current: usize, segment: usize, handle: Handle) -> Question {
-    let narrow = |number: usize| u32::try_from(number).unwrap_or(BEYOND);
+    let (node, number) = (narrow(current), narrow(segment));
     let call = Call::Look {
-        node: narrow(current),
-        segment: narrow(segment),
+        node,
+        segment: number,
         handle,
     };
+    wide(call, current, segment)
+}
+
+fn freeze(current: usize, segment: usize, handle: Handle) -> Question {
+    let (node, number) = (narrow(current), narrow(segment));
+    let call = Call::Freeze {
+        node,
+        segment: number,
+        handle,
+    };
+    wide(call, current, segment)
+}
+
+fn narrow(number: usize) -> u32 {
+    u32::try_from(number).unwrap_or(BEYOND)
+}
+
+/// At most one of the two is more than four bytes hold.
+fn wide(call: Call, current: usize, segment: usize) -> Question {
     Question {
         beyond: current.max(segment),
         ..Question::of(call)

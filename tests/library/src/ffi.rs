@@ -94,6 +94,15 @@ extern "C" {
         given: *mut HandleBytes,
     ) -> u8;
 
+    pub fn gelmuszta_freeze(
+        image: *mut Image,
+        memory: *const u8,
+        memory_length: usize,
+        current: usize,
+        segment: usize,
+        handle: *const HandleBytes,
+    ) -> u8;
+
     pub fn gelmuszta_look(
         image: *const Image,
         memory: *const u8,

@@ -80,41 +80,32 @@ impl Lent<'_> {
             BEYOND => beyond,
             _ => number as usize,
         };
-        match *call {
-            Call::NewCluster {
-                node,
-                local,
-                read,
-                write,
-            } => self.new_cluster(wide(node), wide(local), &read, &write),
+        #[rustfmt::skip]
+        let reply = match *call {
+            Call::NewCluster { node, local, read, write } => {
+                self.new_cluster(wide(node), wide(local), &read, &write)
+            }
             Call::DeleteCluster { node, handle } => self.delete_cluster(wide(node), &handle),
-            Call::NewSegment {
-                node,
-                segment,
-                size,
-                handle,
-            } => self.new_segment(wide(node), wide(segment), wide(size), &handle),
-            Call::DeleteSegment {
-                node,
-                segment,
-                handle,
-            } => self.delete_segment(wide(node), wide(segment), &handle),
+            Call::NewSegment { node, segment, size, handle } => {
+                self.new_segment(wide(node), wide(segment), wide(size), &handle)
+            }
+            Call::DeleteSegment { node, segment, handle } => {
+                self.delete_segment(wide(node), wide(segment), &handle)
+            }
             Call::Read { segment, handle } => self.read(wide(segment), &handle),
             Call::Write { segment, handle } => self.write(wide(segment), &handle),
             Call::Weaken { mask, handle } => weaken(mask, &handle),
             Call::Reduce { mode, handle } => self.reduce(wide(mode), &handle),
-            Call::NewPassword {
-                mode,
-                handle,
-                password,
-            } => self.new_password(wide(mode), &handle, &password),
-            Call::Look {
-                node,
-                segment,
-                handle,
-            } => self.look(wide(node), wide(segment), &handle),
+            Call::NewPassword { mode, handle, password } => {
+                self.new_password(wide(mode), &handle, &password)
+            }
+            Call::Freeze { node, segment, handle } => {
+                self.freeze(wide(node), wide(segment), &handle)
+            }
+            Call::Look { node, segment, handle } => self.look(wide(node), wide(segment), &handle),
             Call::Validate { mode, handle } => self.validate(wide(mode), &handle),
-        }
+        };
+        reply
     }
 
     fn new_cluster(self, node: usize, local: usize, read: &Password, write: &Password) -> Reply {
@@ -231,6 +222,15 @@ impl Lent<'_> {
             first,
             ..bare(number)
         }
+    }
+
+    fn freeze(self, current: usize, segment: usize, handle: &Handle) -> Reply {
+        let (memory, length) = (self.memory.as_mut_ptr(), self.memory.len());
+        let handle = handle.to_bytes();
+        // SAFETY: see the head of this file.
+        bare(unsafe {
+            ffi::gelmuszta_freeze(self.image, memory, length, current, segment, &handle)
+        })
     }
 
     fn look(self, current: usize, segment: usize, handle: &Handle) -> Reply {

@@ -2,19 +2,23 @@
 
 use model::handle::Password;
 use model::sizes::{CLUSTERS, NODES, PASSWORD_BYTES, SEGMENTS};
-use model::store::{Cluster, Segment, Store};
+use model::store::{Cluster, Place, Segment, Store};
 use std::ops::Range;
 
 pub const READ_AT: usize = 1;
 pub const WRITE_AT: usize = READ_AT + PASSWORD_BYTES;
 pub const SEGMENTS_AT: usize = WRITE_AT + PASSWORD_BYTES;
-/// Base and length, two bytes each.
-pub const SEGMENT_BYTES: usize = 4;
+/// Base and length, two bytes each, and the mark.
+pub const SEGMENT_BYTES: usize = 5;
+pub const LENGTH_AT: usize = 2;
+pub const MARK_AT: usize = 4;
 pub const RECORD_BYTES: usize = SEGMENTS_AT + SEGMENTS * SEGMENT_BYTES;
 pub const IMAGE_BYTES: usize = NODES * CLUSTERS * RECORD_BYTES;
 
 const INACTIVE: u8 = 0;
 const ACTIVE: u8 = 1;
+const NOT_FROZEN: u8 = 0;
+const FROZEN: u8 = 1;
 
 pub type Image = [u8; IMAGE_BYTES];
 
@@ -24,7 +28,7 @@ pub fn record_at(node: usize, local: usize) -> Range<usize> {
     start..start + RECORD_BYTES
 }
 
-/// Where the base and the length of a segment lie.
+/// Where the base, the length and the mark of a segment lie.
 pub fn segment_at(node: usize, local: usize, segment: usize) -> Range<usize> {
     let start = record_at(node, local).start + SEGMENTS_AT + segment * SEGMENT_BYTES;
     start..start + SEGMENT_BYTES
@@ -58,13 +62,13 @@ fn encode_cluster(cluster: &Cluster, record: &mut [u8]) {
 }
 
 fn encode_segment(segment: &Segment) -> [u8; SEGMENT_BYTES] {
-    match *segment {
-        Segment::Absent => [0; SEGMENT_BYTES],
-        Segment::Present { base, length } => {
-            let ([b0, b1], [l0, l1]) = (base.to_be_bytes(), length.to_be_bytes());
-            [b0, b1, l0, l1]
-        }
-    }
+    let (base, length) = match segment.place {
+        Place::Absent => (0, 0),
+        Place::Present { base, length } => (base, length),
+    };
+    let ([b0, b1], [l0, l1]) = (base.to_be_bytes(), length.to_be_bytes());
+    let mark = if segment.frozen { FROZEN } else { NOT_FROZEN };
+    [b0, b1, l0, l1, mark]
 }
 
 /// The store of an image; `None` where a record encodes no cluster.
@@ -84,7 +88,7 @@ fn decode_cluster(record: &[u8]) -> Option<Cluster> {
         _ => return None,
     };
     let password = |at: usize| Password::try_from(&record[at..at + PASSWORD_BYTES]).ok();
-    let mut segments = [Segment::Absent; SEGMENTS];
+    let mut segments = [Segment::ABSENT; SEGMENTS];
     let places = record[SEGMENTS_AT..].chunks_exact(SEGMENT_BYTES);
     for (segment, place) in segments.iter_mut().zip(places) {
         *segment = decode_segment(place)?;
@@ -99,10 +103,15 @@ fn decode_cluster(record: &[u8]) -> Option<Cluster> {
 
 fn decode_segment(place: &[u8]) -> Option<Segment> {
     let base = u16::from_be_bytes([place[0], place[1]]);
-    let length = u16::from_be_bytes([place[2], place[3]]);
-    match (base, length) {
-        (0, 0) => Some(Segment::Absent),
-        (_, 0) => None,
-        _ => Some(Segment::Present { base, length }),
+    let length = u16::from_be_bytes([place[LENGTH_AT], place[LENGTH_AT + 1]]);
+    let segment = match (base, length) {
+        (0, 0) => Segment::ABSENT,
+        (_, 0) => return None,
+        _ => Segment::present(base, length),
+    };
+    match place[MARK_AT] {
+        NOT_FROZEN => Some(segment),
+        FROZEN => Some(segment.marked()),
+        _ => None,
     }
 }

@@ -6,8 +6,9 @@
 //! - [`compare`]: one question put to both, and everything that has to be equal afterwards.
 //! - [`chance`]: stores, damage, handles and questions made by chance from a seed.
 //! - [`single`], [`runs`], [`edges`], [`batch`], [`copies`], [`published`]: what is compared.
-//! - [`tally`], [`damages`], [`looks`]: which answers, fills, selectors, modes, damages, ways to nothing and
-//!   looks were met.
+//! - [`stays`]: whether what is frozen stays, judged by the library's side alone.
+//! - [`tally`], [`damages`], [`sights`]: which answers, fills, selectors, modes, damages, ways to nothing,
+//!   frozen segments, looks and freezes were met.
 
 pub mod batch;
 pub mod chance;
@@ -18,9 +19,10 @@ pub mod edges;
 pub mod ffi;
 pub mod guard;
 pub mod image;
-pub mod looks;
 pub mod published;
 pub mod question;
 pub mod runs;
+pub mod sights;
 pub mod single;
+pub mod stays;
 pub mod tally;

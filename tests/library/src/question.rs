@@ -10,12 +10,12 @@ pub const BEYOND: u32 = u32::MAX;
 /// The modes as callers name them.
 pub const READ_MODE: u32 = 1;
 pub const WRITE_MODE: u32 = 2;
-/// Validation has no code, nor has that of many, nor a look; in tables they stand below the nine calls.
-pub const VALIDATION: u8 = 10;
-pub const BATCH: u8 = 11;
-pub const LOOK: u8 = 12;
+/// Validation has no code, nor has that of many, nor a look; in tables they stand below the ten calls.
+pub const VALIDATION: u8 = 101;
+pub const BATCH: u8 = 102;
+pub const LOOK: u8 = 103;
 /// The rows of tables.
-pub const CODES: [u8; 12] = [1, 2, 3, 4, 5, 6, 7, 8, 9, VALIDATION, BATCH, LOOK];
+pub const CODES: [u8; 13] = [1, 2, 3, 4, 5, 6, 7, 8, 9, 10, VALIDATION, BATCH, LOOK];
 
 pub fn name(code: u8) -> &'static str {
     let call = CALLS.iter().find(|call| call.0 == code);
@@ -23,7 +23,7 @@ pub fn name(code: u8) -> &'static str {
         VALIDATION => "validation",
         BATCH => "batch",
         LOOK => "look",
-        _ => call.expect("the nine calls have names").1,
+        _ => call.expect("the ten calls have names").1,
     }
 }
 
@@ -66,8 +66,27 @@ impl Question {
             Call::Weaken { .. } => call::WEAKEN,
             Call::Reduce { .. } => call::REDUCE,
             Call::NewPassword { .. } => call::NEW_PASSWORD,
+            Call::Freeze { .. } => call::FREEZE,
             Call::Look { .. } => LOOK,
             Call::Validate { .. } => VALIDATION,
+        }
+    }
+
+    /// The handle that the call presents.
+    pub fn handle_mut(&mut self) -> Option<&mut Handle> {
+        match &mut self.call {
+            Call::NewCluster { .. } => None,
+            Call::DeleteCluster { handle, .. }
+            | Call::NewSegment { handle, .. }
+            | Call::DeleteSegment { handle, .. }
+            | Call::Read { handle, .. }
+            | Call::Write { handle, .. }
+            | Call::Weaken { handle, .. }
+            | Call::Reduce { handle, .. }
+            | Call::NewPassword { handle, .. }
+            | Call::Freeze { handle, .. }
+            | Call::Look { handle, .. }
+            | Call::Validate { handle, .. } => Some(handle),
         }
     }
 }

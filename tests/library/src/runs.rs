@@ -1,5 +1,5 @@
 //! Long rows of calls from the starting store: handles that were given are weakened, reduced,
-//! revoked and presented again, and each call works on what the last one left.
+//! revoked and presented again, and each call works on what the last one left. What was frozen on the way stays.
 
 use crate::chance::cases;
 use crate::chance::questions::{Maker, FILLING};
@@ -7,7 +7,9 @@ use crate::compare::{ask, same_bytes, Guard, Sides};
 use crate::guard;
 use crate::image::{decode, encode, IMAGE_BYTES};
 use crate::question::Held;
+use crate::stays::seen;
 use crate::tally::Tally;
+use model::frozen::Watch;
 use model::random::Random;
 use model::sizes::MEMORY_BYTES;
 use model::store::Store;
@@ -22,8 +24,10 @@ pub fn compare(guard: Guard, seed: u64, runs: u64, tally: &mut Tally) -> Result<
 fn one(guard: Guard, random: &mut Random, tally: &mut Tally) -> Result<(), String> {
     let mut sides = Sides::both(starting()?);
     let mut given = Vec::new();
+    let mut watch = Watch::default();
     for at in 1..=RUN_CALLS {
-        let store = decode(&sides.model.image).ok_or("the model leaves no store")?;
+        let before = sides.model.clone();
+        let store = decode(&before.image).ok_or("the model leaves no store")?;
         let maker = &mut Maker {
             random,
             store: &store,
@@ -33,7 +37,8 @@ fn one(guard: Guard, random: &mut Random, tally: &mut Tally) -> Result<(), Strin
         let answer = ask(guard, &mut sides, &question)
             .map_err(|what| format!("call {at} of the row: {what}"))?;
         tally.note(&question, &answer);
-        tally.note_look(&sides.model, &question, &answer);
+        seen(&mut watch, &sides.guard).map_err(|what| format!("call {at} of the row: {what}"))?;
+        tally.note_held(&before, &question, &answer);
         given.extend(answer.handles(&question));
     }
     Ok(())

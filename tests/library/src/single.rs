@@ -39,10 +39,10 @@ fn one(guard: Guard, random: &mut Random, tally: &mut Tally) -> Result<(), Strin
     }
     same_soundness(&mut held)?;
     same_conversion(random)?;
-    let mut sides = Sides::both(held);
+    let mut sides = Sides::both(held.clone());
     let answer = ask(guard, &mut sides, &question)?;
     tally.note(&question, &answer);
-    tally.note_look(&sides.model, &question, &answer);
+    tally.note_held(&held, &question, &answer);
     if damaged {
         tally.note_beside_damage(&question, &answer);
     }

@@ -1,28 +1,32 @@
-//! Which answers, fills, damages, selectors, ways to nothing and looks were met, and which still have to be.
+//! Which answers, fills, damages, selectors, ways to nothing, frozen segments, looks and freezes were met, and
+//! which still have to be.
 
 use crate::chance::damage::Damage;
 use crate::chance::stores::Fill;
 use crate::damages::{Damages, Where};
-use crate::looks::Looks;
+use crate::image::decode;
 use crate::question::{name, Answer, Held, Question, BATCH, BEYOND, LOOK, VALIDATION};
+use crate::sights::Sights;
 use model::call::{self, Call};
+use model::frozen::Case;
 use model::handle::FLAT;
 use model::nothing::Way;
 use model::sizes::SUBSELECTORS;
 use model::table::{
-    word, ABSENT, DONE, ELSEWHERE, EMPTY, FIELD, GAPPED, INACTIVE, IN_USE, NOT_PRIMARY,
-    NOT_REFERENCED, NO_ROOM, NO_SUCH_PLACE, OLD_PASSWORD, PRESENT, SHORT, SPENT, TWINS, UNSOUND,
-    VIOLATED_PROTECTION,
+    word, Found, ABSENT, DONE, ELSEWHERE, EMPTY, FIELD, FROZEN, GAPPED, INACTIVE, IN_USE,
+    NOT_PRIMARY, NOT_REFERENCED, NO_ROOM, NO_SUCH_PLACE, OLD_PASSWORD, PRESENT, SHORT, SPENT,
+    TWINS, UNSOUND, VIOLATED_PROTECTION,
 };
 use std::collections::{BTreeMap, BTreeSet};
 use std::fmt;
 
 /// The numbers that the table of refusals allows each call, 0 for done among them.
 #[rustfmt::skip]
-const ALLOWED: [(u8, &[u8]); 11] = [
+const ALLOWED: [(u8, &[u8]); 12] = [
     (call::NEW_CLUSTER, &[DONE, UNSOUND, NO_SUCH_PLACE, IN_USE, TWINS]),
     (call::DELETE_CLUSTER, &[
         DONE, UNSOUND, NO_SUCH_PLACE, GAPPED, ELSEWHERE, INACTIVE, VIOLATED_PROTECTION, NOT_PRIMARY,
+        FROZEN,
     ]),
     (call::NEW_SEGMENT, &[
         DONE, UNSOUND, NO_SUCH_PLACE, FIELD, GAPPED, ELSEWHERE, INACTIVE, VIOLATED_PROTECTION,
@@ -30,27 +34,31 @@ const ALLOWED: [(u8, &[u8]); 11] = [
     ]),
     (call::DELETE_SEGMENT, &[
         DONE, UNSOUND, NO_SUCH_PLACE, FIELD, GAPPED, ELSEWHERE, INACTIVE, VIOLATED_PROTECTION,
-        NOT_PRIMARY, ABSENT,
+        NOT_PRIMARY, ABSENT, FROZEN,
     ]),
-    (call::READ, MOVING_BYTES),
-    (call::WRITE, MOVING_BYTES),
+    (call::READ, &[
+        DONE, UNSOUND, NO_SUCH_PLACE, FIELD, GAPPED, INACTIVE, VIOLATED_PROTECTION, NOT_REFERENCED,
+        ABSENT, SHORT,
+    ]),
+    (call::WRITE, &[
+        DONE, UNSOUND, NO_SUCH_PLACE, FIELD, GAPPED, INACTIVE, VIOLATED_PROTECTION, NOT_REFERENCED,
+        ABSENT, FROZEN, SHORT,
+    ]),
     (call::WEAKEN, WEAKENING),
     (call::REDUCE, VALIDATING),
     (call::NEW_PASSWORD, &[
         DONE, UNSOUND, NO_SUCH_PLACE, FIELD, GAPPED, INACTIVE, VIOLATED_PROTECTION, NOT_PRIMARY,
         OLD_PASSWORD,
     ]),
+    (call::FREEZE, &[
+        DONE, UNSOUND, NO_SUCH_PLACE, FIELD, GAPPED, ELSEWHERE, INACTIVE, VIOLATED_PROTECTION,
+        NOT_PRIMARY, ABSENT,
+    ]),
     (VALIDATION, VALIDATING),
     (LOOK, &[
         DONE, UNSOUND, NO_SUCH_PLACE, FIELD, GAPPED, ELSEWHERE, INACTIVE, VIOLATED_PROTECTION,
         NOT_REFERENCED, ABSENT,
     ]),
-];
-
-#[rustfmt::skip]
-const MOVING_BYTES: &[u8] = &[
-    DONE, UNSOUND, NO_SUCH_PLACE, FIELD, GAPPED, INACTIVE, VIOLATED_PROTECTION, NOT_REFERENCED,
-    ABSENT, SHORT,
 ];
 
 /// Weakening looks at no store: it has to come to each of these on damaged ones, too.
@@ -77,7 +85,8 @@ pub struct Tally {
     weakened: [u64; SUBSELECTORS + 1],
     masks: BTreeSet<u8>,
     ways: BTreeMap<Way, u64>,
-    looks: Looks,
+    cases: BTreeMap<Case, u64>,
+    sights: Sights,
     /// The numbers of weakenings beside a damaged store.
     beside_damage: BTreeMap<u8, u64>,
 }
@@ -102,9 +111,20 @@ impl Tally {
         }
     }
 
-    /// What a look came to, if the question is one; `held` is what it was put to.
-    pub fn note_look(&mut self, held: &Held, question: &Question, answer: &Answer) {
-        self.looks.note(held, question, answer);
+    /// What a question came to that hangs on what it was put to, which is `held`.
+    pub fn note_held(&mut self, held: &Held, question: &Question, answer: &Answer) {
+        self.sights.note(held, question, answer);
+        let Some(store) = decode(&held.image) else {
+            return;
+        };
+        let found = Found {
+            store: &store,
+            memory_bytes: held.memory.len(),
+            buffer_bytes: question.buffer.len(),
+        };
+        if let Some(case) = Case::of(&found, &question.call, answer.reply.number) {
+            *self.cases.entry(case).or_default() += 1;
+        }
     }
 
     pub fn note_mode(&mut self, code: u8, mode: u32) {
@@ -167,6 +187,10 @@ impl Tally {
             .into_iter()
             .filter(|way| !self.ways.contains_key(way))
             .map(|way| format!("not tried: way to nothing {way:?}"));
+        let cases = Case::ALL
+            .into_iter()
+            .filter(|case| !self.cases.contains_key(case))
+            .map(|case| format!("not tried: something frozen, {case:?}"));
         let beside_damage = WEAKENING
             .iter()
             .filter(|number| !self.beside_damage.contains_key(number))
@@ -178,7 +202,8 @@ impl Tally {
             .chain(masks)
             .chain(ways)
             .chain(beside_damage)
-            .chain(self.looks.missing())
+            .chain(cases)
+            .chain(self.sights.missing())
     }
 }
 
@@ -189,7 +214,7 @@ fn in_words(&(code, number): &(u8, u8)) -> String {
 
 impl fmt::Display for Tally {
     fn fmt(&self, to: &mut fmt::Formatter) -> fmt::Result {
-        let numbers = || (0..=SPENT).chain([EMPTY]);
+        let numbers = || (0..=SPENT).chain([EMPTY, FROZEN]);
         let heads: String = numbers().map(|number| format!("{number:>7}")).collect();
         writeln!(to, "{:<15}{heads}", "call \\ number")?;
         for (code, _) in ALLOWED {
@@ -206,7 +231,8 @@ impl fmt::Display for Tally {
         writeln!(to, "wide modes, each in a call that names one: {modes}")?;
         writeln!(to, "masks: {}", self.masks.len())?;
         writeln!(to, "ways to nothing: {:?}", self.ways)?;
-        writeln!(to, "{}", self.looks)?;
+        writeln!(to, "something frozen: {:?}", self.cases)?;
+        writeln!(to, "{}", self.sights)?;
         let beside = &self.beside_damage;
         writeln!(
             to,

@@ -8,16 +8,19 @@ use library::compare::is_sound;
 use library::copies::Count;
 use library::image::{decode, encode, IMAGE_BYTES};
 use library::question::LOOK;
+use library::stays;
 use library::tally::Tally;
 use model::random::Random;
 use model::sizes::{CLUSTERS, MEMORY_BYTES, NODES, NODE_BYTES, NODE_SEGMENTS};
 use model::store::Store;
 
+const HEADER: &str = include_str!("../../../include/gelmuszta.h");
 const TIMES: usize = 200;
 
 #[test]
 fn images_have_the_header_s_size_and_read_back() {
-    assert_eq!(IMAGE_BYTES, 2080);
+    assert_eq!(IMAGE_BYTES, 2336);
+    assert!(HEADER.contains(&format!("#define GELMUSZTA_IMAGE {IMAGE_BYTES}\n")));
     assert_eq!(encode(&Store::starting()), [0; IMAGE_BYTES]);
     let mut random = Random::from_seed(1);
     for _ in 0..TIMES {
@@ -31,10 +34,12 @@ fn images_have_the_header_s_size_and_read_back() {
 #[test]
 fn stores_are_sound_and_as_full_as_they_say() {
     let mut random = Random::from_seed(2);
+    let mut marks = [0; 3];
     for _ in 0..TIMES {
         for fill in Fill::ALL {
             let store = store(&mut random, fill);
             assert!(store.is_sound(MEMORY_BYTES));
+            note_marks(&store, &mut marks);
             for node in 0..NODES {
                 let taken: usize = extents(&store, node).iter().map(|part| part.length).sum();
                 let free: usize = gaps(&store, node).iter().map(|part| part.length).sum();
@@ -50,6 +55,21 @@ fn stores_are_sound_and_as_full_as_they_say() {
                 }
             }
         }
+    }
+    assert!(marks.iter().all(|&count| count > TIMES / 8), "{marks:?}");
+}
+
+/// Counts stores with segments none of which is frozen, with some that are, and with all of them frozen.
+fn note_marks(store: &Store, marks: &mut [usize; 3]) {
+    let segments = store.clusters.as_flattened().iter();
+    let segments = segments.flat_map(|cluster| cluster.segments);
+    let present = segments.filter(|segment| segment.is_present());
+    let (frozen, free): (Vec<_>, Vec<_>) = present.partition(|segment| segment.frozen);
+    match (frozen.len(), free.len()) {
+        (0, 0) => {}
+        (0, _) => marks[0] += 1,
+        (_, 0) => marks[2] += 1,
+        _ => marks[1] += 1,
     }
 }
 
@@ -91,7 +111,7 @@ fn what_is_not_reached_is_told() {
             .iter()
             .filter(|fault| fault.starts_with("not reached"))
             .count(),
-        92
+        105
     );
     for fault in [
         "not reached: new segment with 16 (no room)",
@@ -110,6 +130,15 @@ fn what_is_not_reached_is_told() {
         "not tried: look, LastOfAll",
         "not tried: look, NodeBeyond",
         "not tried: look, Both(5, 8)",
+        "not reached: delete cluster with 22 (frozen)",
+        "not reached: freeze with 14 (absent)",
+        "not tried: damage AbsentWithMark, freeze",
+        "not tried: something frozen, LastAlone",
+        "not tried: freeze, Marked(7)",
+        "not tried: freeze, NodeOfOneByte",
+        "not tried: freeze, Both(9, 10)",
+        "not tried: delete cluster, Both(10, 22)",
+        "not tried: write, Both(22, 15)",
     ] {
         assert!(faults.contains(&fault.to_string()), "{fault}");
     }
@@ -118,6 +147,10 @@ fn what_is_not_reached_is_told() {
     assert!(tally
         .faults()
         .contains(&"not allowed: weaken with 1 (unsound)".to_string()));
+    tally.pairs.insert((10, 22), 1);
+    assert!(tally
+        .faults()
+        .contains(&"not allowed: freeze with 22 (frozen)".to_string()));
     tally.pairs.insert((LOOK, 15), 1);
     assert!(tally
         .faults()
@@ -127,10 +160,23 @@ fn what_is_not_reached_is_told() {
 #[test]
 fn what_two_copies_do_not_come_to_is_told() {
     let mut count = Count::default();
-    assert_eq!(count.faults().len(), 4);
+    assert_eq!(count.faults().len(), 8);
     (count.calls, count.done, count.naming, count.looks) = (4, 2, 1, 1);
-    let apart = "a look that the password alone keeps from the cluster set apart";
-    assert_eq!(count.faults(), [format!("not tried: two copies, {apart}")]);
-    count.looks_apart = 1;
+    (count.freezes, count.frozen, count.frozen_apart) = (1, 1, 1);
+    let apart = |what| {
+        format!("not tried: two copies, a {what} that the password alone keeps from the cluster set apart")
+    };
+    assert_eq!(count.faults(), [apart("look"), apart("freeze")]);
+    (count.looks_apart, count.freezes_apart) = (1, 1);
     assert!(count.faults().is_empty());
+}
+
+#[test]
+fn what_rows_on_frozen_segments_do_not_come_to_is_told() {
+    let mut count = stays::Count::default();
+    assert_eq!(count.faults().len(), 3);
+    (count.frozen, count.done) = (1, 1);
+    let what = "a call refused with 22 (frozen)";
+    let told = format!("not tried: what is frozen stays, {what}");
+    assert_eq!(count.faults(), [told]);
 }

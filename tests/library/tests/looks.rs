@@ -4,9 +4,10 @@
 #[path = "../../tests/support/faults.rs"]
 mod faults;
 
+use faults::Kind;
 use library::chance::bytes;
 use library::chance::damage::{inflict, Damage, LAST_PLACE};
-use library::chance::stores::{held, store, Fill};
+use library::chance::stores::{held, segments, store, Fill};
 use library::edges;
 use library::guard;
 use library::image::encode;
@@ -14,17 +15,21 @@ use library::question::{Held, Question};
 use model::call::{Call, Part, Reply};
 use model::handle::Handle;
 use model::random::Random;
-use model::sizes::{CLUSTERS, NODES, NODE_BYTES, SEGMENTS};
-use model::store::{Segment, Store};
+use model::sizes::{NODES, NODE_BYTES};
+use model::store::Place;
 
-/// The reply; image and memory have to stay as they were.
 fn look(held: &Held, node: usize, segment: usize, handle: Handle) -> Reply {
-    let mut after = held.clone();
     let call = Call::Look {
         node: node as u32,
         segment: segment as u32,
         handle,
     };
+    asked(held, call)
+}
+
+/// The reply; image and memory have to stay as they were.
+fn asked(held: &Held, call: Call) -> Reply {
+    let mut after = held.clone();
     let answer = guard::ask(&mut after, &Question::of(call));
     assert!(after == *held, "{call:?} changes something");
     answer.reply
@@ -54,15 +59,6 @@ fn read(held: &Held, segment: usize, handle: Handle) -> Result<Vec<u8>, u8> {
     }
 }
 
-/// Every segment of every active cluster, as node, local number and segment.
-fn segments(store: &Store) -> Vec<(usize, usize, usize)> {
-    let clusters = (0..NODES).flat_map(|node| (0..CLUSTERS).map(move |local| (node, local)));
-    let active = clusters.filter(|&(node, local)| store.clusters[node][local].active);
-    active
-        .flat_map(|(node, local)| (0..SEGMENTS).map(move |segment| (node, local, segment)))
-        .collect()
-}
-
 /// Looks at a segment by a handle that opens it; a read has to give the same. Tells whether it is shown.
 fn is_shown(held: &Held, at: (usize, usize), handle: Handle, expected: Reply) -> bool {
     let (node, segment) = at;
@@ -87,9 +83,9 @@ fn each_segment_where_its_record_says() {
         let held = held(random, &store);
         for (node, local, segment) in segments(&store) {
             let cluster = &store.clusters[node][local];
-            let expected = match cluster.segments[segment] {
-                Segment::Absent => Reply::refused(14),
-                Segment::Present { base, length } => {
+            let expected = match cluster.segments[segment].place {
+                Place::Absent => Reply::refused(14),
+                Place::Present { base, length } => {
                     shown(4096 * node + usize::from(base), length.into())
                 }
             };
@@ -111,17 +107,16 @@ fn each_segment_where_its_record_says() {
 #[test]
 fn numbers_in_their_order() {
     let random = &mut Random::from_seed(2);
-    for faulty in faults::all() {
+    for faulty in faults::all(Kind::Look) {
         let held = Held {
             image: encode(&faulty.store),
             memory: bytes(random, faulty.memory_bytes),
         };
-        let expected = match faulty.expected() {
-            Ok((from, length)) => shown(from, length),
-            Err(number) => Reply::refused(number),
+        let expected = match faulty.number() {
+            0 => shown(2 * 4096 + 100, 4),
+            number => Reply::refused(number),
         };
-        let (node, segment) = (faulty.node as usize, faulty.segment as usize);
-        let reply = look(&held, node, segment, faulty.handle);
+        let reply = asked(&held, faulty.call);
         assert_eq!(reply, expected, "{:?}", faulty.faults);
     }
 }
@@ -130,23 +125,23 @@ fn numbers_in_their_order() {
 #[test]
 fn nothing_of_a_damaged_store() {
     let random = &mut Random::from_seed(3);
-    for faulty in faults::all().filter(|faulty| !faulty.faults.contains(&1)) {
+    for faulty in faults::all(Kind::Look).filter(|faulty| !faulty.faults.contains(&1)) {
         let damage = Damage::ALL[random.below(Damage::ALL.len() as u64) as usize];
         for place in [(2, 6), (0, 0), LAST_PLACE] {
             let mut held = held(random, &faulty.store);
             inflict(random, &mut held, damage, place);
-            let (node, segment) = (faulty.node as usize, faulty.segment as usize);
-            let reply = look(&held, node, segment, faulty.handle);
+            let reply = asked(&held, faulty.call);
             assert_eq!(reply, Reply::refused(1), "{damage:?} at {place:?}");
         }
     }
     // A look that would be done, beside every kind of damage.
-    let right = faults::all().next().expect("the empty set is the first");
-    assert_eq!(right.expected(), Ok((2 * 4096 + 100, 4)));
+    let right = faults::all(Kind::Look).next();
+    let right = right.expect("the empty set is the first");
+    assert_eq!(right.number(), 0);
     for damage in Damage::ALL {
         let mut held = held(random, &right.store);
         inflict(random, &mut held, damage, LAST_PLACE);
-        let reply = look(&held, 2, 5, right.handle);
+        let reply = asked(&held, right.call);
         assert_eq!(reply, Reply::refused(1), "{damage:?}");
     }
 }
@@ -155,7 +150,8 @@ fn nothing_of_a_damaged_store() {
 #[test]
 fn by_read_handles_alone() {
     let random = &mut Random::from_seed(4);
-    let faulty = faults::all().next().expect("the empty set is the first");
+    let faulty = faults::all(Kind::Look).next();
+    let faulty = faulty.expect("the empty set is the first");
     let held = held(random, &faulty.store);
     let writer = Handle::primary(2, 6, faulty.store.clusters[2][6].write);
     let weaker = writer.weaken(0x20).expect("all are flat");

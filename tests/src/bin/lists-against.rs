@@ -2,12 +2,13 @@
 //! fault, or ends by a signal or with another status than 0, differs too. The lists have to reach all that lists can.
 
 use model::call::CALLS;
+use model::frozen::Case;
 use model::generate;
 use model::list::{reachable, request, run, Request, CODE_AT};
 use model::nothing::Way;
 use model::program::{Outcome, Program};
 use model::random::Random;
-use model::table::{word, EMPTY, LIST_LENGTH, LOOP, SPENT};
+use model::table::{word, EMPTY, FROZEN, LIST_LENGTH, LOOP, SPENT};
 use std::collections::BTreeMap;
 use std::ffi::OsString;
 use std::io;
@@ -27,13 +28,14 @@ struct Task {
     count: u64,
 }
 
-/// How often each call came to each number, how often one went each way to nothing, and each number
-/// that lists were refused with.
+/// How often each call came to each number, how often one went each way to nothing or met something frozen,
+/// and each number that lists were refused with.
 #[derive(Default)]
 struct Tally {
     calls: u64,
     pairs: BTreeMap<(u8, u8), u64>,
     ways: BTreeMap<Way, u64>,
+    cases: BTreeMap<Case, u64>,
     refused: BTreeMap<u8, u64>,
 }
 
@@ -46,10 +48,13 @@ impl Tally {
         let ways = Way::in_lists()
             .filter(|way| !self.ways.contains_key(way))
             .map(|way| format!("{way:?}"));
+        let cases = Case::in_lists()
+            .filter(|case| !self.cases.contains_key(case))
+            .map(|case| format!("something frozen, {case:?}"));
         let refused = (LIST_LENGTH..=LOOP)
             .filter(|number| !self.refused.contains_key(number))
             .map(|number| format!("a list refused with {}", in_words(number)));
-        pairs.chain(ways).chain(refused).collect()
+        pairs.chain(ways).chain(cases).chain(refused).collect()
     }
 }
 
@@ -73,13 +78,16 @@ fn task() -> Option<Task> {
 }
 
 fn expected(list: &[u8], tally: &mut Tally) -> Vec<u8> {
-    let text = run(list, |record, reply| {
+    let text = run(list, |found, record, reply| {
         tally.calls += 1;
         let code = match request(record) {
             Request::BadCode => NO_CALL,
             Request::Overlong(call) | Request::Call(call) => {
                 if let Some(way) = Way::of(&call, reply.number) {
                     *tally.ways.entry(way).or_default() += 1;
+                }
+                if let Some(case) = Case::of(found, &call, reply.number) {
+                    *tally.cases.entry(case).or_default() += 1;
                 }
                 record[CODE_AT]
             }
@@ -128,7 +136,7 @@ fn compare(task: &Task, tally: &mut Tally) -> io::Result<bool> {
 }
 
 fn print_tally(tally: &Tally) {
-    let numbers: Vec<u8> = (0..=SPENT).chain([EMPTY]).collect();
+    let numbers: Vec<u8> = (0..=SPENT).chain([EMPTY, FROZEN]).collect();
     let row = |name: &str, code: u8| {
         let count = |number: &u8| tally.pairs.get(&(code, *number)).copied();
         let cells = numbers.iter().map(|number| match count(number) {
@@ -144,6 +152,7 @@ fn print_tally(tally: &Tally) {
     }
     row("no call", NO_CALL);
     println!("ways to nothing: {:?}", tally.ways);
+    println!("something frozen: {:?}", tally.cases);
     for (number, count) in &tally.refused {
         println!("lists refused with {}: {count}", in_words(*number));
     }

@@ -9,13 +9,13 @@ use crate::list::{
 };
 use crate::random::Random;
 use crate::sizes::{CLUSTERS, HANDLE_BYTES, NODES, NODE_BYTES, PASSWORD_BYTES, SEGMENTS};
-use crate::store::{Mode, Segment};
+use crate::store::Mode;
 
 /// Few passwords, so that equal ones meet.
 const PASSWORDS: u64 = 5;
 /// Codes as often as they are wanted: what fills the store comes more often than what empties it.
-const CODES: [u8; 24] = [
-    1, 1, 1, 2, 3, 3, 3, 3, 3, 4, 5, 5, 5, 5, 6, 6, 6, 6, 7, 7, 8, 8, 9, 9,
+const CODES: [u8; 28] = [
+    1, 1, 1, 2, 2, 3, 3, 3, 3, 3, 4, 4, 5, 5, 5, 5, 6, 6, 6, 6, 7, 7, 8, 8, 9, 9, 10, 10,
 ];
 
 pub struct Maker {
@@ -45,7 +45,7 @@ impl Maker {
         record[CODE_AT] = code;
         match code {
             call::NEW_CLUSTER => self.new_cluster(&mut record),
-            call::DELETE_CLUSTER | call::NEW_SEGMENT | call::DELETE_SEGMENT => {
+            call::DELETE_CLUSTER | call::NEW_SEGMENT | call::DELETE_SEGMENT | call::FREEZE => {
                 self.local_call(&mut record);
             }
             call::READ => self.move_bytes(&mut record, Mode::Read),
@@ -121,7 +121,7 @@ impl Maker {
         let referenced_only = !self.random.one_in(4);
         let fits = |segment: &u8| {
             let at = usize::from(*segment);
-            let is_present = cluster.is_some_and(|cluster| cluster.segments[at] != Segment::Absent);
+            let is_present = cluster.is_some_and(|cluster| cluster.segments[at].is_present());
             is_present == present && (!referenced_only || handle.selector.references(at))
         };
         let fitting: Vec<u8> = (0..SEGMENTS as u8).filter(fits).collect();
@@ -139,9 +139,9 @@ impl Maker {
         record[FIRST_PASSWORD_AT..].copy_from_slice(&passwords.concat());
     }
 
-    /// Calls 2, 3 and 4.
+    /// Calls 2, 3, 4 and 10.
     fn local_call(&mut self, record: &mut Record) {
-        let wanted = record[CODE_AT] == call::DELETE_SEGMENT;
+        let wanted = matches!(record[CODE_AT], call::DELETE_SEGMENT | call::FREEZE);
         let wish = Wish {
             mode: Mode::Write,
             primary: true,

@@ -139,3 +139,11 @@ pub fn delete_segment(segment: u32) -> Call {
         handle: writer(),
     }
 }
+
+pub fn freeze(segment: u32) -> Call {
+    Call::Freeze {
+        node: 0,
+        segment,
+        handle: writer(),
+    }
+}

@@ -7,6 +7,7 @@ use library::guard;
 use library::published;
 use library::runs::{self, RUN_CALLS};
 use library::single;
+use library::stays;
 use library::tally::Tally;
 use std::process::ExitCode;
 
@@ -33,10 +34,15 @@ fn task() -> Option<Task> {
     arguments.next().is_none().then_some(Task { seed, calls })
 }
 
-/// Every comparison in turn, up to the first difference. Gives what the two copies did not come to.
+/// A difference with the name of the comparison before it.
+fn named(what: &'static str) -> impl Fn(String) -> String {
+    move |case| format!("{what}, {case}")
+}
+
+/// Every comparison in turn, up to the first difference. Gives what had to be tried and was not, save for what
+/// the tally tells.
 fn compare(task: &Task, tally: &mut Tally) -> Result<Vec<String>, String> {
     let Task { seed, calls } = *task;
-    let named = |what: &'static str| move |case| format!("{what}, {case}");
     single::compare(guard::ask, seed, calls, tally).map_err(named("single calls"))?;
     println!("single calls: {calls}, each with a soundness and a conversion");
 
@@ -44,7 +50,34 @@ fn compare(task: &Task, tally: &mut Tally) -> Result<Vec<String>, String> {
     runs::compare(guard::ask, seed, count, tally).map_err(named("long rows"))?;
     let in_rows = count * RUN_CALLS;
     println!("long rows: {count}, with {in_rows} calls");
+    let not_frozen = what_is_frozen(task)?;
 
+    edges(seed)?;
+
+    let count = calls.div_ceil(CALLS_PER_BATCH);
+    let validations =
+        batch::compare(guard::validate_all, seed, count, tally).map_err(named("batches"))?;
+    println!("batches: {count}, with {validations} validations");
+
+    let not_copied = two_copies(task)?;
+
+    let lines = published::confirm(published::TEXT)?;
+    println!("published handles: {lines} lines confirmed");
+    Ok([not_frozen, not_copied].concat())
+}
+
+fn what_is_frozen(task: &Task) -> Result<Vec<String>, String> {
+    let rows = task.calls.div_ceil(RUN_CALLS);
+    let count =
+        stays::compare(guard::ask, task.seed, rows).map_err(named("what is frozen stays"))?;
+    println!(
+        "what is frozen stays: {rows} rows, with {} frozen segments, {} calls done, {} refused with 22",
+        count.frozen, count.done, count.refused
+    );
+    Ok(count.faults())
+}
+
+fn edges(seed: u64) -> Result<(), String> {
     let images = edges::every_byte(guard::is_sound, seed).map_err(named("every byte"))?;
     println!("images with one byte changed: {images}");
     let (images, sound) =
@@ -52,29 +85,33 @@ fn compare(task: &Task, tally: &mut Tally) -> Result<Vec<String>, String> {
     println!(
         "images with two segments about the borders of words: {images}, {sound} of them sound"
     );
-
     let (looks, done) = edges::looks(guard::ask, seed).map_err(named("edges of looks"))?;
     println!("looks at the edges: {looks}, {done} of them done");
+    let (freezes, done) = edges::freezes(guard::ask, seed).map_err(named("edges of freezes"))?;
+    println!("freezes at the edges: {freezes}, {done} of them done");
+    Ok(())
+}
 
-    let count = calls.div_ceil(CALLS_PER_BATCH);
-    let validations =
-        batch::compare(guard::validate_all, seed, count, tally).map_err(named("batches"))?;
-    println!("batches: {count}, with {validations} validations");
-
-    let count = calls.div_ceil(CALLS_PER_PAIR);
-    let in_copies = copies::compare(guard::ask, seed, count).map_err(named("two copies"))?;
+fn two_copies(task: &Task) -> Result<Vec<String>, String> {
+    let pairs = task.calls.div_ceil(CALLS_PER_PAIR);
+    let count = copies::compare(guard::ask, task.seed, pairs).map_err(named("two copies"))?;
     println!(
-        "two copies: {count} pairs, with {} calls, {} of them done, {} naming the cluster set apart",
-        in_copies.calls, in_copies.done, in_copies.naming
+        "two copies: {pairs} pairs, with {} calls, {} of them done, {} naming the cluster set apart",
+        count.calls, count.done, count.naming
     );
+    for (what, done, apart) in [
+        ("looks", count.looks, count.looks_apart),
+        ("freezes", count.freezes, count.freezes_apart),
+    ] {
+        println!(
+            "{what} in two copies: {done} done, {apart} kept from the cluster set apart by the password alone"
+        );
+    }
     println!(
-        "looks in two copies: {} done, {} kept from the cluster set apart by the password alone",
-        in_copies.looks, in_copies.looks_apart
+        "frozen in two copies: {} calls refused with 22, {} clusters set apart with some",
+        count.frozen, count.frozen_apart
     );
-
-    let lines = published::confirm(published::TEXT)?;
-    println!("published handles: {lines} lines confirmed");
-    Ok(in_copies.faults())
+    Ok(count.faults())
 }
 
 fn main() -> ExitCode {
@@ -84,7 +121,7 @@ fn main() -> ExitCode {
     };
     println!("seed {}", task.seed);
     let mut tally = Tally::default();
-    let in_copies = match compare(&task, &mut tally) {
+    let not_tried = match compare(&task, &mut tally) {
         Ok(faults) => faults,
         Err(difference) => {
             println!("{difference}");
@@ -92,7 +129,7 @@ fn main() -> ExitCode {
         }
     };
     println!("{tally}");
-    let faults = [tally.faults(), in_copies].concat();
+    let faults = [tally.faults(), not_tried].concat();
     for fault in &faults {
         println!("{fault}");
     }

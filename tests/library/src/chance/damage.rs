@@ -2,7 +2,7 @@
 
 use super::faults::fault;
 use super::{below, bytes};
-use crate::image::{decode, encode, record_at, segment_at, SEGMENTS_AT};
+use crate::image::{decode, encode, record_at, segment_at, MARK_AT, SEGMENTS_AT};
 use crate::question::Held;
 use model::random::Random;
 use model::sizes::{CLUSTERS, MEMORY_BYTES, NODES, NODE_BYTES, SEGMENTS};
@@ -24,8 +24,16 @@ pub enum Damage {
     InactiveWithLastPasswordByte,
     InactiveWithBase,
     InactiveWithSegment,
-    /// The last byte of the record: a length of 1 at base 0.
+    /// The last byte of the record: a mark of 1 on its last segment.
     InactiveWithLastByte,
+    InactiveWithMark,
+    InactiveWithMarkAbove,
+    /// A mark of 1 on an absent segment, and one that is no mark.
+    AbsentWithMark,
+    AbsentWithMarkAbove,
+    /// On a present segment.
+    MarkTwo,
+    MarkAbove,
     BaseAbove,
     LengthAbove,
     EndAbove,
@@ -44,7 +52,7 @@ pub enum Damage {
 }
 
 impl Damage {
-    pub const ALL: [Damage; 22] = [
+    pub const ALL: [Damage; 28] = [
         Damage::MemoryShort,
         Damage::MemoryLong,
         Damage::ActiveByteTwo,
@@ -56,6 +64,12 @@ impl Damage {
         Damage::InactiveWithBase,
         Damage::InactiveWithSegment,
         Damage::InactiveWithLastByte,
+        Damage::InactiveWithMark,
+        Damage::InactiveWithMarkAbove,
+        Damage::AbsentWithMark,
+        Damage::AbsentWithMarkAbove,
+        Damage::MarkTwo,
+        Damage::MarkAbove,
         Damage::BaseAbove,
         Damage::LengthAbove,
         Damage::EndAbove,
@@ -85,9 +99,10 @@ pub fn inflict(random: &mut Random, held: &mut Held, damage: Damage, place: (usi
         }
         _ => {
             let mut store = decode(&held.image).expect("it was sound");
-            fault(random, &mut store, damage, place);
+            let segment = below(random, SEGMENTS);
+            fault(random, &mut store, damage, place, segment);
             held.image = encode(&store);
-            damage_bytes(random, held, damage, place);
+            damage_bytes(random, held, damage, place, segment);
         }
     }
 }
@@ -111,19 +126,36 @@ fn long(random: &mut Random) -> usize {
 }
 
 /// Damage that only an image can hold.
-fn damage_bytes(random: &mut Random, held: &mut Held, damage: Damage, place: (usize, usize)) {
-    let record = &mut held.image[record_at(place.0, place.1)];
+fn damage_bytes(
+    random: &mut Random,
+    held: &mut Held,
+    damage: Damage,
+    (node, local): (usize, usize),
+    segment: usize,
+) {
+    let record = record_at(node, local).start;
+    let place = &mut held.image[segment_at(node, local, segment)];
     match damage {
-        Damage::ActiveByteTwo => record[0] = 2,
-        Damage::ActiveByteAbove => record[0] = 3 + random.below(253) as u8,
-        Damage::InactiveWithLastPasswordByte => record[SEGMENTS_AT - 1] = 1 << random.below(8),
         Damage::AbsentWithBase | Damage::InactiveWithBase => {
-            let segment = below(random, SEGMENTS);
             let [b0, b1] = base_alone(random).to_be_bytes();
-            held.image[segment_at(place.0, place.1, segment)].copy_from_slice(&[b0, b1, 0, 0]);
+            place.copy_from_slice(&[b0, b1, 0, 0, 0]);
+        }
+        Damage::MarkTwo => place[MARK_AT] = 2,
+        Damage::MarkAbove => place[MARK_AT] = above_two(random),
+        Damage::AbsentWithMarkAbove | Damage::InactiveWithMarkAbove => {
+            place[MARK_AT] = 2 + random.below(254) as u8;
+        }
+        Damage::ActiveByteTwo => held.image[record] = 2,
+        Damage::ActiveByteAbove => held.image[record] = above_two(random),
+        Damage::InactiveWithLastPasswordByte => {
+            held.image[record + SEGMENTS_AT - 1] = 1 << random.below(8);
         }
         _ => {}
     }
+}
+
+fn above_two(random: &mut Random) -> u8 {
+    3 + random.below(253) as u8
 }
 
 fn base_alone(random: &mut Random) -> u16 {

@@ -13,12 +13,17 @@ const TWO_BYTES: usize = 1 << 16;
 
 /// Puts something wrong into the cluster at `place`, or makes it what damage to its bytes needs:
 /// active, or inactive with nothing in it.
-pub fn fault(random: &mut Random, store: &mut Store, damage: Damage, place: (usize, usize)) {
+pub fn fault(
+    random: &mut Random,
+    store: &mut Store,
+    damage: Damage,
+    place: (usize, usize),
+    segment: usize,
+) {
     match damage {
         Damage::BaseAbove | Damage::LengthAbove | Damage::EndAbove | Damage::LastByteAndOneMore => {
             let extent = out_of_range(random, store, damage, place.0);
             make_room(store, place.0, extent);
-            let segment = below(random, SEGMENTS);
             *segment_of(random, store, place, segment) = present(extent.base, extent.length);
         }
         Damage::OverlapInACluster => overlap(random, store, place, place),
@@ -27,12 +32,16 @@ pub fn fault(random: &mut Random, store: &mut Store, damage: Damage, place: (usi
             overlap(random, store, place, other);
         }
         Damage::ActiveByteTwo | Damage::ActiveByteAbove => {}
-        Damage::AbsentWithBase => {
-            segment_of(random, store, place, 0);
+        Damage::AbsentWithBase | Damage::AbsentWithMarkAbove => {
+            *segment_of(random, store, place, segment) = Segment::ABSENT;
         }
+        Damage::AbsentWithMark => {
+            *segment_of(random, store, place, segment) = Segment::ABSENT.marked();
+        }
+        Damage::MarkTwo | Damage::MarkAbove => present_somewhere(random, store, place, segment),
         _ => match sharing_words(random, damage) {
             Some(extents) => put_both(random, store, extents, place),
-            None => inactive_with(random, store, damage, place),
+            None => inactive_with(random, store, damage, place, segment),
         },
     }
 }
@@ -56,13 +65,28 @@ fn segment_of<'a>(
     &mut cluster.segments[segment]
 }
 
+/// Makes a segment present if it was not, of one byte.
+fn present_somewhere(
+    random: &mut Random,
+    store: &mut Store,
+    place: (usize, usize),
+    segment: usize,
+) {
+    if segment_of(random, store, place, segment).is_present() {
+        return;
+    }
+    let base = store.place(place.0, 1).unwrap_or(0);
+    make_room(store, place.0, Extent { base, length: 1 });
+    *segment_of(random, store, place, segment) = present(base, 1);
+}
+
 /// Takes away every segment of the node that has a byte of the extent.
 fn make_room(store: &mut Store, node: usize, extent: Extent) {
     let clusters = store.clusters[node].iter_mut();
     for segment in clusters.flat_map(|cluster| &mut cluster.segments) {
         let taken = segment.extent();
         if taken.is_some_and(|taken| taken.base < extent.end() && extent.base < taken.end()) {
-            *segment = Segment::Absent;
+            *segment = Segment::ABSENT;
         }
     }
 }
@@ -184,6 +208,7 @@ fn inactive_with(
     store: &mut Store,
     damage: Damage,
     (node, local): (usize, usize),
+    segment: usize,
 ) {
     let mut cluster = Cluster::INACTIVE;
     store.clusters[node][local] = cluster;
@@ -194,9 +219,10 @@ fn inactive_with(
         Damage::InactiveWithWritePassword => cluster.write[at] = byte,
         Damage::InactiveWithSegment => {
             let base = store.place(node, 1).unwrap_or(0);
-            cluster.segments[at % SEGMENTS] = present(base, 1);
+            cluster.segments[segment] = present(base, 1);
         }
-        Damage::InactiveWithLastByte => cluster.segments[SEGMENTS - 1] = present(0, 1),
+        Damage::InactiveWithMark => cluster.segments[segment].frozen = true,
+        Damage::InactiveWithLastByte => cluster.segments[SEGMENTS - 1].frozen = true,
         _ => {}
     }
     store.clusters[node][local] = cluster;

@@ -1,9 +1,9 @@
 //! What calls are tried with, made by chance: equal states of a [`Random`] make equal cases.
 
+mod aimed;
 pub mod damage;
 mod faults;
 pub mod handles;
-mod looks;
 pub mod questions;
 pub mod stores;
 pub mod words;

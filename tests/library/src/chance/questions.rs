@@ -11,11 +11,11 @@ use model::sizes::{CLUSTERS, NODES, NODE_BYTES, SEGMENTS};
 use model::store::{Cluster, Mode, Segment, Store};
 
 /// Codes for single calls: all alike.
-pub const EVENLY: [u8; 11] = [1, 2, 3, 4, 5, 6, 7, 8, 9, VALIDATION, LOOK];
+pub const EVENLY: [u8; 12] = [1, 2, 3, 4, 5, 6, 7, 8, 9, 10, VALIDATION, LOOK];
 /// Codes for rows of calls: what fills the store comes more often than what empties it.
-pub const FILLING: [u8; 29] = [
-    1, 1, 1, 2, 3, 3, 3, 3, 3, 4, 5, 5, 5, 5, 6, 6, 6, 6, 7, 7, 8, 8, 9, 9, VALIDATION, LOOK, LOOK,
-    LOOK, LOOK,
+pub const FILLING: [u8; 31] = [
+    1, 1, 1, 2, 3, 3, 3, 3, 3, 4, 5, 5, 5, 5, 6, 6, 6, 6, 7, 7, 8, 8, 9, 9, 10, 10, VALIDATION,
+    LOOK, LOOK, LOOK, LOOK,
 ];
 
 /// Modes are numbered from 1.
@@ -44,6 +44,7 @@ impl Maker<'_> {
             call::WEAKEN => self.weaken(),
             call::REDUCE => self.reduce(),
             call::NEW_PASSWORD => self.new_password(),
+            call::FREEZE => self.freeze(),
             LOOK => self.look(),
             _ => self.validate(),
         };
@@ -117,8 +118,7 @@ impl Maker<'_> {
         let referenced_only = !self.random.one_in(4);
         let cluster = self.cluster(handle);
         let fits = |&segment: &usize| {
-            let is_present =
-                cluster.is_some_and(|cluster| cluster.segments[segment] != Segment::Absent);
+            let is_present = cluster.is_some_and(|cluster| cluster.segments[segment].is_present());
             is_present == present && (!referenced_only || handle.selector.references(segment))
         };
         let fitting: Vec<usize> = (0..SEGMENTS).filter(fits).collect();

@@ -5,9 +5,12 @@ use super::{below, bytes, password};
 use crate::image::encode;
 use crate::question::Held;
 use model::random::Random;
-use model::sizes::{CLUSTERS, MEMORY_BYTES, NODE_BYTES, SEGMENTS};
+use model::sizes::{CLUSTERS, MEMORY_BYTES, NODES, NODE_BYTES, SEGMENTS};
 use model::store::{Cluster, Extent, Segment, Store};
 use std::collections::BTreeSet;
+
+/// How many of so many segments are frozen is chosen for a store.
+const FROZEN_OF: u64 = 8;
 
 #[derive(Clone, Copy, Debug, PartialEq, Eq, PartialOrd, Ord)]
 pub enum Fill {
@@ -55,7 +58,22 @@ pub fn store(random: &mut Random, fill: Fill) -> Store {
             Fill::AtWords => at_words(random, clusters),
         }
     }
+    freeze_some(random, &mut store);
     store
+}
+
+/// Marks no present segment, all of them, or some.
+fn freeze_some(random: &mut Random, store: &mut Store) {
+    let share = match random.below(8) {
+        0 | 1 => 0,
+        2 => FROZEN_OF,
+        _ => 1 + random.below(FROZEN_OF / 2),
+    };
+    let clusters = store.clusters.as_flattened_mut().iter_mut();
+    let segments = clusters.flat_map(|cluster| &mut cluster.segments);
+    for segment in segments.filter(|segment| segment.is_present()) {
+        segment.frozen = random.below(FROZEN_OF) < share;
+    }
 }
 
 /// The store with a memory that has any bytes.
@@ -176,10 +194,16 @@ fn put(clusters: &mut [Cluster; CLUSTERS], places: &[(usize, usize)], parts: &[E
 }
 
 pub fn present(base: usize, length: usize) -> Segment {
-    Segment::Present {
-        base: base as u16,
-        length: length as u16,
-    }
+    Segment::present(base as u16, length as u16)
+}
+
+/// Every segment of every active cluster, as node, local number and segment.
+pub fn segments(store: &Store) -> Vec<(usize, usize, usize)> {
+    let clusters = (0..NODES).flat_map(|node| (0..CLUSTERS).map(move |local| (node, local)));
+    let active = clusters.filter(|&(node, local)| store.clusters[node][local].active);
+    active
+        .flat_map(|(node, local)| (0..SEGMENTS).map(move |segment| (node, local, segment)))
+        .collect()
 }
 
 /// The present segments of a node in the order of their bases.

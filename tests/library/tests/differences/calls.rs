@@ -2,7 +2,9 @@
 //! Each wraps the library, and changes either what the library is asked or what it answers.
 
 use library::compare::Guard;
-use library::image::{record_at, IMAGE_BYTES, RECORD_BYTES, SEGMENTS_AT, SEGMENT_BYTES};
+use library::image::{
+    record_at, IMAGE_BYTES, LENGTH_AT, MARK_AT, RECORD_BYTES, SEGMENTS_AT, SEGMENT_BYTES,
+};
 use library::question::Question;
 use library::tally::Tally;
 use library::{guard, runs, single};
@@ -236,8 +238,8 @@ fn bases_of_absent_segments_overlooked() {
         |held, question| {
             for record in held.image.chunks_exact_mut(RECORD_BYTES) {
                 for place in record[SEGMENTS_AT..].chunks_exact_mut(SEGMENT_BYTES) {
-                    if place[2..] == [0, 0] {
-                        place.fill(0);
+                    if place[LENGTH_AT..MARK_AT] == [0, 0] {
+                        place[..LENGTH_AT].fill(0);
                     }
                 }
             }

@@ -5,13 +5,14 @@ use library::batch::{self, BatchGuard};
 use library::compare::{is_sound, Guard};
 use library::edges::{self, Judge};
 use library::image::{
-    decode, encode, Image, IMAGE_BYTES, RECORD_BYTES, SEGMENTS_AT, SEGMENT_BYTES,
+    decode, encode, Image, IMAGE_BYTES, LENGTH_AT, MARK_AT, RECORD_BYTES, SEGMENTS_AT,
+    SEGMENT_BYTES,
 };
 use library::question::Held;
 use library::tally::Tally;
 use library::{guard, single};
 use model::sizes::{MEMORY_BYTES, NODE_BYTES};
-use model::store::{Extent, Segment, Store};
+use model::store::{Extent, Place, Segment, Store};
 
 const SEED: u64 = 7;
 const CALLS: u64 = 20_000;
@@ -65,6 +66,10 @@ fn places(image: &mut Image) -> impl Iterator<Item = &mut [u8]> {
     records.flat_map(|record| record[SEGMENTS_AT..].chunks_exact_mut(SEGMENT_BYTES))
 }
 
+fn absent(image: &mut Image) -> impl Iterator<Item = &mut [u8]> {
+    places(image).filter(|place| place[LENGTH_AT..MARK_AT] == [0, 0])
+}
+
 overlooked!(the_last_record, |image| image[LAST_RECORD..].fill(0));
 
 overlooked!(an_active_byte_of_2, |image| {
@@ -90,12 +95,42 @@ overlooked!(the_segments_of_an_inactive_cluster, |image| {
 });
 
 overlooked!(the_base_of_an_absent_segment, |image| {
-    let absent = places(image).filter(|place| place[2..] == [0, 0]);
-    absent.for_each(|place| place.fill(0));
+    absent(image).for_each(|place| place[..LENGTH_AT].fill(0));
+});
+
+overlooked!(a_mark_on_an_absent_segment, |image| {
+    absent(image)
+        .filter(|place| place[MARK_AT] == 1)
+        .for_each(|place| place[MARK_AT] = 0);
+});
+
+overlooked!(a_mark_in_an_inactive_cluster, |image| {
+    for record in inactive_records(image) {
+        let places = record[SEGMENTS_AT..].chunks_exact_mut(SEGMENT_BYTES);
+        places.for_each(|place| place[MARK_AT] = 0);
+    }
+});
+
+overlooked!(a_mark_of_2, |image| {
+    places(image).for_each(|place| place[MARK_AT] -= u8::from(place[MARK_AT] == 2));
+});
+
+overlooked!(any_mark_taken_for_frozen, |image| {
+    places(image).for_each(|place| place[MARK_AT] = place[MARK_AT].min(1));
+});
+
+overlooked!(any_mark_taken_for_none, |image| {
+    for place in places(image).filter(|place| place[MARK_AT] > 1) {
+        place[MARK_AT] = 0;
+    }
+});
+
+overlooked!(the_marks_of_absent_segments, |image| {
+    absent(image).for_each(|place| place[MARK_AT] = 0);
 });
 
 overlooked!(one_byte_behind_the_node, |image| {
-    for place in places(image).filter(|place| **place == [0x0f, 0xff, 0, 2]) {
+    for place in places(image).filter(|place| place[..MARK_AT] == [0x0f, 0xff, 0, 2]) {
         place[3] = 1;
     }
 });
@@ -113,15 +148,12 @@ fn shorten(image: &mut Image, byte_of_a_word: u16) {
     mend_store(image, |store| {
         let clusters = store.clusters.as_flattened_mut().iter_mut();
         for segment in clusters.flat_map(|cluster| &mut cluster.segments) {
-            *segment = match *segment {
-                Segment::Present { base, length } if base % 64 == byte_of_a_word => match length {
-                    1 => Segment::Absent,
-                    _ => Segment::Present {
-                        base: base + 1,
-                        length: length - 1,
-                    },
+            *segment = match segment.place {
+                Place::Present { base, length } if base % 64 == byte_of_a_word => match length {
+                    1 => Segment::ABSENT,
+                    _ => Segment::present(base + 1, length - 1),
                 },
-                other => other,
+                _ => *segment,
             };
         }
     });
@@ -143,7 +175,7 @@ fn hide(image: &mut Image, hidden: fn(Extent, Extent) -> bool) {
                 .flat_map(|cluster| &mut cluster.segments)
             {
                 if segment.extent().is_some_and(is_hidden) {
-                    *segment = Segment::Absent;
+                    *segment = Segment::ABSENT;
                 }
             }
         }
@@ -174,14 +206,14 @@ fn a_byte_of_an_image() {
         guard::is_sound(&mut seen, MEMORY_BYTES)
     };
     let told = edges::every_byte(judge, SEED).expect_err("the last byte is overlooked");
-    assert!(told.contains("byte 2079 made"), "{told}");
+    assert!(told.contains("byte 2335 made"), "{told}");
 }
 
 #[test]
 fn touching_taken_for_sharing() {
     let judge: Judge = |image, size| {
         let mut longer = *image;
-        for place in places(&mut longer).filter(|place| place[2..] == [0, 63]) {
+        for place in places(&mut longer).filter(|place| place[LENGTH_AT..MARK_AT] == [0, 63]) {
             place[3] = 64;
         }
         guard::is_sound(image, size) && guard::is_sound(&mut longer, size)

@@ -3,6 +3,8 @@
 mod calls;
 mod copies;
 mod damage;
+mod freezes;
 mod looks;
 mod modes;
 mod nothing;
+mod seen;

@@ -129,6 +129,7 @@ fn on_what_is_there(store: &Store) -> impl Iterator<Item = Row> + '_ {
     let calls = [
         ("2 delete cluster", Call::DeleteCluster { node, handle }),
         ("4 delete segment", Call::DeleteSegment { node, segment, handle }),
+        ("10 freeze", Call::Freeze { node, segment, handle }),
         ("5 read, primary", Call::Read { segment, handle: reader }),
         ("look, primary", Call::Look { node, segment, handle: reader }),
         ("6 write, primary", Call::Write { segment, handle }),

@@ -8,7 +8,7 @@ use model::store::{Cluster, Segment, Store};
 /// The cluster that calls are about, and one that a call can make.
 pub const PLACE: (usize, usize) = (2, 3);
 pub const FREE_PLACE: (usize, usize) = (2, 6);
-/// The segment that is read, looked at, written and deleted.
+/// The segment that is read, looked at, written, frozen and deleted.
 pub const SEGMENT: usize = 1;
 
 pub const TYPICAL_CLUSTERS: usize = 5;
@@ -43,10 +43,7 @@ fn cluster(node: usize, local: usize) -> Cluster {
 }
 
 fn present(base: usize, length: usize) -> Segment {
-    Segment::Present {
-        base: base as u16,
-        length: length as u16,
-    }
+    Segment::present(base as u16, length as u16)
 }
 
 /// Every node has `clusters` active clusters of `segments` segments each, one after the other.
@@ -99,7 +96,7 @@ pub fn full_but_a_cluster() -> Store {
 /// The full store without the last segment of the cluster that calls are about.
 pub fn full_but_a_segment() -> Store {
     let mut store = full();
-    store.clusters[PLACE.0][PLACE.1].segments[SEGMENTS - 1] = Segment::Absent;
+    store.clusters[PLACE.0][PLACE.1].segments[SEGMENTS - 1] = Segment::ABSENT;
     store
 }
 
@@ -110,7 +107,7 @@ pub fn falling() -> Store {
         let segments = store.clusters[node].iter_mut();
         let present_ones = segments
             .flat_map(|cluster| &mut cluster.segments)
-            .filter(|segment| **segment != Segment::Absent);
+            .filter(|segment| segment.is_present());
         for (at, segment) in present_ones.rev().enumerate() {
             *segment = present(at * FULL_LENGTH, FULL_LENGTH);
         }

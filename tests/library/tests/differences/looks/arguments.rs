@@ -1,6 +1,7 @@
 //! Looks that do not see damage, and looks whose arguments are cut.
 
-use super::{found_out, instead, is_look, names, numbers_differ, refused_if, showing, CALLS, SEED};
+use super::{found_out, instead, is_look, numbers_differ, showing};
+use crate::seen::{names, refused_if, CALLS, SEED};
 use library::compare::Guard;
 use library::image::encode;
 use library::question::BEYOND;
@@ -14,7 +15,8 @@ use model::table::{DONE, FIELD, NO_SUCH_PLACE, UNSOUND};
 /// Found out by single calls; long rows come to no damage.
 fn found_out_by_damage(guard: Guard, wrong: u8) {
     let told = single::compare(guard, SEED, CALLS, &mut Tally::default());
-    names(&told.expect_err("a number is wrong"), UNSOUND, wrong);
+    let told = told.expect_err("a number is wrong");
+    names(&told, "Look", UNSOUND, wrong);
 }
 
 #[test]

@@ -1,6 +1,7 @@
 //! Looks that change something, and looks that tell of a cluster set apart.
 
-use super::{found_out, is_look, showing, SEED};
+use super::{found_out, is_look, showing};
+use crate::seen::SEED;
 use library::compare::Guard;
 use library::image::decode;
 use library::question::{Answer, Held, Question};

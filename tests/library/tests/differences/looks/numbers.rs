@@ -1,53 +1,16 @@
 //! Looks with a number that is not looked at, one too many, or one in another place.
 
-use super::{instead, numbers_differ, refused_if, Seen};
+use super::{instead, numbers_differ};
+use crate::seen::{refused_if, Seen};
 use library::image::encode;
 use model::call::{Call, Reply};
 use model::handle::Handle;
-use model::sizes::{CLUSTERS, NODES, SEGMENTS};
-use model::store::{Cluster, Segment};
+use model::sizes::NODES;
+use model::store::Cluster;
 use model::table::{
     ABSENT, DONE, ELSEWHERE, FIELD, GAPPED, INACTIVE, NOT_PRIMARY, NOT_REFERENCED, NO_SUCH_PLACE,
     SHORT, VIOLATED_PROTECTION,
 };
-
-impl Seen {
-    fn is_nowhere(&self) -> bool {
-        let handle = self.handle;
-        usize::from(handle.node) >= NODES || usize::from(handle.local) >= CLUSTERS
-    }
-
-    fn is_no_segment(&self) -> bool {
-        self.segment as usize >= SEGMENTS
-    }
-
-    fn is_gapped(&self) -> bool {
-        self.handle.selector.is_gapped()
-    }
-
-    fn is_elsewhere(&self) -> bool {
-        self.node != u32::from(self.handle.node)
-    }
-
-    fn is_not_referenced(&self) -> bool {
-        !self.handle.selector.references(self.segment as usize)
-    }
-
-    fn is_absent(&self) -> bool {
-        let cluster = self.cluster();
-        let segment = cluster.and_then(|own| own.segments.get(self.segment as usize).copied());
-        segment == Some(Segment::Absent)
-    }
-
-    /// The same look in the node of its handle.
-    fn at_home(&self) -> Reply {
-        self.asked(|_, question| {
-            if let Call::Look { node, handle, .. } = &mut question.call {
-                *node = handle.node.into();
-            }
-        })
-    }
-}
 
 /// A test for a library that gives `$wrong` where the model gives `$right`, if `$other` has it so.
 macro_rules! wrong_number {
@@ -102,9 +65,12 @@ wrong_number!(short_as_if_it_had_a_buffer_of_no_bytes, DONE, SHORT, |_| {
     Some(Reply::refused(SHORT))
 });
 
-another_order!(primary_handles_alone, DONE, NOT_PRIMARY, |seen| {
-    !seen.handle.selector.is_primary()
-});
+another_order!(
+    primary_handles_alone,
+    DONE,
+    NOT_PRIMARY,
+    Seen::is_not_primary
+);
 
 // Another order.
 
@@ -131,9 +97,12 @@ another_order!(
     Seen::is_elsewhere
 );
 
-another_order!(inactive_before_elsewhere, ELSEWHERE, INACTIVE, |seen| {
-    seen.cluster().is_some_and(|cluster| !cluster.active)
-});
+another_order!(
+    inactive_before_elsewhere,
+    ELSEWHERE,
+    INACTIVE,
+    Seen::is_inactive
+);
 
 another_order!(
     violated_before_elsewhere,

@@ -1,6 +1,7 @@
 //! Looks that show another part, and refusals that show one.
 
-use super::{found_out, instead, is_look, showing, CALLS, SEED};
+use super::{found_out, instead, is_look, showing};
+use crate::seen::{CALLS, SEED};
 use library::compare::Guard;
 use library::image::decode;
 use library::question::{Answer, Held, Question};

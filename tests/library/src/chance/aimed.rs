@@ -1,5 +1,5 @@
-//! Looks by chance. What speaks against a look seldom meets by itself, so that half of them are made from
-//! one that would be done: none, one or two things are made wrong in it.
+//! Looks and freezes by chance. What speaks against one of them seldom meets by itself, so that half of them
+//! are made from one that would be done: none, one or two things are made wrong in it.
 
 use super::below;
 use super::handles::{self, gapped};
@@ -11,16 +11,18 @@ use model::random::Random;
 use model::sizes::{NODES, PASSWORD_BYTES, SEGMENTS};
 use model::store::{Cluster, Mode, Segment, Store};
 
-struct Look {
+/// What a call about one segment of a node is asked with.
+struct Aimed {
     node: u32,
     segment: u32,
     handle: Handle,
 }
 
-/// In the order in which two of them are put into one look.
+/// In the order in which two of them are put into one call.
 #[derive(Clone, Copy)]
 enum Fault {
     Absent,
+    /// By a handle that is not primary either.
     NotReferenced,
     NotValid,
     Inactive,
@@ -45,35 +47,45 @@ impl Fault {
 
 impl Maker<'_> {
     pub(super) fn look(&mut self) -> Call {
+        let aimed = self.aimed(Mode::Read);
+        Call::Look {
+            node: aimed.node,
+            segment: aimed.segment,
+            handle: aimed.handle,
+        }
+    }
+
+    pub(super) fn freeze(&mut self) -> Call {
+        let aimed = self.aimed(Mode::Write);
+        Call::Freeze {
+            node: aimed.node,
+            segment: aimed.segment,
+            handle: aimed.handle,
+        }
+    }
+
+    /// What needs a write handle needs a primary one.
+    fn aimed(&mut self, mode: Mode) -> Aimed {
         let right = match self.random.one_in(2) {
-            true => right(self.random, self.store),
+            true => right(self.random, self.store, mode),
             false => None,
         };
-        let look = match right {
-            Some(look) => with_faults(self.random, self.store, look),
-            None => self.any_look(),
-        };
-        Call::Look {
-            node: look.node,
-            segment: look.segment,
-            handle: look.handle,
+        match right {
+            Some(aimed) => with_faults(self.random, self.store, aimed),
+            None => self.any(mode),
         }
     }
 
     /// One that is made as other calls are.
-    fn any_look(&mut self) -> Look {
-        let handle = self.handle(Mode::Read, false, true);
+    fn any(&mut self, mode: Mode) -> Aimed {
+        let handle = self.handle(mode, mode == Mode::Write, true);
         let present = !self.random.one_in(8);
-        Look {
+        Aimed {
             node: self.current_node(&handle),
             segment: self.segment(&handle, present),
             handle,
         }
     }
-}
-
-fn is_present(segment: &Segment) -> bool {
-    *segment != Segment::Absent
 }
 
 /// The segments of a cluster that `fits` is true of.
@@ -82,40 +94,44 @@ fn segments(cluster: &Cluster, fits: impl Fn(&Segment) -> bool) -> Vec<usize> {
     fitting.collect()
 }
 
-/// A look that is done, if any segment is present.
-fn right(random: &mut Random, store: &Store) -> Option<Look> {
+/// What the call is done with, if any segment is present.
+fn right(random: &mut Random, store: &Store, mode: Mode) -> Option<Aimed> {
     let (node, local) = handles::place(random, store, Cluster::has_segments)?;
     let cluster = &store.clusters[node][local];
-    let segment = *random.pick(&segments(cluster, is_present))?;
-    let mut handle = Handle::primary(node as u16, local as u8, cluster.read);
-    for _ in 0..random.below(3) {
+    let segment = *random.pick(&segments(cluster, Segment::is_present))?;
+    let mut handle = Handle::primary(node as u16, local as u8, *cluster.primary(mode));
+    let times = match mode {
+        Mode::Read => random.below(3),
+        Mode::Write => 0,
+    };
+    for _ in 0..times {
         let mask = random.byte() | 1 << segment;
         handle = handle.weaken(mask).unwrap_or(handle);
     }
-    Some(Look {
+    Some(Aimed {
         node: node as u32,
         segment: segment as u32,
         handle,
     })
 }
 
-fn with_faults(random: &mut Random, store: &Store, mut look: Look) -> Look {
+fn with_faults(random: &mut Random, store: &Store, mut aimed: Aimed) -> Aimed {
     let mut all = Fault::ALL;
     random.shuffle(&mut all);
     let mut chosen = all[..below(random, 3)].to_vec();
     chosen.sort_by_key(|fault| *fault as u8);
     for fault in chosen {
-        look.spoil(random, store, fault);
+        aimed.spoil(random, store, fault);
     }
-    look
+    aimed
 }
 
-impl Look {
+impl Aimed {
     fn spoil(&mut self, random: &mut Random, store: &Store, fault: Fault) {
         let own = &store.clusters[usize::from(self.handle.node)][usize::from(self.handle.local)];
         match fault {
             Fault::Absent => {
-                let absent = segments(own, |segment| !is_present(segment));
+                let absent = segments(own, |segment| !segment.is_present());
                 let chosen = random.pick(&absent).map(|&segment| segment as u32);
                 self.segment = chosen.unwrap_or(self.segment);
             }
@@ -124,7 +140,10 @@ impl Look {
                 self.handle = weaker.unwrap_or(self.handle);
             }
             Fault::NotValid if random.one_in(2) && self.handle.selector.is_primary() => {
-                self.handle.password = own.write;
+                self.handle.password = match self.handle.password == own.read {
+                    true => own.write,
+                    false => own.read,
+                };
             }
             Fault::NotValid => {
                 self.handle.password[below(random, PASSWORD_BYTES)] ^= 1 << random.below(8);
