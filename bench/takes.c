@@ -93,6 +93,7 @@ static void reduce(void) {
 static void new_password(void) {
     number = gelmuszta_new_password(image, memory, all, GELMUSZTA_MODE_READ, reader, first_password, given);
 }
+static void freeze(void) { number = gelmuszta_freeze(image, memory, all, node, segment, writer); }
 static void validate(void) {
     number = gelmuszta_validate(image, memory, all, GELMUSZTA_MODE_READ, weak_reader);
 }
@@ -126,6 +127,7 @@ static const struct {
     {"weaken", typical, false, {weaken, 0}},
     {"reduce", typical, false, {reduce, 0}},
     {"new password", typical, false, {new_password, 0}},
+    {"freeze", typical, false, {freeze, 0}},
     {"validate", typical, false, {validate, 0}},
     {"validate all", typical, false, {validate_all, 0}},
     {"convert", typical, false, {convert, 0}},

@@ -3,18 +3,20 @@
  *
  * The caller keeps two things and lends them to each call:
  *
- *   image    GELMUSZTA_IMAGE (2,080) bytes: the records of all 32 clusters, in the order node * 8 + local number. A
- *            record has 65 bytes:
+ *   image    GELMUSZTA_IMAGE (2,336) bytes: the records of all 32 clusters, in the order node * 8 + local number. A
+ *            record has 73 bytes:
  *
  *              0        active: 1, or 0 for inactive
  *              1 to 16  the read password
  *             17 to 32  the write password
- *             33 to 64  eight segments, four bytes each: base and length, two bytes each, high byte first;
- *                       length zero for an absent segment, whose base is then zero too
+ *             33 to 72  eight segments, five bytes each: base and length, two bytes each, high byte first, and
+ *                       the mark: 1 for frozen, or 0; length zero for an absent segment, whose base and mark
+ *                       are then zero too
  *
- *            A record with an active byte above 1, or with an absent segment that has a base, encodes no cluster: the
- *            image is damaged, and every call that looks at it gets GELMUSZTA_UNSOUND. The starting store's image
- *            is all zeros; gelmuszta_start writes it.
+ *            A record with an active byte above 1, with an absent segment that has a base, or with a mark above 1
+ *            encodes no cluster: the image is damaged, and every call that looks at it gets GELMUSZTA_UNSOUND. It
+ *            gets the same where the store is not sound, as with an absent segment that is frozen. The starting
+ *            store's image is all zeros; gelmuszta_start writes it.
  *
  *   memory   the four nodes' memories, node 0 first. The store is sound only with a length of exactly
  *            GELMUSZTA_MEMORY (16,384) bytes. In the starting store they are all zero, which is the caller's to do.
@@ -29,14 +31,18 @@
  * is valid for writing alone is refused; everything else that opens a cluster needs one that is valid for writing, or in
  * the mode that the call names.
  *
- * The nine calls, gelmuszta_look and gelmuszta_validate return a number, 0 for done. When several refusals apply, the first
+ * Call 10 freezes a segment, and no call thaws it. From then on its base, length and bytes stay the same after any calls at
+ * all, and its cluster stays active: calls 4 and 6 on the segment and call 2 on the cluster are refused, with
+ * GELMUSZTA_FROZEN where nothing before it applies. Everything else treats it as any other segment.
+ *
+ * The ten calls, gelmuszta_look and gelmuszta_validate return a number, 0 for done. When several refusals apply, the first
  * of them in the order below is given. On a refusal the handles given are 23 zero bytes, counts and lengths are zero, a
  * look's part begins at 0, and image, memory and buffer stay as they were, byte for byte. Arguments of type size_t are
  * judged whole: a node, local number, mode, segment or size out of its range is refused, however large; as a mode 257 gets
  * GELMUSZTA_FIELD. Masks and parameters are bytes, and C cuts a larger value to a byte without telling.
  *
- * Calls 3 and 6 write to the memory and nothing else does; call 5 alone reads its bytes; all the rest, gelmuszta_look too,
- * go by its length and reach none of its bytes.
+ * Calls 1 to 4, 9 and 10 and gelmuszta_start write to the image, calls 3 and 6 to the memory, and nothing else writes to
+ * either; call 5 alone reads the memory's bytes; all the rest, gelmuszta_look too, go by its length and reach none of them.
  *
  * What the caller must see to, since no proof can:
  *
@@ -47,6 +53,8 @@
  *   - nobody else writes to the image, the memory or the arguments, or reads what is written, while the call runs. Calls
  *     that write nothing in common, as reads, looks and validations on one store, may run at the same time;
  *   - nobody writes to the part that a look has shown while it is being read, and its reader keeps to it;
+ *   - the mark stands in the image: whoever writes to the image or the memory beside the calls, or puts an earlier image in
+ *     place, can change what is frozen;
  *   - the image holds every primary password and the memory every byte: whoever can read them needs no handle.
  *
  * Nothing is kept between calls and nothing is allocated. A call judges the whole image where it stands, takes out one record
@@ -64,7 +72,7 @@
 extern "C" {
 #endif
 
-#define GELMUSZTA_IMAGE 2080
+#define GELMUSZTA_IMAGE 2336
 #define GELMUSZTA_MEMORY 16384
 #define GELMUSZTA_HANDLE 23
 #define GELMUSZTA_PASSWORD 16
@@ -73,23 +81,26 @@ extern "C" {
 #define GELMUSZTA_MODE_WRITE 2
 
 /* The numbers that a call may give, in the order in which they are judged, and which calls may give them, by their codes; a
- * look, which has no code, is named. 18 to 20 belong to lists of calls; no function here gives them. */
+ * look, which has no code, is named. GELMUSZTA_FROZEN has two places and stands at the first. 18 to 20 belong to lists of
+ * calls; no function here gives them. */
 enum gelmuszta_number {
     GELMUSZTA_DONE = 0,
     GELMUSZTA_UNSOUND = 1,         /* unsound, look and all but 7: the image is damaged, or the store is not sound */
     GELMUSZTA_NO_SUCH_PLACE = 2,   /* no such place: node above 3 or local number above 7, in the handle or the call */
     GELMUSZTA_FIELD = 3,           /* field: mode not 1 or 2; segment above 7; size 0 or above 4,096 */
     GELMUSZTA_GAPPED = 4,          /* gapped: the handle's selector is gapped */
-    GELMUSZTA_ELSEWHERE = 5,       /* elsewhere, 2, 3, 4, look: the current node is not the handle's */
+    GELMUSZTA_ELSEWHERE = 5,       /* elsewhere, 2, 3, 4, 10, look: the current node is not the handle's */
     GELMUSZTA_IN_USE = 6,          /* in use, 1: the cluster is active */
     GELMUSZTA_TWINS = 7,           /* twins, 1: the two passwords are equal */
-    GELMUSZTA_INACTIVE = 8,        /* inactive, 2 to 6, 8, 9, look: the handle's cluster is inactive */
-    GELMUSZTA_VIOLATED = 9,        /* violated protection, 2 to 6, 8, 9, look: the handle is not valid in the mode needed */
-    GELMUSZTA_NOT_PRIMARY = 10,    /* not primary, 2, 3, 4, 9: some subselector is not flat */
+    GELMUSZTA_INACTIVE = 8,        /* inactive, 2 to 6, 8 to 10, look: the handle's cluster is inactive */
+    GELMUSZTA_VIOLATED = 9,        /* violated protection, 2 to 6, 8 to 10, look: handle not valid in the mode needed */
+    GELMUSZTA_NOT_PRIMARY = 10,    /* not primary, 2, 3, 4, 9, 10: some subselector is not flat */
+    GELMUSZTA_FROZEN = 22,         /* frozen, 2: some segment of the cluster is frozen; 4, 6, where it is judged after
+                                    * GELMUSZTA_ABSENT and before GELMUSZTA_SHORT: the segment is frozen */
     GELMUSZTA_NOT_REFERENCED = 11, /* not referenced, 5, 6, look: the handle does not reference the segment */
     GELMUSZTA_OLD_PASSWORD = 12,   /* old password, 9: the new one equals either current primary password */
     GELMUSZTA_PRESENT = 13,        /* present, 3: the segment is present */
-    GELMUSZTA_ABSENT = 14,         /* absent, 4, 5, 6, look: the segment is absent */
+    GELMUSZTA_ABSENT = 14,         /* absent, 4, 5, 6, 10, look: the segment is absent */
     GELMUSZTA_SHORT = 15,          /* short, 5, 6: buffer or data shorter than the segment */
     GELMUSZTA_NO_ROOM = 16,        /* no room, 3: no base exists */
     GELMUSZTA_EMPTY = 21,          /* empty, 7: no segment is both referenced by the handle and kept by the mask */
@@ -104,7 +115,7 @@ void gelmuszta_start(uint8_t image[GELMUSZTA_IMAGE]);
 /* Whether the image is not damaged and its store is sound with a memory of size bytes. */
 bool gelmuszta_sound(const uint8_t image[GELMUSZTA_IMAGE], size_t size);
 
-/* ---- the nine calls, by their codes */
+/* ---- the ten calls, by their codes */
 
 /* 1, new cluster: at the current node and local number, with its two passwords. Gives its read and its write primary
  * handle. */
@@ -113,15 +124,16 @@ uint8_t gelmuszta_new_cluster(uint8_t image[GELMUSZTA_IMAGE], const uint8_t *mem
                               const uint8_t write[GELMUSZTA_PASSWORD], uint8_t first[GELMUSZTA_HANDLE],
                               uint8_t second[GELMUSZTA_HANDLE]);
 
-/* 2, delete cluster: by its write primary handle. */
+/* 2, delete cluster: by its write primary handle. None of its segments may be frozen. */
 uint8_t gelmuszta_delete_cluster(uint8_t image[GELMUSZTA_IMAGE], const uint8_t *memory, size_t memory_length,
                                  size_t current, const uint8_t handle[GELMUSZTA_HANDLE]);
 
-/* 3, new segment: by the write primary handle, at the smallest base at which it fits; its bytes become zero. */
+/* 3, new segment: by the write primary handle, at the smallest base at which it fits; its bytes become zero, and it
+ * is not frozen. */
 uint8_t gelmuszta_new_segment(uint8_t image[GELMUSZTA_IMAGE], uint8_t *memory, size_t memory_length, size_t current,
                               size_t segment, size_t size, const uint8_t handle[GELMUSZTA_HANDLE]);
 
-/* 4, delete segment: by the write primary handle; memory bytes stay. */
+/* 4, delete segment: by the write primary handle; memory bytes stay. A frozen segment is not deleted. */
 uint8_t gelmuszta_delete_segment(uint8_t image[GELMUSZTA_IMAGE], const uint8_t *memory, size_t memory_length,
                                  size_t current, size_t segment, const uint8_t handle[GELMUSZTA_HANDLE]);
 
@@ -131,7 +143,7 @@ uint8_t gelmuszta_read(const uint8_t image[GELMUSZTA_IMAGE], const uint8_t *memo
                        size_t segment, const uint8_t handle[GELMUSZTA_HANDLE], uint8_t *buffer, size_t buffer_length,
                        size_t *length);
 
-/* 6, write: the segment becomes the first bytes of the data. */
+/* 6, write: the segment becomes the first bytes of the data. A frozen segment is not written to. */
 uint8_t gelmuszta_write(const uint8_t image[GELMUSZTA_IMAGE], uint8_t *memory, size_t memory_length, size_t segment,
                         const uint8_t handle[GELMUSZTA_HANDLE], const uint8_t *data, size_t data_length);
 
@@ -153,6 +165,11 @@ uint8_t gelmuszta_new_password(uint8_t image[GELMUSZTA_IMAGE], const uint8_t *me
                                size_t mode, const uint8_t handle[GELMUSZTA_HANDLE],
                                const uint8_t password[GELMUSZTA_PASSWORD], uint8_t given[GELMUSZTA_HANDLE]);
 
+/* 10, freeze: by the write primary handle; the segment is frozen, and nothing else changes. Its numbers are those of call 4
+ * without GELMUSZTA_FROZEN: freezing twice is done and alters nothing. */
+uint8_t gelmuszta_freeze(uint8_t image[GELMUSZTA_IMAGE], const uint8_t *memory, size_t memory_length, size_t current,
+                         size_t segment, const uint8_t handle[GELMUSZTA_HANDLE]);
+
 /* ---- a look, which has no code */
 
 /* Look: shows a segment where it lies, in the caller's own memory. The part of the memory that is the segment begins at
@@ -169,7 +186,8 @@ uint8_t gelmuszta_new_password(uint8_t image[GELMUSZTA_IMAGE], const uint8_t *me
  * The part is the segment, and its bytes stay, until the image or the memory is written to, by a call or by the caller. Call
  * 6 on the segment changes its bytes. After call 4 or 2 has deleted the segment or its cluster, the bytes are free, and call
  * 3 may clear them and make them somebody else's; after call 9 the handle may no longer open the cluster. No call can take
- * back a part that was shown: look again after each of these, and whenever another image is put in place. */
+ * back a part that was shown: look again after each of these, and whenever another image is put in place. Where the segment
+ * is frozen, calls 2, 4 and 6 are refused, and its part and its bytes stay whatever calls are made. */
 uint8_t gelmuszta_look(const uint8_t image[GELMUSZTA_IMAGE], const uint8_t *memory, size_t memory_length,
                        size_t current, size_t segment, const uint8_t handle[GELMUSZTA_HANDLE], size_t *from,
                        size_t *length);

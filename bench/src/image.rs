@@ -3,11 +3,12 @@
 use crate::spans;
 use crate::store::{CLUSTERS, MAP_WORDS, MEMORY, NODES, SEGMENTS};
 
-pub const IMAGE: usize = 2080;
-const RECORD: usize = 65;
-const PLACE: usize = 4;
+pub const IMAGE: usize = 2336;
+const RECORD: usize = 73;
+const SEGMENT: usize = 5;
 const READ_AT: usize = 1;
-const PLACES_AT: usize = 33;
+const SEGMENTS_AT: usize = 33;
+const MARK_AT: usize = 4;
 const BYTE: u16 = 256;
 
 fn word(high: u8, low: u8) -> u16 {
@@ -24,25 +25,29 @@ fn zero(b: &[u8]) -> bool {
     ok
 }
 
-fn claim_place(b: &[u8], map: &mut [u64]) -> bool {
+fn claim_segment(b: &[u8], map: &mut [u64]) -> bool {
     let start = word(b[0], b[1]);
     let size = word(b[2], b[3]);
+    let mark = b[MARK_AT];
     let base = start as usize;
     let length = size as usize;
     if length == 0 {
-        return base == 0;
+        return (base == 0) & (mark == 0);
+    }
+    if 1 < mark {
+        return false;
     }
     let to = base + length;
     spans::mark(map, base, to)
 }
 
-fn claim_places(b: &[u8], map: &mut [u64]) -> bool {
+fn claim_segments(b: &[u8], map: &mut [u64]) -> bool {
     let mut ok = true;
     let mut i: usize = 0;
     while i < SEGMENTS {
-        let from = i * PLACE;
-        let to = from + PLACE;
-        ok = claim_place(&b[from..to], map) & ok;
+        let from = i * SEGMENT;
+        let to = from + SEGMENT;
+        ok = claim_segment(&b[from..to], map) & ok;
         i += 1;
     }
     ok
@@ -56,7 +61,7 @@ fn claim_record(b: &[u8], map: &mut [u64]) -> bool {
     if active != 1 {
         return false;
     }
-    claim_places(&b[PLACES_AT..RECORD], map)
+    claim_segments(&b[SEGMENTS_AT..RECORD], map)
 }
 
 pub fn sound_in(image: &[u8; IMAGE], size: usize) -> bool {
@@ -79,6 +84,11 @@ pub fn sound_in(image: &[u8; IMAGE], size: usize) -> bool {
     (size == MEMORY) & ok
 }
 
+/// Where the mark of a segment lies; `n` is the number of its cluster's record.
+pub fn mark_at(n: usize, segment: usize) -> usize {
+    n * RECORD + SEGMENTS_AT + segment * SEGMENT + MARK_AT
+}
+
 /// Every node has `clusters` active clusters of `segments` segments each, one after the other.
 pub fn image_of(clusters: usize, segments: usize, length: usize) -> [u8; IMAGE] {
     let mut image = [0; IMAGE];
@@ -88,12 +98,12 @@ pub fn image_of(clusters: usize, segments: usize, length: usize) -> [u8; IMAGE] 
             continue;
         }
         record[0] = 1;
-        record[READ_AT..PLACES_AT].fill(n as u8 + 1);
-        let places = record[PLACES_AT..].chunks_exact_mut(PLACE);
-        for (i, place) in places.take(segments).enumerate() {
+        record[READ_AT..SEGMENTS_AT].fill(n as u8 + 1);
+        let table = record[SEGMENTS_AT..].chunks_exact_mut(SEGMENT);
+        for (i, segment) in table.take(segments).enumerate() {
             let base = (local * segments + i) * length;
-            place[..2].copy_from_slice(&(base as u16).to_be_bytes());
-            place[2..].copy_from_slice(&(length as u16).to_be_bytes());
+            segment[..2].copy_from_slice(&(base as u16).to_be_bytes());
+            segment[2..MARK_AT].copy_from_slice(&(length as u16).to_be_bytes());
         }
     }
     image

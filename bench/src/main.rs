@@ -222,6 +222,25 @@ fn soundness_in(name: &str, image: [u8; IMAGE]) {
     report(name, times);
 }
 
+/// A mark is 0 or 1, and 1 only where the segment is present. In the typical store the first two segments of the first
+/// five clusters are.
+fn marks() {
+    for (record, segment, mark, sound) in [
+        (0, 1, 0, true),
+        (0, 1, 1, true),
+        (0, 1, 2, false),
+        (0, 1, 255, false),
+        (0, 2, 1, false),
+        (7, 0, 1, false),
+    ] {
+        let mut image = image::image_of(5, 2, 400);
+        image[image::mark_at(record, segment)] = mark;
+        let proved = unsafe { gelmuszta_sound(&image, store::MEMORY) };
+        let rust = rust_sound_in(&image, store::MEMORY);
+        assert_eq!((proved, rust), (sound, sound), "the two judge alike");
+    }
+}
+
 fn main() {
     println!(
         "{:<44}{:>9}{:>9}{:>8}",
@@ -234,6 +253,7 @@ fn main() {
     soundness("soundness, 10 segments of 400 bytes a node", 10, 400);
     soundness("soundness, 64 segments of 64 bytes a node", 64, 64);
     looks::looks();
+    marks();
     soundness_in("on the image, empty store", image::image_of(0, 0, 0));
     soundness_in("on the image, typical store", image::image_of(5, 2, 400));
     soundness_in("on the image, full store", image::image_of(8, 8, 64));

@@ -21,6 +21,7 @@ pub enum Place {
 #[derive(Clone, Copy)]
 pub struct Segment {
     pub place: Place,
+    pub frozen: bool,
 }
 
 #[derive(Clone, Copy)]
@@ -36,9 +37,9 @@ pub struct Store {
     pub clusters: [Cluster; RECORDS],
 }
 
-fn claim(place: Place, map: &mut [u64]) -> bool {
-    match place {
-        Place::Absent => true,
+fn claim(segment: Segment, map: &mut [u64]) -> bool {
+    match segment.place {
+        Place::Absent => !segment.frozen,
         Place::Present { base, length } => {
             let from = base as usize;
             let size = length as usize;
@@ -53,8 +54,7 @@ fn claim_all(cluster: Cluster, map: &mut [u64]) -> bool {
     let mut i: usize = 0;
     while i < SEGMENTS {
         let segment = cluster.segments[i];
-        let place = segment.place;
-        ok = claim(place, map) & ok;
+        ok = claim(segment, map) & ok;
         i += 1;
     }
     ok
@@ -178,12 +178,14 @@ fn place_from(base: u16, length: u16) -> Place {
 fn segments_from(bases: &Table, lengths: &Table, n: usize) -> [Segment; 8] {
     let absent = Segment {
         place: Place::Absent,
+        frozen: false,
     };
     let mut r = [absent; 8];
     for i in 0..8usize {
         let at = n * 8 + i;
         r[i] = Segment {
             place: place_from(bases[at], lengths[at]),
+            frozen: false,
         };
     }
     r
@@ -196,6 +198,7 @@ pub fn store_from(bases: &Table, lengths: &Table) -> Store {
         write: [0; PASSWORD_BYTES],
         segments: [Segment {
             place: Place::Absent,
+            frozen: false,
         }; SEGMENTS],
     };
     let mut clusters = [inactive; 32];

@@ -37,6 +37,65 @@ static size_t odd_bytes(size_t current, size_t segment, const uint8_t handle[GEL
     return odd;
 }
 
+/* Where the header puts the mark of a segment in the image. */
+static size_t mark_at(size_t node, size_t local, size_t segment) { return (node * 8 + local) * 73 + 33 + segment * 5 + 4; }
+
+/* A segment is frozen: only its mark changes, the second time nothing does, and calls 4, 6 and 2 leave it. */
+static void frozen_segment(size_t node, size_t segment, const uint8_t reader[GELMUSZTA_HANDLE],
+                           const uint8_t writer[GELMUSZTA_HANDLE]) {
+    const uint8_t *data = (const uint8_t *)"thaw!!!";
+    const size_t all = sizeof memory, mark = mark_at(node, writer[2], segment);
+    uint8_t before[GELMUSZTA_IMAGE], buffer[9] = {0};
+    size_t from = 99, length = 99;
+
+    memcpy(before, image, sizeof before);
+    expect("freeze absent", gelmuszta_freeze(image, memory, all, node, segment + 1, writer) == GELMUSZTA_ABSENT);
+    expect("freeze by reader", gelmuszta_freeze(image, memory, all, node, segment, reader) == GELMUSZTA_VIOLATED);
+    expect("not frozen yet", memcmp(image, before, sizeof image) == 0 && image[mark] == 0);
+    expect("freeze", gelmuszta_freeze(image, memory, all, node, segment, writer) == GELMUSZTA_DONE);
+    before[mark] = 1;
+    expect("mark", memcmp(image, before, sizeof image) == 0);
+    expect("freeze twice", gelmuszta_freeze(image, memory, all, node, segment, writer) == GELMUSZTA_DONE
+                               && memcmp(image, before, sizeof image) == 0);
+    expect("delete frozen", gelmuszta_delete_segment(image, memory, all, node, segment, writer) == GELMUSZTA_FROZEN);
+    expect("write frozen", gelmuszta_write(image, memory, all, segment, writer, data, 7) == GELMUSZTA_FROZEN);
+    expect("delete its cluster", gelmuszta_delete_cluster(image, memory, all, node, writer) == GELMUSZTA_FROZEN);
+    expect("make it anew", gelmuszta_new_segment(image, memory, all, node, segment, 7, writer) == GELMUSZTA_PRESENT);
+    expect("as it was frozen", memcmp(image, before, sizeof image) == 0);
+    expect("read frozen", gelmuszta_read(image, memory, all, segment, reader, buffer, sizeof buffer, &length)
+                              == GELMUSZTA_DONE && length == 5 && memcmp(buffer, "cited\0", 6) == 0);
+    expect("look at frozen", gelmuszta_look(image, memory, all, node, segment, reader, &from, &length) == GELMUSZTA_DONE
+                                 && length == 5 && memcmp(memory + from, "cited", 5) == 0);
+}
+
+/* A mark is 0 or 1, and 1 only where the segment is present. */
+static void wrong_mark(size_t at, uint8_t mark, size_t segment, const uint8_t writer[GELMUSZTA_HANDLE]) {
+    const uint8_t right = image[at];
+
+    image[at] = mark;
+    expect("wrong mark", !gelmuszta_sound(image, sizeof memory));
+    expect("freeze", gelmuszta_freeze(image, memory, sizeof memory, writer[1], segment, writer) == GELMUSZTA_UNSOUND);
+    expect("mark left alone", image[at] == mark);
+    image[at] = right;
+}
+
+static void freezing(size_t node, size_t local, size_t segment) {
+    const uint8_t first_password[GELMUSZTA_PASSWORD] = {5}, second_password[GELMUSZTA_PASSWORD] = {6};
+    const uint8_t *data = (const uint8_t *)"cited";
+    uint8_t reader[GELMUSZTA_HANDLE], writer[GELMUSZTA_HANDLE];
+    const size_t all = sizeof memory;
+
+    gelmuszta_new_cluster(image, memory, all, node, local, first_password, second_password, reader, writer);
+    gelmuszta_new_segment(image, memory, all, node, segment, 5, writer);
+    expect("write", gelmuszta_write(image, memory, all, segment, writer, data, 5) == GELMUSZTA_DONE);
+    frozen_segment(node, segment, reader, writer);
+    wrong_mark(mark_at(node, local, segment), 2, segment, writer);
+    wrong_mark(mark_at(node, local, segment + 1), 1, segment, writer);
+    wrong_mark(mark_at(node, local + 1, segment), 1, segment, writer);
+    expect("still frozen", gelmuszta_sound(image, all)
+                               && gelmuszta_delete_segment(image, memory, all, node, segment, writer) == GELMUSZTA_FROZEN);
+}
+
 int main(void) {
     const size_t all = sizeof memory, node = 1, local = 2, segment = 5, size = 6;
     const uint8_t first_password[GELMUSZTA_PASSWORD] = {3}, second_password[GELMUSZTA_PASSWORD] = {4};
@@ -90,6 +149,7 @@ int main(void) {
     expect("delete segment", gelmuszta_delete_segment(image, memory, all, node, segment, writer) == GELMUSZTA_DONE);
     expect("delete cluster", gelmuszta_delete_cluster(image, memory, all, node, writer) == GELMUSZTA_DONE);
     expect("as at the start", memcmp(image, none, sizeof image) == 0 && memcmp(memory + 4096, "guards", 6) == 0);
+    freezing(3, 1, 4);
     printf("%d wrong\n", wrong);
     return wrong != 0;
 }

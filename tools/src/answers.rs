@@ -111,9 +111,14 @@ fn given(code: u8, words: &[&str]) -> Option<Given> {
             count: count.parse().ok()?,
         }),
         (call::READ, [bytes]) => hexadecimal::decode(bytes).map(Given::Bytes),
-        (call::DELETE_CLUSTER | call::NEW_SEGMENT | call::DELETE_SEGMENT | call::WRITE, words) => {
-            nothing(words)
-        }
+        (
+            call::DELETE_CLUSTER
+            | call::NEW_SEGMENT
+            | call::DELETE_SEGMENT
+            | call::WRITE
+            | call::FREEZE,
+            words,
+        ) => nothing(words),
         _ => None,
     }
 }

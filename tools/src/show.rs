@@ -130,6 +130,9 @@ fn call_in_words(call: &Call, data_length: u8, known: &Known) -> String {
     let with = call
         .handle()
         .map_or(String::new(), |handle| known.words(handle));
+    let from_node = |what: &str, node: u32, segment: u32| {
+        format!("{what} segment {segment} from node {node} with {with}")
+    };
     match *call {
         Call::NewCluster { node, local, .. } => format!("new cluster {local} in node {node}"),
         Call::DeleteCluster { node, .. } => format!("delete cluster from node {node} with {with}"),
@@ -144,9 +147,7 @@ fn call_in_words(call: &Call, data_length: u8, known: &Known) -> String {
                 counted(size as usize, "byte")
             )
         }
-        Call::DeleteSegment { node, segment, .. } => {
-            format!("delete segment {segment} from node {node} with {with}")
-        }
+        Call::DeleteSegment { node, segment, .. } => from_node("delete", node, segment),
         Call::Read { segment, .. } => format!("read segment {segment} with {with}"),
         Call::Write { segment, .. } => {
             format!(
@@ -157,10 +158,9 @@ fn call_in_words(call: &Call, data_length: u8, known: &Known) -> String {
         Call::Weaken { mask, .. } => format!("weaken {with} by mask {mask:#04x}"),
         Call::Reduce { mode, .. } => format!("reduce {with} {}", for_mode(mode)),
         Call::NewPassword { mode, .. } => format!("new password {} with {with}", for_mode(mode)),
+        Call::Freeze { node, segment, .. } => from_node("freeze", node, segment),
         // No list has these two: they have no code.
-        Call::Look { node, segment, .. } => {
-            format!("look at segment {segment} from node {node} with {with}")
-        }
+        Call::Look { node, segment, .. } => from_node("look at", node, segment),
         Call::Validate { mode, .. } => format!("validate {with} {}", for_mode(mode)),
     }
 }

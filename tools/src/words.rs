@@ -70,7 +70,7 @@ const fn plain(
     }
 }
 
-const CALLS: [CallWord; 9] = [
+const CALLS: [CallWord; 10] = [
     plain(
         "new-cluster",
         call::NEW_CLUSTER,
@@ -108,6 +108,7 @@ const CALLS: [CallWord; 9] = [
         &["mode", "handle", "password"],
         1,
     ),
+    plain("freeze", call::FREEZE, &["node", "segment", "handle"], 0),
 ];
 
 /// A record with any code, to which every field can be given.

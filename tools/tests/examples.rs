@@ -85,6 +85,19 @@ fn a_handle_to_nothing_in_words() {
 }
 
 #[test]
+fn a_frozen_segment_in_words() {
+    let answers = fs::read_to_string(examples().join("laboratory.out")).unwrap();
+    let shown = shown("laboratory.list", &answers);
+    let line = |record: &str| shown.lines().find(|line| line.starts_with(record)).unwrap();
+    let freeze = line("19 ");
+    assert!(freeze.contains("freeze segment 5 from node 0 with the write handle of record 1"));
+    assert!(freeze.ends_with("0 done"), "{freeze}");
+    for record in ["20 ", "21 ", "22 "] {
+        assert!(line(record).ends_with("22 frozen"), "{}", line(record));
+    }
+}
+
+#[test]
 fn answers_that_do_not_belong() {
     assert_eq!(shown("sample.list", "list 19\n"), "list refused: 19 link\n");
     assert_eq!(
@@ -98,6 +111,10 @@ fn answers_that_do_not_belong() {
     assert_eq!(
         shown("sample.list", "2 5 nine\nend 1\n"),
         "1: expected a record's answer, found '2 5 nine'"
+    );
+    assert_eq!(
+        shown("lists/freeze.list", "6 10 0 00\nend 1\n"),
+        "1: expected a record's answer, found '6 10 0 00'"
     );
     assert_eq!(
         shown("lists/length.list", "end 0\n"),

@@ -20,6 +20,7 @@ fn words_and_fields() {
         "1: expected one of segment, handle, next, fill, expect, found 'colour'"
     );
     assert_eq!(mistake("read segment 5"), "1: 'read' needs 'handle'");
+    assert_eq!(mistake("freeze segment 5"), "1: 'freeze' needs 'node'");
     assert_eq!(
         mistake("read segment 1 segment 1"),
         "1: 'segment' stands twice"
@@ -74,6 +75,10 @@ fn names() {
         "1: 'new-cluster' gives 2 handles, found 1 names after '->'"
     );
     assert_eq!(
+        mistake("freeze node 0 -> a"),
+        "1: 'freeze' gives 0 handles, found 1 names after '->'"
+    );
+    assert_eq!(
         mistake("let a = b"),
         "1: expected a handle that an earlier line names, found 'b'"
     );
@@ -97,6 +102,14 @@ fn numbers_that_calls_come_to() {
     assert_eq!(
         mistake(nothing),
         "2: expected a call that is done, found 21 (empty)"
+    );
+    let frozen = "\
+        new-segment node 0 segment 5 size 4 handle writer\n\
+        freeze node 0 segment 5 handle writer\n\
+        delete-cluster node 0 handle writer expect 0";
+    assert_eq!(
+        mistake(&format!("{CLUSTER} -> reader writer\n{frozen}")),
+        "4: expected 0 (done), found 22 (frozen)"
     );
 }
 
