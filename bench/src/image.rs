@@ -34,11 +34,8 @@ fn claim_segment(b: &[u8], map: &mut [u64]) -> bool {
     if length == 0 {
         return (base == 0) & (mark == 0);
     }
-    if 1 < mark {
-        return false;
-    }
     let to = base + length;
-    spans::mark(map, base, to)
+    (mark <= 1) & spans::mark(map, base, to)
 }
 
 fn claim_segments(b: &[u8], map: &mut [u64]) -> bool {

@@ -1,7 +1,7 @@
 -- On the image of a store in range a call is the step on that store, and what the step leaves is in range again: so a list
 -- of calls is a run of steps. A refusal leaves the store, whose image the bytes are.
 -- Assumes nothing.
-use mathlib.Core.Path.{_≡_, refl, sym, ap, _∙_}
+use mathlib.Core.Path.{_≡_, refl, sym, ap, ap₂, _∙_, subst}
 use mathlib.Core.Bool.{Bool, true, false}
 use mathlib.Core.List.{List, [], _∷_, map}
 use lib.ListN.{length}
@@ -10,7 +10,7 @@ use Rattle.handle.specs.Conversion.{product}
 use Rattle.store.specs.declared.Store.{Store}
 use Rattle.calls.specs.declared.Part.{Part}
 use Rattle.calls.specs.declared.Looked.{Looked}
-use Rattle.calls.specs.Calls.{Call, among, isLook}
+use Rattle.calls.specs.Calls.{Copy, Call, among, isLook}
 use Rattle.calls.specs.Looks.{aesLooked}
 use Rattle.calls.specs.Steps.{Outcome, run, aesStep}
 use Rattle.calls.specs.Answers.{copyOf}
@@ -24,7 +24,9 @@ use Rattle.image.proofs.RangeLaws.{store-held}
 use Rattle.gelmuszta.specs.Exported.{Exported, damaged, imaged, exported, exportedPart}
 use Rattle.gelmuszta.specs.Fits.{AllFit}
 use Rattle.gelmuszta.specs.Runs.{RanOn, runOn, followedBy, placesOn, imagedRun, ListsAreRuns, PlacesAreRuns, held, TwoImages, refusedWith}
-use Rattle.gelmuszta.specs.Runs.{RefusalLeaves}
+use Rattle.gelmuszta.specs.Runs.{RefusalLeaves, FrozenOnImages}
+use Rattle.isolation.specs.Frozen.{Fixed}
+use Rattle.isolation.proofs.FrozenLaws.{frozen-stays}
 use Rattle.gelmuszta.proofs.ExportLaws.{damagedBy, picked, step-leaves}
 use Rattle.gelmuszta.proofs.LookLaws.{placed}
 use Rattle.gelmuszta.proofs.FitLaws.{step-fits}
@@ -98,6 +100,32 @@ two-images node local v l xs b m d n p hb gb hd gd sb sd active alike shut-b shu
       places = places-are-runs xs b m p hb gb ∙ ap parts (agreed .places) ∙ sym (places-are-runs xs d n p hd gd);
       agreed = agreed;
     }
+
+-- ---- what is frozen
+
+run-fits : (xs : List Call) (c : Copy) → AllFit xs → StoreFits (c .store) → StoreFits (run product xs c .copy .store)
+run-fits [] c p k = k
+run-fits (x ∷ xs) c p k = run-fits xs (aesStep x c .copy) (p .1) (step-fits product x c (p .0) k)
+
+pub frozen-on-images : FrozenOnImages
+frozen-on-images v l i base size hv hl hi xs b m p h g s q t =
+    record {
+      good = ap (λ (r : RanOn). good (r .image)) left ∙ good-image (end .store) fits;
+      fixed =
+          subst (Fixed v l i base size (held b m))
+          (ap₂ copyOf (sym (store-image (end .store) fits) ∙ ap (λ (r : RanOn). storeIn (r .image)) (sym left))
+          (ap (λ (r : RanOn). r .memory) (sym left)))
+          (frozen-stays product v l i base size hv hl hi xs (held b m) s q t);
+    }
+  where
+    end : Copy
+    end = run product xs (held b m) .copy
+
+    fits : StoreFits (end .store)
+    fits = run-fits xs (held b m) p (store-held b h)
+
+    left : runOn xs b m ≡ imagedRun (run product xs (held b m))
+    left = lists-are-runs xs b m p h g
 
 -- ---- a refusal
 

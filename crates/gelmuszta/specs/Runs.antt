@@ -13,6 +13,9 @@
 --     TwoImages          condition 3 of images: where the stores that two images hold, with their memories, differ only in
 --                        one cluster's secrets, and no call presents a handle that opens it, the replies of a list are
 --                        equal and its looks tell the same parts, and the runs agree as the copies of the stores do
+--     FrozenOnImages     document 02, §3, of images: a segment that is present and frozen in the store that an image holds is
+--                        fixed after any list of calls, in the store and the memory that are left; and the image left
+--                        holds a store
 --     RefusalLeaves      a call whose number is not 0 gives nothing else, and leaves image, memory and buffer as they were
 -- Assumes nothing.
 use mathlib.Core.Path.{_≡_}
@@ -24,6 +27,7 @@ use lib.ListN.{length}
 use Rattle.sizes.specs.Sizes.{nodes, clusters}
 use Rattle.handle.specs.Conversion.{product}
 use Rattle.bits.specs.Bytes.{Bytes}
+use Rattle.store.specs.declared.Place.the-variants.{Present}
 use Rattle.store.specs.Records.{tableAt}
 use Rattle.calls.specs.declared.Part.{Part}
 use Rattle.calls.specs.declared.Looked.{Looked}
@@ -32,6 +36,7 @@ use Rattle.calls.specs.Steps.{Reply, Ran, plain, run}
 use Rattle.calls.specs.Answers.{copyOf}
 use Rattle.isolation.specs.Copies.{SoundCopy, setApart, Alike, AllShut, also, places}
 use Rattle.isolation.specs.Statements.{Agreed}
+use Rattle.isolation.specs.Frozen.{placeAt, frozenAt, Fixed}
 use Rattle.image.specs.Images.{imageBytes, good, storeIn, imageOf}
 use Rattle.gelmuszta.specs.Exported.{Exported, exported, exportedPart}
 use Rattle.gelmuszta.specs.Fits.{AllFit}
@@ -82,6 +87,17 @@ TwoImages =
     → tableAt (storeIn b) (setApart node local) .active ≡ true → Alike node local (held b m) (held d n)
     → AllShut node local product xs (held b m) → AllShut node local product xs (held d n)
     → ImagesAgree node local xs b m d n
+
+pub record FixedOn (v l i base size : ℕ) (xs : List Call) (b m : List ℕ) : Type 0 where
+  pub good : good (runOn xs b m .image) ≡ true
+  pub fixed : Fixed v l i base size (held b m) (held (runOn xs b m .image) (runOn xs b m .memory))
+
+abbrev pub FrozenOnImages : Type 0
+FrozenOnImages =
+    (v l i base size : ℕ) → v < 4 → l < 8 → i < 8 → (xs : List Call) (b m : List ℕ) → AllFit xs
+    → Bytes imageBytes b → good b ≡ true → SoundCopy (held b m)
+    → placeAt (storeIn b) v l i ≡ Present base size → frozenAt (storeIn b) v l i ≡ true
+    → FixedOn v l i base size xs b m
 
 abbrev pub refusedWith : ℕ → Call → List ℕ → List ℕ → Exported
 refusedWith n x b m = record { reply = plain n (buffer x); image = b; memory = m }
