@@ -20,5 +20,6 @@ pub mod LookLaws
 pub mod LookReadLaws
 pub mod MadeWordLaws
 pub mod FreezeLaws
+pub mod FreezeNumberLaws
 pub mod WrittenLaws
 pub mod EmptyWordLaws

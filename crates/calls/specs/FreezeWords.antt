@@ -1,5 +1,7 @@
--- Document 02, §3, in words: what a freeze that is done leaves. The record of the handle's cluster is named by number, the
--- cluster of node v and local number l being record v * 8 + l.
+-- Document 02, §3, in words: which numbers a freeze gets, and what one that is done leaves. The record of the handle's cluster
+-- is named by number, the cluster of node v and local number l being record v * 8 + l.
+--     FreezeRefused f g s size    of call 10 with the arguments g: it gets the number of call 4 with the same arguments, but
+--                            where that is 22, which document 01 does not have; there it is done, and it never gets 22
 --     SameRecords n i a b    the two stores have the same records, but for the mark of segment i of record n
 --     FreezeInWords f g c    of call 10 with the arguments g on the copy c, done:
 --       present                the segment that it names was present
@@ -18,10 +20,17 @@ use Rattle.handle.specs.Handles.{Name, nodeOf}
 use Rattle.store.specs.declared.Place.the-variants.{Present}
 use Rattle.store.specs.declared.Store.{Store}
 use Rattle.store.specs.Records.{tableOf, clusterAt, segmentOf}
-use Rattle.calls.specs.Calls.{Copy, Call, Arguments, call, freeze, handleOf}
+use Rattle.calls.specs.Calls.{Copy, Call, Arguments, call, deleteSegment, freeze, handleOf}
+use Rattle.calls.specs.Numbers.{number}
 use Rattle.calls.specs.Words.{place, frozen}
 use Rattle.calls.specs.Steps.{step}
 use Rattle.calls.specs.Literals.{none, told}
+
+pub record FreezeRefused (f : Name → List ℕ → ℕ → List ℕ) (g : Arguments) (s : Store) (size : ℕ) : Type 0 where
+  pub alike : number f (call deleteSegment g) s size ≢ 22
+      → number f (call freeze g) s size ≡ number f (call deleteSegment g) s size
+  pub done : number f (call deleteSegment g) s size ≡ 22 → number f (call freeze g) s size ≡ 0
+  pub never : number f (call freeze g) s size ≢ 22
 
 pub record SameRecords (n i : ℕ) (a b : Store) : Type 0 where
   pub active : (m : ℕ) → clusterAt a m .active ≡ clusterAt b m .active

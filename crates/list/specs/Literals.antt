@@ -171,7 +171,7 @@ codesText =
     ++ ascii "13 7 21\n"
     ++ ascii "end 13\n"
 
-abbrev frozenList : List ℕ
+abbrev pub frozenList : List ℕ
 frozenList =
     (2 ∷ 1 ∷ 1 ∷ 0 ∷ 4 ∷ 0 ∷ 0 ∷ 0 ∷ [])
     ++ replicate 24 0
