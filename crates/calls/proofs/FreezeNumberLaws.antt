@@ -1,5 +1,5 @@
--- A freeze and a deletion of the same segment meet the same rows, but for one: below them the deletion has row 22. So where that
--- row is not what is told, their numbers are equal; where it is, the freeze meets no row.
+-- A freeze and a deletion of the same segment meet the same rows, but for one: below them the deletion has row 22. So
+-- where that row is not what is told, their numbers are equal; where it is, the freeze meets no row.
 -- Assumes nothing.
 use mathlib.Core.Path.{_≡_, refl, sym, _∙_}
 use mathlib.Core.Logic.{_≢_}

@@ -1,5 +1,5 @@
--- Document 01, "The calls" and the first sentences of "Two copies", with the look of document 02, §2, and its §3, call 10:
--- what a call carries and what it looks at.
+-- Document 01, "The calls" and the first sentences of "Two copies", with the look of document 02, §2, and its §3, call
+-- 10: what a call carries and what it looks at.
 --     Copy                    the records of all clusters and the bytes of the slice
 --     start                   the starting store, with a memory of zeros
 --     Kind                    the ten calls, validation and the look

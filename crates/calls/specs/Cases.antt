@@ -1,5 +1,5 @@
--- Document 01, "Numbers a call may be turned down with", with document 02's 21 and 22, as computed lists. The conversion adds
--- its parameter to the first byte, and gives sixteen such bytes.
+-- Document 01, "Numbers a call may be turned down with", with document 02's 21 and 22, as computed lists. The conversion
+-- adds its parameter to the first byte, and gives sixteen such bytes.
 --     added                     that conversion
 --     sixteen b                 sixteen bytes b
 --     shown v l b ss            the bytes of the handle of node v and local number l: sixteen bytes b, the selector ss
@@ -13,8 +13,8 @@
 --     marked                    that store with its segment frozen
 --     Case, gives               a number and a call that gets it
 --     damaged                   a call of every kind on a slice that lacks a byte: weakening alone does not get 1
---     refusals                  for each number from 2 on but 22, a call of each kind that its row names; a look and a freeze
---                               done
+--     refusals                  for each number from 2 on but 22, a call of each kind that its row names; a look and a
+--                               freeze done
 --     frozen                    where the segment is frozen: 22 for each call that its rows name, and all others as ever
 --     toldOn s size cs          the numbers that the calls of the cases cs get on a store
 --     calls cs, named cs        the calls of the cases, and the numbers that they name

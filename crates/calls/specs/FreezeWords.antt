@@ -1,5 +1,5 @@
--- Document 02, §3, in words: which numbers a freeze gets, and what one that is done leaves. The record of the handle's cluster
--- is named by number, the cluster of node v and local number l being record v * 8 + l.
+-- Document 02, §3, in words: which numbers a freeze gets, and what one that is done leaves. The record of the handle's
+-- cluster is named by number, the cluster of node v and local number l being record v * 8 + l.
 --     FreezeRefused f g s size    of call 10 with the arguments g: it gets the number of call 4 with the same arguments, but
 --                            where that is 22, which document 01 does not have; there it is done, and it never gets 22
 --     SameRecords n i a b    the two stores have the same records, but for the mark of segment i of record n
@@ -22,7 +22,7 @@ use Rattle.store.specs.declared.Store.{Store}
 use Rattle.store.specs.Records.{tableOf, clusterAt, segmentOf}
 use Rattle.calls.specs.Calls.{Copy, Call, Arguments, call, deleteSegment, freeze, handleOf}
 use Rattle.calls.specs.Numbers.{number}
-use Rattle.calls.specs.Words.{place, frozen}
+use Rattle.calls.specs.Words.{place, Frozen}
 use Rattle.calls.specs.Steps.{step}
 use Rattle.calls.specs.Literals.{none, told}
 
@@ -48,9 +48,9 @@ module _ (f : Name → List ℕ → ℕ → List ℕ) (g : Arguments) (c : Copy)
 
   pub record FreezeInWords : Type 0 where
     pub present : (base : ℕ) × (length : ℕ) × (place x (c .store) ≡ Present base length)
-    pub marked : frozen x (after .store) (g .segment)
+    pub marked : Frozen x (after .store) (g .segment)
     pub stays : place x (after .store) ≡ place x (c .store)
     pub others : SameRecords (nodeOf (handleOf x) * 8 + handleOf x .local) (g .segment) (after .store) (c .store)
     pub memory : after .memory ≡ c .memory
     pub reply : step f x c .reply ≡ told 0 none none 0 0 []
-    pub twice : frozen x (c .store) (g .segment) → after ≡ c
+    pub twice : Frozen x (c .store) (g .segment) → after ≡ c

@@ -1,5 +1,5 @@
--- Document 01, "The calls", row 3 of the table and the sentence on the base of a new segment, and document 02, §3: new ones
--- are not frozen; in words: what a new segment that is done leaves.
+-- Document 01, "The calls", row 3 of the table and the sentence on the base of a new segment, and document 02, §3: new
+-- ones are not frozen; in words: what a new segment that is done leaves.
 --     Eight x c            the record that the call's handle names has its eight segments
 --     MadeInWords f g c    of call 3 with the arguments g on the copy c: the segment that it names is present afterwards,
 --                          with the size asked for and a base that had room, and is not frozen; no smaller base had
@@ -14,7 +14,7 @@ use Rattle.handle.specs.Handles.{Name, nodeOf}
 use Rattle.store.specs.declared.Place.the-variants.{Present}
 use Rattle.store.specs.PlacementWords.{Room}
 use Rattle.calls.specs.Calls.{Copy, Call, Arguments, call, newSegment, handleOf}
-use Rattle.calls.specs.Words.{place, frozen, clusterOf}
+use Rattle.calls.specs.Words.{place, Frozen, clusterOf}
 use Rattle.calls.specs.Steps.{step}
 
 abbrev pub Eight : Call → Copy → Type 0
@@ -34,7 +34,7 @@ module _ (f : Name → List ℕ → ℕ → List ℕ) (g : Arguments) (c : Copy)
     pub base : ℕ
     pub number : step f x c .reply .number ≡ 0
     pub present : place x (after .store) ≡ Present base (g .size)
-    pub unfrozen : ¬ frozen x (after .store) (g .segment)
+    pub unfrozen : ¬ Frozen x (after .store) (g .segment)
     pub room : Room (c .store) node (g .size) base
     pub smallest : (k : ℕ) → k < base → ¬ Room (c .store) node (g .size) k
     pub cleared : (k : ℕ) → k < g .size → getD (after .memory) (node * 4096 + base + k) 0 ≡ 0

@@ -1,6 +1,6 @@
 -- Document 01, "The calls": what a call done gives and leaves; what a refusal gives; and "Two copies": a list of calls,
--- each working on what the one before it left. With the look of document 02, §2, whose bytes shown are part of the reply, and
--- its §3, call 10.
+-- each working on what the one before it left. With the look of document 02, §2, whose bytes shown are part of the reply,
+-- and its §3, call 10.
 --     Reply               the number, two handles as 23 bytes, a count, a length, the buffer afterwards, and the bytes
 --                         shown; a handle that is not given is 23 zero bytes, a count or length that is not told is
 --                         zero, and where nothing is shown there are no bytes

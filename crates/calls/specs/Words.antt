@@ -1,7 +1,8 @@
--- Document 01, "Numbers a call may be turned down with", row by row in the table's own words and numbers, with document 02's
--- 21; its 22, in two places; its call 10, which has the rows of call 4; and the look, which has the rows of call 5 but 15,
--- and row 5. Nothing here is a test, and `number` (Numbers) is held to it both ways. The calls that a row names are listed by
--- kind, in the order of their codes, validation and the look last; validation stands with call 8, whose number it gives. The cluster of node v and local number l is record v * 8 + l.
+-- Document 01, "Numbers a call may be turned down with", row by row in the table's own words and numbers, with document
+-- 02's 21; its 22, in two places; its call 10, which has the rows of call 4; and the look, which has the rows of call 5
+-- but 15, and row 5. Nothing here is a test, and `number` (Numbers) is held to it both ways. The calls that a row names
+-- are listed by kind, in the order of their codes, validation and the look last; validation stands with call 8, whose
+-- number it gives. The cluster of node v and local number l is record v * 8 + l.
 --     Named ks x           the call x is of one of the kinds ks
 --     Handled x            the call takes a handle: all but 1
 --     Taken x              it takes it as 23 bytes
@@ -13,7 +14,7 @@
 --     cluster s v l        the record of the cluster of node v and local number l
 --     clusterOf x s        that of the cluster which the call's handle names
 --     place x s            the place of the segment which the call names, in that cluster
---     frozen x s i         segment i of that cluster is frozen
+--     Frozen x s i         segment i of that cluster is frozen
 --     Converted g p s q    the step of validation by the subselector s: a flat one is skipped and q is p; by another p goes
 --                          through the conversion g with s and comes out as q
 --     Chain g p x          the chain from the primary password p, by subselector 0 first, ends as the handle's password
@@ -91,8 +92,8 @@ clusterOf x s = cluster s (nodeOf (handleOf x)) (handleOf x .local)
 abbrev pub place : Call → Store → Place
 place x s = placeOf (tableOf (clusterOf x s)) (x .args .segment)
 
-abbrev pub frozen : Call → Store → ℕ → Type 0
-frozen x s i = frozenOf (tableOf (clusterOf x s)) i ≡ true
+abbrev pub Frozen : Call → Store → ℕ → Type 0
+Frozen x s i = frozenOf (tableOf (clusterOf x s)) i ≡ true
 
 -- ---- validation
 
@@ -180,7 +181,7 @@ NotPrimary x =
 
 -- 22, for 2: any of the cluster's segments is frozen
 abbrev pub ClusterFrozen : Call → Store → Type 0
-ClusterFrozen x s = Named (deleteCluster ∷ []) x × ((i : ℕ) × (i < 8) × frozen x s i)
+ClusterFrozen x s = Named (deleteCluster ∷ []) x × ((i : ℕ) × (i < 8) × Frozen x s i)
 
 -- 11, for 5, 6 and a look: the handle does not reference the segment
 abbrev pub NotReferenced : Call → Type 0
@@ -202,7 +203,7 @@ SegmentAbsent x s = Named (deleteSegment ∷ read ∷ write ∷ freeze ∷ look 
 
 -- 22, for 4, 6: the segment is frozen
 abbrev pub SegmentFrozen : Call → Store → Type 0
-SegmentFrozen x s = Named (deleteSegment ∷ write ∷ []) x × frozen x s (x .args .segment)
+SegmentFrozen x s = Named (deleteSegment ∷ write ∷ []) x × Frozen x s (x .args .segment)
 
 -- 15, for 5, 6, and not for a look: the buffer or the data is shorter than the segment
 abbrev pub Short : Call → Store → Type 0

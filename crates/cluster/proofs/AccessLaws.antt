@@ -1,5 +1,5 @@
--- A read or a write: the rows of all calls that open a cluster, then 11 and 14, which a look has too, then 22 and 15. A call that
--- no row turns down moves a part that lies inside the slice, since the store is sound.
+-- A read or a write: the rows of all calls that open a cluster, then 11 and 14, which a look has too, then 22 and 15. A
+-- call that no row turns down moves a part that lies inside the slice, since the store is sound.
 -- Assumes nothing.
 use mathlib.Core.Path.{_≡_, refl, sym, ap, _∙_}
 use mathlib.Core.Bool.{Bool, true, false, not, cond}

@@ -1,6 +1,6 @@
--- Calls 2, 4 and 10, which only the owner of a cluster may make: refused by the rows that they begin with, refused with 22, or
--- done, where the record found is the one that the call is about. What they share is shown once, of any call whose number is
--- that of such rows and which leaves a record made from the old one (`turned`, `kept`, `changed`).
+-- Calls 2, 4 and 10, which only the owner of a cluster may make: refused by the rows that they begin with, refused with
+-- 22, or done, where the record found is the one that the call is about. What they share is shown once, of any call whose
+-- number is that of such rows and which leaves a record made from the old one (`turned`, `kept`, `changed`).
 -- Assumes nothing.
 use mathlib.Core.Path.{_≡_, refl, sym, ap, ap₂, _∙_}
 use mathlib.Core.Bool.{Bool, true, false, not, cond}

@@ -13,9 +13,9 @@
 --     TwoImages          condition 3 of images: where the stores that two images hold, with their memories, differ only in
 --                        one cluster's secrets, and no call presents a handle that opens it, the replies of a list are
 --                        equal and its looks tell the same parts, and the runs agree as the copies of the stores do
---     FrozenOnImages     document 02, §3, of images: a segment that is present and frozen in the store that an image holds is
---                        fixed after any list of calls, in the store and the memory that are left; and the image left
---                        holds a store
+--     FrozenOnImages     document 02, §3, of images: a segment that is present and frozen in the store that an image
+--                        holds is fixed after any list of calls, in the store and the memory that are left; and the image
+--                        left holds a store
 --     RefusalLeaves      a call whose number is not 0 gives nothing else, and leaves image, memory and buffer as they were
 -- Assumes nothing.
 use mathlib.Core.Path.{_≡_}

@@ -1,15 +1,17 @@
--- The image of one store, and images that are damaged, written out. Which byte stands where is said by numbers alone, with no definition between.
+-- The image of one store, and images that are damaged, written out. Which byte stands where is said by numbers alone,
+-- with no definition between.
 --     empty           the record of an inactive cluster
 --     used g          that of an active one: the bytes of its passwords are 1 to 32; its segment 3 begins at 0102 and has
 --                     0304 bytes, hexadecimal, and is not frozen; its segment 4 is g; its segment 5 begins at 0506, has
 --                     0708 bytes, and is frozen
 --     sample g        the store whose record 10, of local number 2 of node 1, is the active one
---     usedBytes ..    the 73 bytes of that record: active, read password, write password, eight segments of five bytes; of
---                     these are given the active byte, a byte of the base and the mark of segment 4, and the mark of segment 5
+--     usedBytes ..    the 73 bytes of that record: active, read password, write password, eight segments of five bytes;
+--                     of these are given the active byte, a byte of the base and the mark of segment 4, and the mark of
+--                     segment 5
 --     sampleBytes ..  the 2,336 bytes of the store
 --     ImageBytes      with segment 4 absent they are its image, which is good, and it is the store that they hold
---     DamagedBytes    an active byte of 2, an absent segment with a base, marks of 2 and of 255: none of these is good. A mark
---                     of 1 on the absent segment is, and the store that is held is not sound by it; it is without
+--     DamagedBytes    an active byte of 2, an absent segment with a base, marks of 2 and of 255: none of these is good. A
+--                     mark of 1 on the absent segment is, and the store that is held is not sound by it; it is without
 -- Assumes nothing.
 use Prim.Native.Nat.{ℕ}
 use mathlib.Core.Path.{_≡_}

@@ -1,6 +1,7 @@
--- What is frozen stays, by induction over the list. A call done is about another cluster, or leaves the segment's entry alone:
--- deleting the cluster, deleting the segment or writing to it would have been refused with 22, making it anew with 13, making
--- the cluster anew with 6, and freezing it again changes nothing. What a call writes is another segment, or room that was free.
+-- What is frozen stays, by induction over the list. A call done is about another cluster, or leaves the segment's entry
+-- alone: deleting the cluster, deleting the segment or writing to it would have been refused with 22, making it anew with
+-- 13, making the cluster anew with 6, and freezing it again changes nothing. What a call writes is another segment, or
+-- room that was free.
 -- Assumes nothing.
 use mathlib.Core.Path.{_≡_, refl, sym, ap, _∙_, subst}
 use mathlib.Core.Logic.{_≢_, inr}

@@ -1,15 +1,15 @@
 -- Document 02, §3: what is frozen stays. The cluster of node v and local number l is record v * 8 + l, and byte k of the
 -- memory of node v is byte v * 4,096 + k of the slice.
 --     placeAt, frozenAt       the place and the mark of segment i of that cluster
---     Fixed v l i b n c d     in the copy d the cluster is active, and segment i of it is present and frozen, with base b and
---                             length n; its bytes are those of the copy c
---     FromThenOn v l i c d    segment i of that cluster is present in the copy c, and with the base and the length that it has
---                             there it is fixed in the copy d
+--     Fixed v l i b n c d     in the copy d the cluster is active, and segment i of it is present and frozen, with base b
+--                             and length n; its bytes are those of the copy c
+--     FromThenOn v l i c d    segment i of that cluster is present in the copy c, and with the base and the length that
+--                             it has there it is fixed in the copy d
 -- For every conversion f:
---     FrozenStays             a segment that is present and frozen in a sound copy is fixed, after any list of calls at all:
---                             none of them is left out, whatever handle it presents
---     FixedFromThenOn         document 02's own sentence: a freeze that is done, and then any list of calls; the bytes are
---                             those that the segment had before the freeze
+--     FrozenStays             a segment that is present and frozen in a sound copy is fixed, after any list of calls at
+--                             all: none of them is left out, whatever handle it presents
+--     FixedFromThenOn         document 02's own sentence: a freeze that is done, and then any list of calls; the bytes
+--                             are those that the segment had before the freeze
 -- Assumes nothing.
 use mathlib.Core.Path.{_≡_}
 use Prim.Native.Nat.{ℕ, _+_, _*_, _<_}

@@ -1,15 +1,15 @@
--- That what is frozen stays is not empty: a list of calls by a holder of both primary handles of the cluster, on the copy `one`
--- of the witness of condition 3. Handles and answers are written out.
+-- That what is frozen stays is not empty: a list of calls by a holder of both primary handles of the cluster, on the copy
+-- `one` of the witness of condition 3. Handles and answers are written out.
 --     theFreeze          a freeze of the cluster's segment, of four bytes
---     attempts           it is frozen again; written to, with enough data and with too little; deleted, and made anew; its
---                        cluster is deleted, and made anew; the same with a new write password; a segment beside it is made,
---                        written and deleted; and the frozen one is read and looked at
+--     attempts           it is frozen again; written to, with enough data and with too little; deleted, and made anew;
+--                        its cluster is deleted, and made anew; the same with a new write password; a segment beside it
+--                        is made, written and deleted; and the frozen one is read and looked at
 --     attemptAnswers     what is answered to the freeze and to these
 --     otherwise          what the write handle does to the segment and the cluster where nothing is frozen
 -- For every conversion f:
 --     FrozenList         the freeze is done, and the answers are computed
---     Standing           what the theorem says of it: in the end the segment has its place, its mark and its bytes still, and
---                        the cluster is active
+--     Standing           what the theorem says of it: in the end the segment has its place, its mark and its bytes still,
+--                        and the cluster is active
 --     Otherwise          without the freeze the same handle writes, deletes and makes anew
 -- Assumes nothing.
 use mathlib.Core.Path.{_≡_}

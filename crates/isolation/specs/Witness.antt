@@ -9,10 +9,11 @@
 --     weakPassword        what the parameter 128 turns the read password of local number 2 of node 3 into
 --     weakGiven           the bytes of the handle with that password, whose subselector 0 is 128
 --     weakShown           with the first sixteen bytes of that password; the same, where f gives sixteen bytes
---     before              each of the ten calls, validation and a look with a handle of the cluster that does not validate,
---                         all refused, and a weakening of one that does; each of them done for a cluster of the same node, a
---                         freeze for a second one, which is then not deleted; and some for one with the same local number, whose read handle is weakened, with looks from its
---                         node, one of them with a handle of the cluster set apart
+--     before              each of the ten calls, validation and a look with a handle of the cluster that does not
+--                         validate, all refused, and a weakening of one that does; each of them done for a cluster of the
+--                         same node, a freeze for a second one, which is then not deleted; and some for one with the same
+--                         local number, whose read handle is weakened, with looks from its node, one of them with a
+--                         handle of the cluster set apart
 --     last, lastLook      a read and a look with the weakened handle
 --     tries, answers      all these calls, and what both copies answer
 --     Witnessed           the copies and the list meet each hypothesis of condition 3, and the answers are computed

@@ -1,4 +1,5 @@
--- Document 01, "The list of calls": the sample's output line by line, and lines of the other forms; a freeze of document 02.
+-- Document 01, "The list of calls": the sample's output line by line, and lines of the other forms; a freeze of document
+-- 02.
 --     Example            a line that the definitions give, and how it is printed
 --     handle b ss        the handle of node 0, local number 2, the password of sixteen bytes b and the selector ss
 --     primary b          the same with a flat selector

@@ -1,12 +1,13 @@
--- Document 01, "The list of calls", with code 10 of document 02, written out: records by numbers and whole outputs by text, with no definition between.
+-- Document 01, "The list of calls", with code 10 of document 02, written out: records by numbers and whole outputs by
+-- text, with no definition between.
 --     pattern                   a record of 64 bytes, of which no two are equal
 --     patternCall bs            the arguments that it encodes, with the bytes bs
 --     patternData               a write's data in it: twenty bytes
 --     FieldsAt                  they are its code and arguments, for a read and for a write; the call that each code names
 --     sampleList, sampleText    the sample of document 01, its three records and its whole output
 --     codesList, codesText      calls of the codes 1 to 9 done, one refused, a bad code, a data length of 33
---     frozenList, frozenText    a segment frozen, and again; written to, deleted, and its cluster deleted, all refused; a freeze
---                               of a segment that is absent; and it is read
+--     frozenList, frozenText    a segment frozen, and again; written to, deleted, and its cluster deleted, all refused; a
+--                               freeze of a segment that is absent; and it is read
 --     fullList, fullText        a segment of the highest node, local number and number, as long as the node's memory, read
 --     handled                   a record with the fields in its first eight bytes, the primary handle of node 1 and local
 --                               number 4 with sixteen bytes b, and what stands where the passwords do

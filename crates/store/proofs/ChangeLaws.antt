@@ -1,5 +1,5 @@
--- Soundness after a change of one record. Each segment of the new record lies where it lay, or is absent, or is the one new
--- segment, which lies inside and is apart from all segments of its node: so any two are apart again.
+-- Soundness after a change of one record. Each segment of the new record lies where it lay, or is absent, or is the one
+-- new segment, which lies inside and is apart from all segments of its node: so any two are apart again.
 -- Assumes nothing.
 use mathlib.Core.Path.{_≡_, refl, sym, ap, _∙_, subst}
 use mathlib.Core.Logic.{_≢_, _⊎_, inl, inr}

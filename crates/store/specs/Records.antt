@@ -1,5 +1,5 @@
--- Document 01, "The store": the nodes, the clusters' records and how a segment is found in them. With the mark of document
--- 02, §3: a segment is frozen or not.
+-- Document 01, "The store": the nodes, the clusters' records and how a segment is found in them. With the mark of
+-- document 02, §3: a segment is frozen or not.
 --     segmentAt, markedAt          a segment at a place, not frozen, and frozen
 --     absentSegment, inactive      an absent segment, and a cluster's record as in the starting store
 --     startingStore                all clusters inactive

@@ -1,5 +1,5 @@
--- Document 01, "The store", the sentence that begins "Sound:", clause by clause and in its order. With document 02, §3: an
--- absent segment is never frozen in a sound store.
+-- Document 01, "The store", the sentence that begins "Sound:", clause by clause and in its order. With document 02, §3:
+-- an absent segment is never frozen in a sound store.
 --     sound s size    the records and a slice of that many bytes are sound:
 --       memory          the slice has as many bytes as the four memories
 --       soundSegment    its base and length lie in their ranges, and base plus length inside the node's memory; and it is

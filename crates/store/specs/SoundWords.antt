@@ -1,6 +1,6 @@
 -- Document 01, "The store", the sentence that begins "Sound:", in its own words and with its own numbers; `sound` is held
--- to it both ways. Records are numbered by node: the cluster of node v and local number l is record v * 8 + l. With document
--- 02, §3, at the end.
+-- to it both ways. Records are numbered by node: the cluster of node v and local number l is record v * 8 + l. With
+-- document 02, §3, at the end.
 --     ByteOf k p               byte k of a node's memory is one of the place's, which is present: one of the length
 --                              bytes from the base on
 --     ZeroPassword p           each of the sixteen bytes is zero

@@ -3,8 +3,8 @@
 --     reachRows h p i         rows 11 and 14, from the handle and the place of segment i
 --     reached ..              the number of a look, and of a read or a write but for 15, from what its rows look at: far and
 --                             away tell whether the current node is bad or not the handle's
---     accessRows h p i kept room    the rows 11 and 14; 22, where kept tells whether it applies; and 15, from how many bytes
---                             the buffer or the data has
+--     accessRows h p i kept room    the rows 11 and 14; 22, where kept tells whether it applies; and 15, from how many
+--                             bytes the buffer or the data has
 --     accessed ..             the number of a read or a write, from what its rows look at
 --     partOf h p              the part of the slice that is the place p of the memory of the handle's node
 --     Reaches ..              length bytes lie inside a memory of size bytes from `from` on, and the buffer or the data,
