@@ -57,7 +57,7 @@ module _ (f : Name → List ℕ → ℕ → List ℕ) (g : Arguments) (c : Copy)
     unfolding segmentAbsent
     freeze-present = no-row f x (c .store) (length (c .memory)) e .segmentAbsent
 
-    step-marked : step f x c ≡ record { copy = segmentMarked x c; reply = plain 0 [] }
+    pub step-marked : step f x c ≡ record { copy = segmentMarked x c; reply = plain 0 [] }
     unfolding left given
     step-marked = step-done f x c e
 

@@ -21,5 +21,6 @@ pub mod LookReadLaws
 pub mod MadeWordLaws
 pub mod FreezeLaws
 pub mod FreezeNumberLaws
+pub mod AsideLaws
 pub mod WrittenLaws
 pub mod EmptyWordLaws

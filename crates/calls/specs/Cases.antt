@@ -10,7 +10,9 @@
 --     nothing                   a selector that references nothing
 --     room, tight               buffers of three bytes and of two
 --     sample                    a store with that cluster: passwords of sixteen 3 and sixteen 4, and three bytes at 0
---     marked                    that store with its segment frozen
+--     marked                    that store with its segment frozen; its segment 4 has the two bytes at 3, and a second
+--                               cluster of the node, local number 4 with sixteen 6 and sixteen 7, three bytes at 5
+--     beside b                  the primary handle of that cluster
 --     Case, gives               a number and a call that gets it
 --     damaged                   a call of every kind on a slice that lacks a byte: weakening alone does not get 1
 --     refusals                  for each number from 2 on but 22, a call of each kind that its row names; a look and a
@@ -82,7 +84,15 @@ abbrev pub sample : Store
 sample = putRecord startingStore (recordOf 1 2) (withPlace (started (sixteen 3) (sixteen 4)) 5 (Present 0 3))
 
 abbrev pub marked : Store
-marked = putRecord startingStore (recordOf 1 2) (withMark (withPlace (started (sixteen 3) (sixteen 4)) 5 (Present 0 3)) 5)
+marked =
+    putRecord
+    (putRecord startingStore (recordOf 1 2)
+    (withPlace (withMark (withPlace (started (sixteen 3) (sixteen 4)) 5 (Present 0 3)) 5) 4 (Present 3 2)))
+    (recordOf 1 4)
+    (withPlace (started (sixteen 6) (sixteen 7)) 5 (Present 5 3))
+
+abbrev pub beside : ℕ → List ℕ
+beside b = shown 1 4 b (flats segments)
 
 abbrev pub room : List ℕ
 room = 0 ∷ 0 ∷ 0 ∷ []
@@ -238,7 +248,7 @@ frozen =
     ∷ gives 22 (deletingSegment 1 5 (primary 4))
     ∷ gives 22 (writing 5 (primary 4) room)
     ∷ gives 22 (writing 5 (weak 4) room)
-    -- the segments beside it are absent as ever, and it is present
+    -- another segment of the cluster is absent as ever, and it is present
     ∷ gives 14 (deletingSegment 1 6 (primary 4))
     ∷ gives 14 (writing 6 (primary 4) room)
     ∷ gives 14 (freezing 1 6 (primary 4))
@@ -253,6 +263,18 @@ frozen =
     ∷ gives 0 (renewing 2 (primary 4) (sixteen 8))
     ∷ gives 0 (validating 2 (weak 4))
     ∷ gives 0 (looking 1 5 (weak 3))
+    ∷ gives 0 (reading 5 (weak 3) room)
+    ∷ gives 0 (reducing 1 (weak 3))
+    ∷ gives 0 (renewing 1 (primary 3) (sixteen 8))
+    ∷ gives 0 (validating 1 (weak 3))
+    -- the segment beside it, and another cluster of the node
+    ∷ gives 0 (freezing 1 4 (primary 4))
+    ∷ gives 0 (writing 4 (primary 4) room)
+    ∷ gives 0 (deletingSegment 1 4 (primary 4))
+    ∷ gives 0 (freezing 1 5 (beside 7))
+    ∷ gives 0 (writing 5 (beside 7) room)
+    ∷ gives 0 (deletingSegment 1 5 (beside 7))
+    ∷ gives 0 (deletingCluster 1 (beside 7))
     ∷ []
 
 abbrev pub calls : List Case → List Call

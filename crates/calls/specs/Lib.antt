@@ -16,3 +16,4 @@ pub mod Orders
 pub mod Bounds
 pub mod Written
 pub mod Answers
+pub mod MarkWords

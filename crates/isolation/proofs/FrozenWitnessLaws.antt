@@ -4,7 +4,9 @@ use mathlib.Core.Path.{_≡_, refl, sym, ap, _∙_}
 use Prim.Native.Nat.{ℕ, _+_, _*_}
 use native.Mathlib.Omega.{arith}
 use mathlib.Core.List.{List, _∷_}
+use mathlib.Core.Bool.{false≢true}
 use lib.ListN.{getD}
+use Rattle.store.specs.Records.{Table, frozenOf}
 use Rattle.sizes.specs.Sizes.{memory}
 use Rattle.handle.specs.Handles.{Name}
 use Rattle.calls.specs.Numbers.{tests}
@@ -15,9 +17,13 @@ use Rattle.isolation.specs.Copies.{Done}
 use Rattle.isolation.specs.Frozen.{Fixed}
 use Rattle.isolation.specs.Witness.{one}
 use Rattle.isolation.specs.FrozenWitness.{theFreeze, attempts, attemptAnswers, otherwise, FrozenList, Standing, Otherwise}
+use Rattle.isolation.specs.FrozenWitness.{Tabled}
 use Rattle.isolation.proofs.RunLaws.{run-below}
 use Rattle.isolation.proofs.FrozenLaws.{fixed-from-then-on}
 use Rattle.isolation.proofs.WitnessLaws.{sound-one, four}
+
+pub tabled : Tabled
+tabled h = false≢true (ap (λ (t : Table). frozenOf t 5) (h .table))
 
 module _ (f : Name → List ℕ → ℕ → List ℕ) where
   frozen-done : Done f theFreeze one

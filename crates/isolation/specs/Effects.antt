@@ -19,7 +19,8 @@
 -- And of a call done or refused:
 --     OtherSegments      the record a has become b: active or not, passwords and the other segments are as they were
 --     OtherPassword      its table and the password of the other mode are as they were
---     OtherMarks         all is as it was but for the mark of the segment that the call names
+--     OtherMarks         all is as it was but for the mark of the segment that the call names; what a freeze makes of that
+--                        mark is said in `FreezeInWords` of `calls`
 --     Entries k x a b    what a call of the kind k leaves alone in its own cluster's record, a before it and b after
 --     EntriesStay        every call leaves these alone
 -- Assumes nothing.

@@ -3,7 +3,9 @@
 --     theFreeze          a freeze of the cluster's segment, of four bytes
 --     attempts           it is frozen again; written to, with enough data and with too little; deleted, and made anew;
 --                        its cluster is deleted, and made anew; the same with a new write password; a segment beside it
---                        is made, written and deleted; and the frozen one is read and looked at
+--                        is made, written and deleted; a weakening, a reduction and a validation; another cluster of the
+--                        node with a segment after it; and the frozen one is read and looked at
+--     marked             the copy `one` with the segment frozen
 --     attemptAnswers     what is answered to the freeze and to these
 --     otherwise          what the write handle does to the segment and the cluster where nothing is frozen
 -- For every conversion f:
@@ -11,6 +13,7 @@
 --     Standing           what the theorem says of it: in the end the segment has its place, its mark and its bytes still,
 --                        and the cluster is active
 --     Otherwise          without the freeze the same handle writes, deletes and makes anew
+--     Tabled             the mark is part of the table: the copies `one` and `marked` are not alike
 -- Assumes nothing.
 use mathlib.Core.Path.{_≡_}
 use Prim.Native.Nat.{ℕ, _<_}
@@ -19,12 +22,12 @@ use mathlib.Core.List.{List, [], _∷_}
 use lib.ListN.{getD}
 use Rattle.handle.specs.Handles.{Name}
 use Rattle.store.specs.declared.Place.the-variants.{Present}
-use Rattle.store.specs.Records.{clusterAt}
-use Rattle.calls.specs.Calls.{Call, makingCluster, deletingCluster, makingSegment, deletingSegment, reading}
-use Rattle.calls.specs.Calls.{writing, renewing, freezing, looking}
+use Rattle.store.specs.Records.{startingStore, clusterAt, putRecord, withMark}
+use Rattle.calls.specs.Calls.{Copy, Call, makingCluster, deletingCluster, makingSegment, deletingSegment, reading}
+use Rattle.calls.specs.Calls.{writing, weakeningBy, reducing, renewing, freezing, validating, looking}
 use Rattle.calls.specs.Steps.{Reply, run}
 use Rattle.calls.specs.Literals.{sixteen, primary, none, told, shows}
-use Rattle.isolation.specs.Copies.{Done}
+use Rattle.isolation.specs.Copies.{Done, Alike}
 use Rattle.isolation.specs.Frozen.{placeAt, frozenAt}
 use Rattle.isolation.specs.Witness.{one}
 
@@ -46,6 +49,14 @@ attempts =
     ∷ writing 6 (primary 0 2 6) (5 ∷ 5 ∷ 5 ∷ 5 ∷ [])
     ∷ deletingSegment 0 6 (primary 0 2 6)
     ∷ deletingCluster 0 (primary 0 2 6)
+    ∷ weakeningBy 255 (primary 0 2 6)
+    ∷ reducing 2 (primary 0 2 6)
+    ∷ validating 2 (primary 0 2 6)
+    ∷ makingCluster 0 3 (sixteen 3) (sixteen 4)
+    ∷ makingSegment 0 5 4 (primary 0 3 4)
+    ∷ writing 5 (primary 0 3 4) (5 ∷ 5 ∷ 5 ∷ 5 ∷ [])
+    ∷ deletingSegment 0 5 (primary 0 3 4)
+    ∷ deletingCluster 0 (primary 0 3 4)
     ∷ reading 5 (primary 0 2 17) (1 ∷ 2 ∷ 3 ∷ 4 ∷ 5 ∷ [])
     ∷ looking 0 5 (primary 0 2 17)
     ∷ []
@@ -66,6 +77,14 @@ attemptAnswers =
     ∷ told 0 none none 0 0 (5 ∷ 5 ∷ 5 ∷ 5 ∷ [])
     ∷ told 0 none none 0 0 []
     ∷ told 22 none none 0 0 []
+    ∷ told 0 (primary 0 2 6) none 8 0 []
+    ∷ told 0 (primary 0 2 6) none 0 0 []
+    ∷ told 0 none none 0 0 []
+    ∷ told 0 (primary 0 3 3) (primary 0 3 4) 0 0 []
+    ∷ told 0 none none 0 0 []
+    ∷ told 0 none none 0 0 (5 ∷ 5 ∷ 5 ∷ 5 ∷ [])
+    ∷ told 0 none none 0 0 []
+    ∷ told 0 none none 0 0 []
     ∷ told 0 none none 0 4 (7 ∷ 7 ∷ 7 ∷ 7 ∷ 5 ∷ [])
     ∷ shows 0 (7 ∷ 7 ∷ 7 ∷ 7 ∷ [])
     ∷ []
@@ -78,6 +97,12 @@ otherwise =
     ∷ deletingCluster 0 (primary 0 2 34)
     ∷ makingCluster 0 2 (sixteen 3) (sixteen 4)
     ∷ []
+
+abbrev marked : Copy
+marked = record { store = putRecord startingStore 2 (withMark (clusterAt (one .store) 2) 5); memory = one .memory }
+
+abbrev pub Tabled : Type 0
+Tabled = Alike 0 2 one marked → ⊥
 
 module _ (f : Name → List ℕ → ℕ → List ℕ) where
   pub record FrozenList : Type 0 where
