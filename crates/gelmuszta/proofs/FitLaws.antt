@@ -1,23 +1,29 @@
--- A call keeps a store in range: a new segment ends inside its node's memory, and passwords come in with sixteen bytes.
+-- A call keeps a store in range: a new segment ends inside its node's memory, and passwords come in with sixteen bytes. That
+-- they do is one computed test of a list of calls.
 -- Assumes nothing.
 use mathlib.Core.Path.{_≡_, refl}
-use mathlib.Core.List.{List}
+use mathlib.Core.Bool.{Bool, true, false, not, _&&_, _||_, false≢true}
+use mathlib.Core.List.{List, [], _∷_}
 use Prim.Native.Nat.{ℕ, zero, suc}
 use native.Mathlib.Omega.{arith}
+use borrow.Author.Tests.{eqb-true}
+use lib.Dec.{eqb}
 use lib.ListN.{length}
+use Rattle.loops.proofs.BelowLaws.{and-left, and-right}
+use Rattle.sizes.specs.Sizes.{passwordBytes}
 use Rattle.handle.specs.Handles.{Name}
 use Rattle.store.specs.declared.Place.the-variants.{Present}
 use Rattle.store.specs.Records.{tableAt}
 use Rattle.store.proofs.PlaceLaws.{inside-out}
 use Rattle.store.proofs.PlacementLaws.{newBase-fits}
-use Rattle.calls.specs.Calls.{Copy, Kind, Call, Arguments, call, newCluster, deleteCluster, newSegment, deleteSegment}
+use Rattle.calls.specs.Calls.{Copy, Kind, Call, Arguments, call, uses, newCluster, deleteCluster, newSegment, deleteSegment}
 use Rattle.calls.specs.Calls.{read, write, weaken, reduce, newPassword, freeze, validate, look, nodeFor, recordFor}
 use Rattle.calls.specs.Numbers.{number}
 use Rattle.calls.specs.Steps.{about, newBaseFor, outcome, step, left, effects}
 use Rattle.calls.proofs.DoneLaws.{done-range, new-base}
 use Rattle.image.specs.Ranges.{PlaceFits, ClusterFits, StoreFits}
 use Rattle.image.proofs.RangeLaws.{put-fits, place-fits, mark-fits, absent-fits, started-fits, inactive-fits, password-fits}
-use Rattle.gelmuszta.specs.Fits.{PasswordsFit}
+use Rattle.gelmuszta.specs.Fits.{PasswordsFit, AllFit, fitting}
 
 module _ (f : Name → List ℕ → ℕ → List ℕ) where
   module _ (g : Arguments) (c : Copy) (k : StoreFits (c .store)) where
@@ -66,3 +72,39 @@ module _ (f : Name → List ℕ → ℕ → List ℕ) where
       go : (n : ℕ) → number f x (c .store) (length (c .memory)) ≡ n → StoreFits (outcome f n x c .copy .store)
       go zero e = left-fits (x .args) c k (x .kind) p e
       go (suc n) e = k
+
+-- ---- a list that fits
+
+-- a password has sixteen bytes if it is taken in
+abbrev sixteen : Bool → List ℕ → Bool
+sixteen used p = not used || eqb (length p) passwordBytes
+
+sixteen-out : (used : Bool) (p : List ℕ) → sixteen used p ≡ true → used ≡ true → length p ≡ passwordBytes
+sixteen-out true p e u = eqb-true (length p) passwordBytes e
+sixteen-out false p e u = absurd (false≢true u)
+
+module _ (x : Call) where
+  abbrev first : Bool
+  first = sixteen (uses (x .kind) .first) (x .args .first)
+
+  abbrev second : Bool
+  second = sixteen (uses (x .kind) .second) (x .args .second)
+
+  call-fits : (first && second) ≡ true → PasswordsFit x
+  call-fits e =
+      record {
+        first = sixteen-out (uses (x .kind) .first) (x .args .first) (and-left first second e);
+        second = sixteen-out (uses (x .kind) .second) (x .args .second) (and-right first second e);
+      }
+
+abbrev fits : List Call → Bool
+fits [] = true
+fits (x ∷ xs) = (first x && second x) && fits xs
+
+fits-out : (xs : List Call) → fits xs ≡ true → AllFit xs
+fits-out [] e = tt
+fits-out (x ∷ xs) e =
+    (call-fits x (and-left (first x && second x) (fits xs) e), fits-out xs (and-right (first x && second x) (fits xs) e))
+
+pub all-fit : AllFit fitting
+all-fit = fits-out fitting refl

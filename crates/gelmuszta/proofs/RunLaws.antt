@@ -1,20 +1,24 @@
 -- On the image of a store in range a call is the step on that store, and what the step leaves is in range again: so a list
--- of calls is a run of steps. A refusal leaves the store, whose image the bytes are.
+-- of calls is a run of steps, and what is fixed at the end of the run is fixed on the image. A refusal leaves the store,
+-- whose image the bytes are.
 -- Assumes nothing.
 use mathlib.Core.Path.{_≡_, refl, sym, ap, ap₂, _∙_, subst}
-use mathlib.Core.Bool.{Bool, true, false}
+use mathlib.Core.Bool.{Bool, true, false, not, false≢true}
 use mathlib.Core.List.{List, [], _∷_, map}
 use lib.ListN.{length}
 use Prim.Native.Nat.{ℕ}
+use native.Mathlib.Omega.{arith}
+use borrow.Author.Tests.{not-true}
 use Rattle.handle.specs.Conversion.{product}
 use Rattle.store.specs.declared.Store.{Store}
 use Rattle.calls.specs.declared.Part.{Part}
 use Rattle.calls.specs.declared.Looked.{Looked}
-use Rattle.calls.specs.Calls.{Copy, Call, among, isLook}
+use Rattle.calls.specs.Calls.{Copy, Call, Arguments, call, freeze, among, isLook}
 use Rattle.calls.specs.Looks.{aesLooked}
 use Rattle.calls.specs.Steps.{Outcome, run, aesStep}
 use Rattle.calls.specs.Answers.{copyOf}
-use Rattle.isolation.specs.Copies.{also, places}
+use Rattle.calls.proofs.KindLaws.{but-is}
+use Rattle.isolation.specs.Copies.{Done, also, places}
 use Rattle.isolation.proofs.TwoCopies.{two-copies}
 use Rattle.bits.specs.Bytes.{Bytes}
 use Rattle.image.specs.Images.{imageBytes, good, storeIn, imageOf}
@@ -22,14 +26,17 @@ use Rattle.image.specs.Ranges.{StoreFits}
 use Rattle.image.proofs.TripLaws.{good-image, store-image, image-store}
 use Rattle.image.proofs.RangeLaws.{store-held}
 use Rattle.gelmuszta.specs.Exported.{Exported, damaged, imaged, exported, exportedPart}
-use Rattle.gelmuszta.specs.Fits.{AllFit}
+use Rattle.gelmuszta.specs.Fits.{PasswordsFit, AllFit}
 use Rattle.gelmuszta.specs.Runs.{RanOn, runOn, followedBy, placesOn, imagedRun, ListsAreRuns, PlacesAreRuns, held, TwoImages, refusedWith}
-use Rattle.gelmuszta.specs.Runs.{RefusalLeaves, FrozenOnImages}
+use Rattle.gelmuszta.specs.Runs.{FixedOn, FrozenOnImages, FrozenFromThenOn, DamagedRefused, RefusalLeaves}
 use Rattle.isolation.specs.Frozen.{Fixed}
-use Rattle.isolation.proofs.FrozenLaws.{frozen-stays}
-use Rattle.gelmuszta.proofs.ExportLaws.{damagedBy, picked, step-leaves}
+use Rattle.isolation.proofs.FrozenLaws.{frozen-stays, fixed-from-then-on}
+use Rattle.gelmuszta.proofs.ExportLaws.{damagedBy, picked, step-leaves, step-number}
 use Rattle.gelmuszta.proofs.LookLaws.{placed}
 use Rattle.gelmuszta.proofs.FitLaws.{step-fits}
+
+abbrev numberOf : Exported → ℕ
+numberOf o = o .reply .number
 
 exported-good : (x : Call) (b m : List ℕ) → good b ≡ true → exported x b m ≡ imaged (aesStep x (copyOf (storeIn b) m))
 unfolding exported
@@ -107,15 +114,16 @@ run-fits : (xs : List Call) (c : Copy) → AllFit xs → StoreFits (c .store) �
 run-fits [] c p k = k
 run-fits (x ∷ xs) c p k = run-fits xs (aesStep x c .copy) (p .1) (step-fits product x c (p .0) k)
 
-pub frozen-on-images : FrozenOnImages
-frozen-on-images v l i base size hv hl hi xs b m p h g s q t =
+carried : (v l i base size : ℕ) (xs : List Call) (b m : List ℕ) → AllFit xs → Bytes imageBytes b → good b ≡ true
+    → Fixed v l i base size (held b m) (run product xs (held b m) .copy) → FixedOn v l i base size xs b m
+carried v l i base size xs b m p h g f =
     record {
       good = ap (λ (r : RanOn). good (r .image)) left ∙ good-image (end .store) fits;
       fixed =
           subst (Fixed v l i base size (held b m))
           (ap₂ copyOf (sym (store-image (end .store) fits) ∙ ap (λ (r : RanOn). storeIn (r .image)) (sym left))
           (ap (λ (r : RanOn). r .memory) (sym left)))
-          (frozen-stays product v l i base size hv hl hi xs (held b m) s q t);
+          f;
     }
   where
     end : Copy
@@ -127,15 +135,53 @@ frozen-on-images v l i base size hv hl hi xs b m p h g s q t =
     left : runOn xs b m ≡ imagedRun (run product xs (held b m))
     left = lists-are-runs xs b m p h g
 
--- ---- a refusal
+pub frozen-on-images : FrozenOnImages
+frozen-on-images v l i base size hv hl hi xs b m p h g s q t =
+    carried v l i base size xs b m p h g (frozen-stays product v l i base size hv hl hi xs (held b m) s q t)
 
-abbrev numberOf : Exported → ℕ
-numberOf o = o .reply .number
+module _ (g : Arguments) (b m : List ℕ) where
+  abbrev freezes : Call
+  freezes = call freeze g
+
+  -- a freeze takes in no password
+  freeze-fits : PasswordsFit freezes
+  freeze-fits = record { first = λ q. absurd (false≢true q); second = λ q. absurd (false≢true q) }
+
+  module _ (z : numberOf (exported freezes b m) ≡ 0) where
+    -- an image that holds no store is refused
+    done-good : good b ≡ true
+    done-good = go (good b) refl
+      where
+        go : (t : Bool) → good b ≡ t → good b ≡ true
+        go true e = e
+        go false e = let o = sym (ap numberOf (exported-damaged freezes b m e)) ∙ z in absurd (omega arith)
+
+    done-step : Done product freezes (held b m)
+    done-step = step-number freezes (held b m) (sym (ap numberOf (exported-good freezes b m done-good)) ∙ z)
+
+pub frozen-from-then-on : FrozenFromThenOn
+frozen-from-then-on g xs b m p h z =
+    let f = fixed-from-then-on product g xs (held b m) (done-step g b m z) in
+    record {
+      present = f .present;
+      fixed = λ base size q.
+          carried _ _ (g .segment) base size (call freeze g ∷ xs) b m (freeze-fits g b m, p) h (done-good g b m z)
+          (f .fixed base size q);
+    }
+
+-- ---- a refusal
 
 -- what is refused with its own number
 told : (x : Call) (b m : List ℕ) (o : Exported) → exported x b m ≡ o → o ≡ refusedWith (numberOf o) x b m
     → exported x b m ≡ refusedWith (numberOf (exported x b m)) x b m
 told x b m o e r = e ∙ r ∙ ap (λ (n : ℕ). refusedWith n x b m) (sym (ap numberOf e))
+
+-- every kind but weakening has another code than 7
+pub damaged-refused : DamagedRefused
+damaged-refused x b m n g =
+    exported-damaged x b m g
+    ∙ ap (λ (u : Bool). damagedBy u x b m)
+    (not-true (among (7 ∷ []) (x .kind)) (but-is (λ k. not (among (7 ∷ []) k)) refl x .into n))
 
 pub refusal-leaves : RefusalLeaves
 refusal-leaves x b m h = go (good b) refl

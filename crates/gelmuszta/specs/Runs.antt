@@ -16,22 +16,28 @@
 --     FrozenOnImages     document 02, §3, of images: a segment that is present and frozen in the store that an image
 --                        holds is fixed after any list of calls, in the store and the memory that are left; and the image
 --                        left holds a store
+--     FromThenOnImages ..    segment i of the cluster of node v and local number l is present in the store that the image
+--                        holds, and with the base and the length that it has there it is fixed after the list
+--     FrozenFromThenOn   document 02's own sentence, of images: a freeze that is done, and then any list; the bytes are
+--                        those that the segment had before the freeze
+--     DamagedRefused     on an image that holds no store every call but weakening is refused with 1, and nothing changes
 --     RefusalLeaves      a call whose number is not 0 gives nothing else, and leaves image, memory and buffer as they were
 -- Assumes nothing.
 use mathlib.Core.Path.{_≡_}
 use mathlib.Core.Logic.{_≢_}
-use mathlib.Core.Bool.{true}
+use mathlib.Core.Bool.{true, false}
 use mathlib.Core.List.{List, [], _∷_, map}
 use Prim.Native.Nat.{ℕ, _<_}
 use lib.ListN.{length}
 use Rattle.sizes.specs.Sizes.{nodes, clusters}
+use Rattle.handle.specs.Handles.{nodeOf}
 use Rattle.handle.specs.Conversion.{product}
 use Rattle.bits.specs.Bytes.{Bytes}
 use Rattle.store.specs.declared.Place.the-variants.{Present}
 use Rattle.store.specs.Records.{tableAt}
 use Rattle.calls.specs.declared.Part.{Part}
 use Rattle.calls.specs.declared.Looked.{Looked}
-use Rattle.calls.specs.Calls.{Copy, Call, isLook, buffer}
+use Rattle.calls.specs.Calls.{Copy, Call, Arguments, call, weaken, freeze, isLook, handleOf, buffer}
 use Rattle.calls.specs.Steps.{Reply, Ran, plain, run}
 use Rattle.calls.specs.Answers.{copyOf}
 use Rattle.isolation.specs.Copies.{SoundCopy, setApart, Alike, AllShut, also, places}
@@ -99,8 +105,23 @@ FrozenOnImages =
     → placeAt (storeIn b) v l i ≡ Present base size → frozenAt (storeIn b) v l i ≡ true
     → FixedOn v l i base size xs b m
 
+pub record FromThenOnImages (v l i : ℕ) (xs : List Call) (b m : List ℕ) : Type 0 where
+  pub present : (base : ℕ) × (size : ℕ) × (placeAt (storeIn b) v l i ≡ Present base size)
+  pub fixed : (base size : ℕ) → placeAt (storeIn b) v l i ≡ Present base size → FixedOn v l i base size xs b m
+
+-- that it is done says that the image holds a store
+abbrev pub FrozenFromThenOn : Type 0
+FrozenFromThenOn =
+    (g : Arguments) (xs : List Call) (b m : List ℕ) → let x = call freeze g in
+    AllFit xs → Bytes imageBytes b → exported x b m .reply .number ≡ 0
+    → FromThenOnImages (nodeOf (handleOf x)) (handleOf x .local) (g .segment) (x ∷ xs) b m
+
 abbrev pub refusedWith : ℕ → Call → List ℕ → List ℕ → Exported
 refusedWith n x b m = record { reply = plain n (buffer x); image = b; memory = m }
+
+abbrev pub DamagedRefused : Type 0
+DamagedRefused =
+    (x : Call) (b m : List ℕ) → x .kind ≢ weaken → good b ≡ false → exported x b m ≡ refusedWith 1 x b m
 
 abbrev pub RefusalLeaves : Type 0
 RefusalLeaves =

@@ -5,6 +5,7 @@ pub mod RecordLaws
 pub mod SegmentTripLaws
 pub mod TripLaws
 pub mod RangeLaws
+pub mod WordLaws
 pub mod LiteralLaws
 pub mod ClaimLaws
 pub mod IdleLaws

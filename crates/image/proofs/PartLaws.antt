@@ -26,6 +26,14 @@ length-slot w b n k e h = mid-len (k * w) (k * w + w) b fits ∙ width (k * w) w
     fits : k * w + w ≤ length b
     fits = subst (λ (m : ℕ). k * w + w ≤ m) (sym e) (subst (λ (m : ℕ). m ≤ n * w) (suc-mul k w) (mul-le-mul-right w h))
 
+-- byte j of a part
+pub getD-part : (b : List ℕ) (from to j : ℕ) → j < to - from → getD (part b from to) j 0 ≡ getD b (from + j) 0
+getD-part b from to j h = getD-take (to - from) (drop from b) j 0 h ∙ getD-drop from b j 0
+
+pub getD-slot : (w : ℕ) (b : List ℕ) (k j : ℕ) → j < w → getD (slot w b k) j 0 ≡ getD b (k * w + j) 0
+getD-slot w b k j h =
+    getD-part b (k * w) (k * w + w) j (subst (λ (m : ℕ). j < m) (sym (width (k * w) w)) h)
+
 -- each byte of a part is one of the bytes
 pub below-part : (b : List ℕ) (from to : ℕ) → ((i : ℕ) → getD b i 0 < 256) → (i : ℕ) → getD (part b from to) i 0 < 256
 below-part b from to h i = go (ltb i (to - from)) refl
@@ -33,7 +41,7 @@ below-part b from to h i = go (ltb i (to - from)) refl
     go : (t : Bool) → ltb i (to - from) ≡ t → getD (part b from to) i 0 < 256
     go true q =
         subst (λ (x : ℕ). x < 256)
-        (sym (getD-take (to - from) (drop from b) i 0 (ltb-true i (to - from) q) ∙ getD-drop from b i 0)) (h (from + i))
+        (sym (getD-part b from to i (ltb-true i (to - from) q))) (h (from + i))
     go false q =
         let over = ltb-false i (to - from) q in
         let l : length (part b from to) ≤ i = omega (arith, length-take (to - from) (drop from b)) in

@@ -131,7 +131,7 @@ module _ (g : Segment) where
   unfolding segmentOut placeOut bytes
   length-segment = refl
 
-  mark-out : markIn (segmentOut g) ≡ flagOut (g .frozen)
+  pub mark-out : markIn (segmentOut g) ≡ flagOut (g .frozen)
   unfolding segmentOut placeOut bytes
   mark-out = refl
 

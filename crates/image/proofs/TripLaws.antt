@@ -37,22 +37,22 @@ module _ (gs : List Segment) where
   unfolding segmentsOut
   length-segments = length-joined segmentBytes segments each (λ i h. length-segment (getD gs i absentSegment))
 
-  at : (i : ℕ) → i < segments → slot segmentBytes (segmentsOut gs) i ≡ each i
+  pub segment-at : (i : ℕ) → i < segments → slot segmentBytes (segmentsOut gs) i ≡ each i
   unfolding segmentsOut
-  at i h = slot-joined segmentBytes segments each (λ i h. length-segment (getD gs i absentSegment)) i h
+  segment-at i h = slot-joined segmentBytes segments each (λ i h. length-segment (getD gs i absentSegment)) i h
 
   module _ (fit : (i : ℕ) → i < segments → PlaceFits (getD gs i absentSegment .place)) where
     segments-trip : length gs ≡ segments → segmentsIn (segmentsOut gs) ≡ gs
     unfolding segmentsIn
     segments-trip e =
         sym (tabulate-is segments (segmentHeld (segmentsOut gs)) absentSegment gs e
-        (λ i h. sym (ap segmentIn (at i h) ∙ segment-trip (getD gs i absentSegment) (fit i h))))
+        (λ i h. sym (ap segmentIn (segment-at i h) ∙ segment-trip (getD gs i absentSegment) (fit i h))))
 
     segments-good : goodSegments (segmentsOut gs) ≡ true
     unfolding goodSegments
     segments-good =
         every-in segments (λ i. goodSegment (slot segmentBytes (segmentsOut gs) i))
-        (λ i h. ap goodSegment (at i h) ∙ segment-good (getD gs i absentSegment) (fit i h))
+        (λ i h. ap goodSegment (segment-at i h) ∙ segment-good (getD gs i absentSegment) (fit i h))
 
 segments-back : (q : List ℕ) → Bytes (segments * segmentBytes) q → goodSegments q ≡ true → segmentsOut (segmentsIn q) ≡ q
 unfolding segmentsOut segmentsIn goodSegments
@@ -91,25 +91,33 @@ module _ (c : Cluster) (fit : ClusterFits c) where
   unfolding recordOut
   length-record = length-all (flagOut (c .active)) (c .read) (c .write) (segmentsOut (c .segments)) (fit .read) (fit .write) ls
 
-  table : part (recordOut c) segmentsAt recordBytes ≡ segmentsOut (c .segments)
+  pub read-in : part (recordOut c) readAt writeAt ≡ c .read
   unfolding recordOut
-  table = part-segments (flagOut (c .active)) (c .read) (c .write) (segmentsOut (c .segments)) (fit .read) (fit .write) ls
+  read-in = part-read (flagOut (c .active)) (c .read) (c .write) (segmentsOut (c .segments)) (fit .read) (fit .write) ls
+
+  pub write-in : part (recordOut c) writeAt segmentsAt ≡ c .write
+  unfolding recordOut
+  write-in = part-write (flagOut (c .active)) (c .read) (c .write) (segmentsOut (c .segments)) (fit .read) (fit .write) ls
+
+  pub segments-in : part (recordOut c) segmentsAt recordBytes ≡ segmentsOut (c .segments)
+  unfolding recordOut
+  segments-in = part-segments (flagOut (c .active)) (c .read) (c .write) (segmentsOut (c .segments)) (fit .read) (fit .write) ls
 
   record-trip : clusterIn (recordOut c) ≡ c
   unfolding recordOut clusterIn
   record-trip =
       λ j. record {
         active = flag-trip (c .active) j;
-        read = part-read (flagOut (c .active)) (c .read) (c .write) (segmentsOut (c .segments)) (fit .read) (fit .write) ls j;
-        write = part-write (flagOut (c .active)) (c .read) (c .write) (segmentsOut (c .segments)) (fit .read) (fit .write) ls j;
-        segments = (ap segmentsIn table ∙ segments-trip (c .segments) (fit .places) (fit .eight)) j;
+        read = read-in j;
+        write = write-in j;
+        segments = (ap segmentsIn segments-in ∙ segments-trip (c .segments) (fit .places) (fit .eight)) j;
       }
 
   record-good : goodRecord (recordOut c) ≡ true
   unfolding recordOut goodRecord
   record-good =
       and-both (goodFlag (flagOut (c .active))) (goodSegments (part (recordOut c) segmentsAt recordBytes))
-      (flag-good (c .active)) (ap goodSegments table ∙ segments-good (c .segments) (fit .places))
+      (flag-good (c .active)) (ap goodSegments segments-in ∙ segments-good (c .segments) (fit .places))
 
 pub record-back : (q : List ℕ) → Bytes recordBytes q → goodRecord q ≡ true → recordOut (clusterIn q) ≡ q
 unfolding recordOut clusterIn goodRecord
@@ -132,7 +140,7 @@ record-back (x ∷ q) h g =
 -- ---- the store
 
 module _ (s : Store) (fit : StoreFits s) where
-  record-at : (n : ℕ) → n < records → slot recordBytes (imageOf s) n ≡ recordOut (clusterAt s n)
+  pub record-at : (n : ℕ) → n < records → slot recordBytes (imageOf s) n ≡ recordOut (clusterAt s n)
   unfolding imageOf
   record-at n h =
       slot-joined recordBytes records (λ k. recordOut (clusterAt s k)) (λ k l. length-record (clusterAt s k) (fit .each k l)) n h

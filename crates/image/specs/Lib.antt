@@ -2,4 +2,5 @@ pub mod Parts
 pub mod Images
 pub mod inner
 pub mod Ranges
+pub mod Words
 pub mod Literals

@@ -7,6 +7,7 @@
 --     told code a s          what stands after the number: of a call done what it gives, of a refused call nothing
 --     callLine k code a s    the line of record k: record number, code and number in decimal, and what is told
 --     RefusedStops           the line of a refused call stops at its number
+--     OthersStop             so does that of any call but 1, 5, 7, 8 and 9, done or refused
 --     wordLine w n           the line of a word and a number
 --     endLine n              the last line, where the chain has n records
 --     refusedLine n          the single line of a list that is refused with n
@@ -43,6 +44,11 @@ callLine k code a s = line (decimal k) (decimal code ∷ decimal (a .number) ∷
 abbrev pub RefusedStops : Type 0
 RefusedStops =
     (k code : ℕ) (a : Answer) (s : List ℕ) → a .number ≢ 0
+    → callLine k code a s ≡ line (decimal k) (decimal code ∷ decimal (a .number) ∷ [])
+
+abbrev pub OthersStop : Type 0
+OthersStop =
+    (k code : ℕ) (a : Answer) (s : List ℕ) → code ≢ 1 → code ≢ 5 → code ≢ 7 → code ≢ 8 → code ≢ 9
     → callLine k code a s ≡ line (decimal k) (decimal code ∷ decimal (a .number) ∷ [])
 
 unfoldable pub wordLine : List ℕ → ℕ → List ℕ

@@ -38,7 +38,7 @@ use Rattle.list.specs.Meanings.{NoLook, MisfitInWords}
 use Rattle.calls.proofs.CallLaws.{or-left, or-right}
 use Rattle.list.proofs.CheckLaws.{by-length, check-empty}
 use Rattle.list.proofs.PerformLaws.{write-misfit, perform-write, misfit-unsound, misfit-node, misfit-local}
-use Rattle.list.proofs.PerformLaws.{misfit-field}
+use Rattle.list.proofs.PerformLaws.{misfit-field, differ, among-first}
 
 -- ---- the check
 
@@ -166,9 +166,25 @@ unused-bytes k r q b e s =
         ap (λ (o : Outcome). afterStep k o b)
         (unused-ignored product k (asked r) (asked q) (b .copy) (s .arguments))
 
+-- a code outside 1 to 10 is that of no kind
+outside : (c : ℕ) → (c ≡ 0) ⊎ (10 < c) → kindOf c ≡ none
+unfolding kindOf
+outside c h =
+    among-first ownCalls otherCalls c
+    (out 5 refl refl, (out 6 refl refl, (out 7 refl refl, (out 8 refl refl, (out 9 refl refl, tt)))))
+    ∙ differ ownCalls c
+    (out 1 refl refl, (out 2 refl refl, (out 3 refl refl, (out 4 refl refl, (out 10 refl refl, tt)))))
+  where
+    out : (k : ℕ) → leb 1 k ≡ true → leb k 10 ≡ true → c ≡ k → ⊥
+    out k a b e = go h
+      where
+        go : (c ≡ 0) ⊎ (10 < c) → ⊥
+        go (inl z) = let l = leb-true 1 k a in omega (arith, e)
+        go (inr z) = let l = leb-true k 10 b in omega (arith, e)
+
 pub bad-code : BadCode
 unfolding performed
-bad-code r b e = ap (λ (o : Option Kind). performedAs o r b) e
+bad-code r b h = ap (λ (o : Option Kind). performedAs o r b) (outside (codeOf r) h)
 
 -- a kind that a list without a look gives is none
 abbrev someLook : List Kind → Bool

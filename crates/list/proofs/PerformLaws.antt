@@ -39,13 +39,13 @@ abbrev Differs : List Kind → ℕ → Type 0
 Differs [] c = Unit {0}
 Differs (k ∷ ks) c = (c ≡ code k → ⊥) × Differs ks c
 
-differ : (ks : List Kind) (c : ℕ) → Differs ks c → kindAmong ks c ≡ none
+pub differ : (ks : List Kind) (c : ℕ) → Differs ks c → kindAmong ks c ≡ none
 differ [] c h = refl
 differ (k ∷ ks) c h =
     ap (λ (t : Bool). elim t [ true ↦ some k | false ↦ kindAmong ks c ]) (ne-eqb (code k) c (λ q. h .0 (sym q)))
     ∙ differ ks c (h .1)
 
-among-first : (ks ls : List Kind) (c : ℕ) → Differs ls c → kindAmong (ks ++ ls) c ≡ kindAmong ks c
+pub among-first : (ks ls : List Kind) (c : ℕ) → Differs ls c → kindAmong (ks ++ ls) c ≡ kindAmong ks c
 among-first [] ls c h = differ ls c h
 among-first (k ∷ ks) ls c h =
     ap (λ (o : Option Kind). elim (eqb (code k) c) [ true ↦ some k | false ↦ o ]) (among-first ks ls c h)

@@ -19,7 +19,7 @@ use mathlib.Core.Logic.{_≢_, _↔_, _⊎_}
 use Prim.Native.Nat.{ℕ, _%_, _≤_, _<_}
 use mathlib.Core.Bool.{Bool, true, false}
 use mathlib.Core.List.{List}
-use mathlib.Core.Option.{none, some}
+use mathlib.Core.Option.{some}
 use lib.ListN.{length}
 use Rattle.handle.specs.declared.Handle.{Handle}
 use Rattle.handle.specs.Handles.{decoded}
@@ -31,7 +31,7 @@ use Rattle.chain.specs.Bytes.{count, nextIn}
 use Rattle.isolation.specs.Checks.{trimmed}
 use Rattle.lines.specs.Lines.{refusedLine}
 use Rattle.list.specs.Records.{recordBytes, mostBytes, byte, field, codeOf, kindOf, argumentsOf}
-use Rattle.numbers.specs.Numbers.{fieldNumber, lengthNumber, linkNumber, loopNumber}
+use Rattle.numbers.specs.Numbers.{lengthNumber, linkNumber, loopNumber}
 use Rattle.list.specs.Runs.{Bench, refused, performed}
 use Rattle.list.specs.Texts.{badLength, checked, output}
 
@@ -62,7 +62,7 @@ UnusedBytes =
     → performed r b ≡ performed q b
 
 abbrev pub BadCode : Type 0
-BadCode = (r : List ℕ) (b : Bench) → kindOf (codeOf r) ≡ none → performed r b ≡ refused fieldNumber b
+BadCode = (r : List ℕ) (b : Bench) → (byte r 1 ≡ 0) ⊎ (10 < byte r 1) → performed r b ≡ refused 3 b
 
 abbrev pub NoLook : Type 0
 NoLook = (c : ℕ) → kindOf c ≢ some look
