@@ -15,7 +15,7 @@ use Rattle.store.specs.declared.Place.{Place}
 use Rattle.store.specs.declared.Place.the-variants.{Absent, Present}
 use Rattle.store.specs.declared.Segment.{Segment}
 use Rattle.store.specs.declared.Cluster.{Cluster}
-use Rattle.store.specs.Records.{markedAt, absentSegment, tableOf, clusterAt, tableAt, segmentOf, placeOf, putRecord, withMark}
+use Rattle.store.specs.Records.{markedAt, absentSegment, tableOf, clusterAt, segmentOf, placeOf, putRecord, withMark}
 use Rattle.store.specs.Sound.{isAbsent}
 use Rattle.store.proofs.ChangeLaws.{put-same, put-other}
 use Rattle.store.proofs.RecordLaws.{put-itself, mark-itself}

@@ -22,5 +22,6 @@ pub mod MadeWordLaws
 pub mod FreezeLaws
 pub mod FreezeNumberLaws
 pub mod AsideLaws
+pub mod FreezeAgainLaws
 pub mod WrittenLaws
 pub mod EmptyWordLaws

@@ -20,12 +20,12 @@ use Rattle.store.specs.declared.Place.the-variants.{Present}
 use Rattle.store.specs.declared.Segment.{Segment}
 use Rattle.store.specs.declared.Cluster.{Cluster}
 use Rattle.store.specs.declared.Store.{Store}
-use Rattle.store.specs.Records.{Table, tableOf, recordOf, clusterAt, tableAt, segmentOf, placeOf, frozenOf, noneFrozen}
+use Rattle.store.specs.Records.{Table, tableOf, recordOf, clusterAt, segmentOf, placeOf, frozenOf, noneFrozen}
 use Rattle.store.specs.Sound.{isAbsent, inside, apart, sound}
 use Rattle.store.proofs.RecordLaws.{put-itself, mark-itself}
 use Rattle.store.proofs.SoundWordLaws.{sound-in-words}
 use Rattle.calls.specs.Calls.{Copy, Call, call, Arguments, Kind, newCluster, deleteCluster, newSegment, deleteSegment}
-use Rattle.calls.specs.Calls.{read, write, weaken, reduce, newPassword, freeze, validate, look, uses, nodeFor, localFor}
+use Rattle.calls.specs.Calls.{read, write, weaken, reduce, newPassword, freeze, validate, look, nodeFor, localFor}
 use Rattle.calls.specs.Calls.{recordFor, placeFor, frozenFor}
 use Rattle.calls.specs.Numbers.{unsound, clusterFrozen, segmentPresent, segmentFrozen}
 use Rattle.calls.specs.Steps.{putCluster, about, segmentMarked, left, step, run}
@@ -33,8 +33,8 @@ use Rattle.calls.proofs.DoneLaws.{no-row, done-range, new-away, new-base}
 use Rattle.calls.specs.FreezeWords.{FreezeInWords}
 use Rattle.calls.proofs.FreezeLaws.{freeze-in-words}
 use Rattle.isolation.specs.Copies.{SoundCopy, Done, InPlace}
-use Rattle.isolation.specs.Statements.{Touched, OnlyItsOwn}
-use Rattle.isolation.specs.Frozen.{placeAt, frozenAt, Fixed, FrozenStays, FixedFromThenOn}
+use Rattle.isolation.specs.Statements.{Touched}
+use Rattle.isolation.specs.Frozen.{placeAt, Fixed, FrozenStays, FixedFromThenOn}
 use Rattle.isolation.proofs.AddressLaws.{disjoint, place-inside, place-outside, room-outside}
 use Rattle.isolation.proofs.EntryLaws.{left-entries}
 use Rattle.isolation.proofs.KeptLaws.{tables, facts, low-segment, left-own, by-number, step-sound}
@@ -133,11 +133,8 @@ module _ (f : Name → List ℕ → ℕ → List ℕ) (v l i base size : ℕ) (h
       untouched deleteSegment e a u t = t
       untouched read e a u t = t
       untouched write e a u t =
-          go (ℕ-discrete (recordFor x) n) (ℕ-discrete (g .segment) i)
+          go (ℕ-discrete (recordFor (call write g)) n) (ℕ-discrete (g .segment) i)
         where
-          x : Call
-          x = call write g
-
           go : Dec (recordFor (call write g) ≡ n) → Dec (g .segment ≡ i) → ⊥
           go (no ne) d =
               let w = done-range f (call write g) (c .store) (length (c .memory)) e in
@@ -217,9 +214,6 @@ module _ (f : Name → List ℕ → ℕ → List ℕ) where
   unfolding unsound
   fixed-from-then-on g xs c e = record { present = w .present; fixed = fixed }
     where
-      x : Call
-      x = call freeze g
-
       w : FreezeInWords f g c
       w = freeze-in-words f g c e
 
