@@ -30,7 +30,7 @@ use Rattle.calls.specs.FreezeWords.{FreezeInWords}
 use Rattle.calls.specs.MarkWords.{SameButMarks, OwnMarks, AsAnyOther, FrozenTwice, FreezeUses}
 use Rattle.calls.proofs.DoneLaws.{no-row, done-range, done-active}
 use Rattle.calls.proofs.FreezeLaws.{freeze-in-words, freeze-present, step-marked}
-use Rattle.calls.proofs.AsideLaws.{number-aside, marks-aside}
+use Rattle.calls.proofs.MarkWordLaws.{number-aside, marks-aside}
 
 module _ (f : Name → List ℕ → ℕ → List ℕ) where
   -- ---- after a freeze

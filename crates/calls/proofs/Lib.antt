@@ -21,7 +21,7 @@ pub mod LookReadLaws
 pub mod MadeWordLaws
 pub mod FreezeLaws
 pub mod FreezeNumberLaws
-pub mod AsideLaws
+pub mod MarkWordLaws
 pub mod FreezeAgainLaws
 pub mod WrittenLaws
 pub mod EmptyWordLaws
