@@ -20,18 +20,23 @@ pub fn tables() -> Tables
     field::substitution_table()
 }
 
-// The round constant of a round, 1 to 10: 01 doubled once for each round before it.
+// The round constant of a round, 1 to 10, as FIPS 197 prints it. No other round is asked for: the last case is round 10.
 fn round_constant(round: usize) -> u8
     requires { ⌜ (1 ≤ round) × (round ≤ 10) ⌝ }
     ensures { λ r. ⌜ r ≡ roundConstant round ⌝ }
 {
-    let mut c: u8 = 0x01;
-    let mut i: usize = 1;
-    while i < round {
-        c = field::doubled(c);
-        i += 1;
+    match round {
+        1 => 0x01,
+        2 => 0x02,
+        3 => 0x04,
+        4 => 0x08,
+        5 => 0x10,
+        6 => 0x20,
+        7 => 0x40,
+        8 => 0x80,
+        9 => 0x1b,
+        _ => 0x36,
     }
-    c
 }
 
 // The substitution of one byte.

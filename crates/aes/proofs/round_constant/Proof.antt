@@ -1,51 +1,44 @@
--- Before turn i the constant is that of round i.
+-- The ten cases, each computed from the definition. The last arm is round 10: it is none of the nine before it.
 -- Assumes nothing.
-use mathlib.Core.Path.{_≡_, ap, _∙_}
-use Prim.Native.Nat.{ℕ, suc, _+_, _-_, _≤_}
+use mathlib.Core.Path.{_≡_, refl, sym, ap, _∙_}
+use Prim.Native.Nat.{ℕ, zero, suc, _≤_, _<_}
 use native.Mathlib.Omega.{arith}
-use borrow.Author.Needs.{needs}
-use Rattle.field.specs.Field.{dot}
+use Rattle.field.specs.Field.{dot, times, remainder, product}
 use Rattle.aes.specs.KeyExpansion.{doublings, roundConstant}
 use Rattle.aes.proofs.round_constant.Statement.{statement}
 use Rattle.aes.proofs.round_constant.Tie as tie
 
-abbrev Inv-loop : tie.InvT-loop
-Inv-loop round c₀ i₀ c i = (1 ≤ i) × (i ≤ round) × (c ≡ roundConstant i)
+-- a case: c is the constant of round j, and round j is asked for
+case : (j : ℕ) {round c : ℕ} → c ≡ roundConstant j → round ≡ j → c ≡ roundConstant round
+case j e at = e ∙ ap roundConstant (sym at)
 
-abbrev μ-loop : tie.MeasureT-loop
-μ-loop round c₀ i₀ c i = round - i
+-- none of the rounds 1 to j
+abbrev NoneOf : ℕ → ℕ → Type 0
+NoneOf zero round = Unit
+NoneOf (suc j) round = NoneOf j round × (round ≡ suc j → ⊥)
 
-next : (i : ℕ) → 1 ≤ i → dot 2 (roundConstant i) ≡ roundConstant (i + 1)
-unfolding doublings
-next i h = ap doublings at
+past : (j round : ℕ) → 1 ≤ round → NoneOf j round → j < round
+past zero round h n = omega arith
+past (suc j) round h n = let l = past j round h (n .0) in let m = n .1 in omega arith
+
+tenth : (round : ℕ) → (1 ≤ round) × (round ≤ 10) → NoneOf 9 round → round ≡ 10
+tenth round h n = upto (past 9 round (h .0) n) (h .1)
   where
-    at : suc (i - 1) ≡ i + 1 - 1
-    at = omega arith
-
-loop-holds : tie.Need-loop-holds Inv-loop μ-loop
-unfolding doublings
-loop-holds c = search needs
-
-loop-again : tie.Need-loop-again Inv-loop μ-loop
-loop-again c =
-    let l = c .before .before .loop in
-    (omega arith, omega arith, c .doubled .ensures ∙ ap (dot 2) (l .inv .2) ∙ next (l .i) (l .inv .0))
-
-returns : tie.Need-returns Inv-loop μ-loop
-returns c =
-    let l = c .before .loop in
-    let at : l .i ≡ c .before .before .args .round = omega arith in
-    l .inv .2 ∙ ap roundConstant at
+    upto : 9 < round → round ≤ 10 → round ≡ 10
+    upto l m = omega arith
 
 pub round-constant-spec : {M : Type 1} → statement M
+unfolding doublings dot times remainder product
 round-constant-spec =
     tie.close
     (tie.spec
-    Inv-loop
-    μ-loop
-    loop-holds
-    (λ c κs. search needs)
-    (λ c. search needs)
-    (λ c. search needs)
-    loop-again
-    returns)
+    (λ c. case 1 refl (c .match .keys1))
+    (λ c. case 2 refl (c .match .keys2))
+    (λ c. case 3 refl (c .match .keys3))
+    (λ c. case 4 refl (c .match .keys4))
+    (λ c. case 5 refl (c .match .keys5))
+    (λ c. case 6 refl (c .match .keys6))
+    (λ c. case 7 refl (c .match .keys7))
+    (λ c. case 8 refl (c .match .keys8))
+    (λ c. case 9 refl (c .match .keys9))
+    (λ c. case 10 refl (tenth _ (c .before .pre) (c .match .rest))))
