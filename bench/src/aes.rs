@@ -34,13 +34,18 @@ fn doubled(b: u8) -> u8 {
 }
 
 fn round_constant(round: usize) -> u8 {
-    let mut c: u8 = 0x01;
-    let mut i: usize = 1;
-    while i < round {
-        c = doubled(c);
-        i += 1;
+    match round {
+        1 => 0x01,
+        2 => 0x02,
+        3 => 0x04,
+        4 => 0x08,
+        5 => 0x10,
+        6 => 0x20,
+        7 => 0x40,
+        8 => 0x80,
+        9 => 0x1b,
+        _ => 0x36,
     }
-    c
 }
 
 fn substitute(tables: &Tables, b: u8) -> u8 {
