@@ -18,14 +18,11 @@ NoneOf zero round = Unit
 NoneOf (suc j) round = NoneOf j round × (round ≡ suc j → ⊥)
 
 past : (j round : ℕ) → 1 ≤ round → NoneOf j round → j < round
-past zero round h n = omega arith
-past (suc j) round h n = let l = past j round h (n .0) in let m = n .1 in omega arith
+past zero round h n = h
+past (suc j) round h n = let l = past j round h (n .0) in omega arith
 
 tenth : (round : ℕ) → (1 ≤ round) × (round ≤ 10) → NoneOf 9 round → round ≡ 10
-tenth round h n = upto (past 9 round (h .0) n) (h .1)
-  where
-    upto : 9 < round → round ≤ 10 → round ≡ 10
-    upto l m = omega arith
+tenth round h n = let l = past 9 round (h .0) n in omega arith
 
 pub round-constant-spec : {M : Type 1} → statement M
 unfolding doublings dot times remainder product
