@@ -20,7 +20,8 @@ pub fn tables() -> Tables
     field::substitution_table()
 }
 
-// The round constant of a round, 1 to 10, as FIPS 197 prints it. No other round is asked for: the last case is round 10.
+// The round constant of a round, 1 to 10: the first byte of Rcon as FIPS 197 prints it, in appendix A.1 round by round.
+// The other three are zero. The bound leaves round 10 alone to the last case.
 fn round_constant(round: usize) -> u8
     requires { ⌜ (1 ≤ round) × (round ≤ 10) ⌝ }
     ensures { λ r. ⌜ r ≡ roundConstant round ⌝ }

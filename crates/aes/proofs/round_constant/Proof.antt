@@ -1,6 +1,7 @@
--- The ten cases, each computed from the definition. The last arm is round 10: it is none of the nine before it.
+-- The ten cases, each computed from the definition. The last is round 10: it is none of the nine before it, and the
+-- bound allows no other.
 -- Assumes nothing.
-use mathlib.Core.Path.{_≡_, refl, sym, ap, _∙_}
+use mathlib.Core.Path.{_≡_, sym, ap}
 use Prim.Native.Nat.{ℕ, zero, suc, _≤_, _<_}
 use native.Mathlib.Omega.{arith}
 use Rattle.field.specs.Field.{dot, times, remainder, product}
@@ -8,9 +9,9 @@ use Rattle.aes.specs.KeyExpansion.{doublings, roundConstant}
 use Rattle.aes.proofs.round_constant.Statement.{statement}
 use Rattle.aes.proofs.round_constant.Tie as tie
 
--- a case: c is the constant of round j, and round j is asked for
-case : (j : ℕ) {round c : ℕ} → c ≡ roundConstant j → round ≡ j → c ≡ roundConstant round
-case j e at = e ∙ ap roundConstant (sym at)
+-- round j is asked for; the number that the code gives is what its constant computes to
+case : (j : ℕ) {round : ℕ} → round ≡ j → roundConstant j ≡ roundConstant round
+case j at = ap roundConstant (sym at)
 
 -- none of the rounds 1 to j
 abbrev NoneOf : ℕ → ℕ → Type 0
@@ -29,13 +30,13 @@ unfolding doublings dot times remainder product
 round-constant-spec =
     tie.close
     (tie.spec
-    (λ c. case 1 refl (c .match .keys1))
-    (λ c. case 2 refl (c .match .keys2))
-    (λ c. case 3 refl (c .match .keys3))
-    (λ c. case 4 refl (c .match .keys4))
-    (λ c. case 5 refl (c .match .keys5))
-    (λ c. case 6 refl (c .match .keys6))
-    (λ c. case 7 refl (c .match .keys7))
-    (λ c. case 8 refl (c .match .keys8))
-    (λ c. case 9 refl (c .match .keys9))
-    (λ c. case 10 refl (tenth _ (c .before .pre) (c .match .rest))))
+    (λ c. case 1 (c .match .keys1))
+    (λ c. case 2 (c .match .keys2))
+    (λ c. case 3 (c .match .keys3))
+    (λ c. case 4 (c .match .keys4))
+    (λ c. case 5 (c .match .keys5))
+    (λ c. case 6 (c .match .keys6))
+    (λ c. case 7 (c .match .keys7))
+    (λ c. case 8 (c .match .keys8))
+    (λ c. case 9 (c .match .keys9))
+    (λ c. case 10 (tenth _ (c .before .pre) (c .match .rest))))
