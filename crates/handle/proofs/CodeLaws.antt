@@ -5,11 +5,11 @@ use Prim.Native.Nat.{ℕ, suc, _+_, _*_, _-_, _%_, _^_, _≤_, _<_}
 use native.Mathlib.Nat.{one-mul, zero-add, mod-eq-of-lt, lt-of-lt-of-le}
 use native.Mathlib.Numerals.{add-one}
 use native.Mathlib.Omega.{arith}
-use mathlib.Core.Path.{_≡_, refl, sym, ap, _∙_}
+use mathlib.Core.Path.{_≡_, refl, sym, ap, ap₂, _∙_}
 use mathlib.Core.Bool.{Bool, true, false, not, _&&_, _||_, false≢true, and-true, and-false, or-false}
 use mathlib.Core.List.{List, [], _∷_}
 use lib.Dec.{eqb}
-use lib.Bits.{bitAnd, and-le-l}
+use lib.Bits.{bitAnd, bitOr, and-le-l, or-lt}
 use lib.Count.{ones}
 use lib.ListN.{length, getD, drop}
 use lib.Pow.{pow-lt, pow-mono}
@@ -19,16 +19,22 @@ use mir.Syntax.{w8}
 use borrow.Author.Tests.{eq-eqb, ne-eqb}
 use Rattle.bits.specs.Sets.{has, full, setOf}
 use Rattle.bits.proofs.SetLaws.{setOf-lt, has-setOf, same-bits, ones-setOf, has-beyond}
-use Rattle.bits.proofs.OperationLaws.{has-and, mask-test}
+use Rattle.bits.proofs.OperationLaws.{has-and, has-or, mask-test}
 use Rattle.loops.specs.Tabulate.{tabulate}
 use Rattle.handle.specs.declared.Handle.{Handle}
 use Rattle.sizes.specs.Sizes.{segments}
 use Rattle.handle.specs.Sizes.{subselectors}
-use Rattle.handle.specs.Selectors.{references, allFlat, gapped, firstFlat, common, referenced, inFirst}
-use Rattle.handle.specs.Handles.{renewed, samePassword, converted, through, validates, reduced}
+use Rattle.handle.specs.Selectors.{references, either, flat, allFlat, gapped, firstFlat, common, referenced, inFirst}
+use Rattle.handle.specs.Selectors.{union, wholeUnion}
+use Rattle.handle.specs.Handles.{nodeOf, sameName, renewed, samePassword, converted, through, validates, made, reduced}
+use Rattle.handle.specs.Handles.{joined}
 use Rattle.handle.proofs.SelectorLaws.{first-here, first-past}
 use Rattle.handle.proofs.HandleLaws.{reduced-cases}
 use Rattle.handle.proofs.CodecLaws.{listed}
+
+pub code-same-name : (h k : Handle) (n m : ℕ) → n ≡ nodeOf h → m ≡ nodeOf k
+    → eqb n m && eqb (h .local) (k .local) ≡ sameName h k
+code-same-name h k n m en em = λ j. eqb (en j) (em j) && eqb (h .local) (k .local)
 
 module _ (w : ℕ) where
   -- ---- common bits, and tests for flat ones
@@ -41,6 +47,23 @@ module _ (w : ℕ) where
 
   pub code-count : (ss : List ℕ) (x : ℕ) → x ≡ common w ss → ones x ≡ referenced w ss
   code-count ss x e = ap ones e ∙ ones-setOf w (references ss)
+
+  -- ---- what either of two references
+
+  module _ (ss ts : List ℕ) where
+    pub code-union : (x y : ℕ) → x ≡ common w ss → y ≡ common w ts → bitOr x y ≡ union w ss ts
+    code-union x y ex ey =
+        same-bits w (bitOr x y) (union w ss ts)
+        (or-lt w x y (rw ex (setOf-lt w (references ss))) (rw ey (setOf-lt w (references ts))))
+        (setOf-lt w (either ss ts))
+        (λ i l.
+        has-or i x y
+        ∙ ap₂ (λ (a b : Bool). a || b) (ap (has i) ex ∙ has-setOf w (references ss) i l)
+        (ap (has i) ey ∙ has-setOf w (references ts) i l)
+        ∙ sym (has-setOf w (either ss ts) i l))
+
+    pub code-whole : (x : ℕ) → x ≡ union w ss ts → eqb x (full w) ≡ wholeUnion w ss ts
+    code-whole x e = ap (flat w) e
 
   module _ (ss : List ℕ) (e : length ss ≡ subselectors) where
     abbrev at : ℕ → Bool
@@ -134,17 +157,26 @@ module _ (w : ℕ) where
     unfolding validates
     code-validates h p x r e t = t ∙ ap (λ (l : List ℕ). samePassword l (h .password)) e
 
-    -- ---- reduction
+    -- ---- reduction and joining
+
+    module _ (h : Handle) (p : List ℕ) where
+      pub code-made : (s : ℕ) (q : List ℕ) → q ≡ f p s → renewed h q (inFirst w s) ≡ made w f h p s
+      code-made s q e = ap (λ (l : List ℕ). renewed h l (inFirst w s)) e
+
+      pub code-joined : (k : Handle) (x : ℕ) → x ≡ union w (h .selector) (k .selector)
+          → (r : Handle) → r ≡ made w f h p x → r ≡ joined w f h k p
+      unfolding joined
+      code-joined k x ex r er = er ∙ ap (made w f h p) ex
 
     module _ (h : Handle) (p : List ℕ) (b : Bool) (e : b ≡ allFlat w (h .selector)) where
       pub reduce-unchanged : b ≡ true → h ≡ reduced w f h p
       reduce-unchanged t = reduced-cases w f h p (λ k. h ≡ k) (λ u. refl) (λ u. absurd (false≢true (sym u ∙ sym e ∙ t)))
 
-      pub reduce-changed : b ≡ false → (x : ℕ) → x ≡ common w (h .selector) → (q : List ℕ) → q ≡ f p x
-          → renewed h q (inFirst w x) ≡ reduced w f h p
-      reduce-changed t x ex q eq =
-          reduced-cases w f h p (λ k. renewed h q (inFirst w x) ≡ k) (λ u. absurd (false≢true (sym t ∙ e ∙ u)))
-          (λ u j. renewed h ((eq ∙ ap (f p) ex) j) (inFirst w (ex j)))
+      pub reduce-changed : b ≡ false → (x : ℕ) → x ≡ common w (h .selector) → (r : Handle) → r ≡ made w f h p x
+          → r ≡ reduced w f h p
+      reduce-changed t x ex r er =
+          reduced-cases w f h p (λ k. r ≡ k) (λ u. absurd (false≢true (sym t ∙ e ∙ u)))
+          (λ u. er ∙ ap (made w f h p) ex)
 
 -- ---- bytes: the width is that of a cluster's segments
 

@@ -151,7 +151,7 @@ module _ (w : ℕ) (f : List ℕ → ℕ → List ℕ) where
 
   -- ---- reduction
 
-  through-inFirst : (s : ℕ) (p : List ℕ) → flat w s ≡ false → through w f (inFirst w s) p ≡ f p s
+  pub through-inFirst : (s : ℕ) (p : List ℕ) → flat w s ≡ false → through w f (inFirst w s) p ≡ f p s
   through-inFirst s p e =
       through-past s (replicate (subselectors - 1) (full w)) p e
       ∙ through-flat (replicate (subselectors - 1) (full w)) (f p s) (simp (full-flat w))

@@ -9,3 +9,4 @@ pub mod ExamplesHold
 pub mod LiteralLaws
 pub mod WordLaws
 pub mod EmptyLaws
+pub mod JoinLaws

@@ -1,11 +1,11 @@
--- Reduction, weakening and the count in words. The definitions go along the row of subselectors and make sets of bits;
+-- Reduction, joining, weakening and the count in words. The definitions go along the row of subselectors and make sets of bits;
 -- a row of four tells of each of them, and a set has the bits that it was made of.
 -- Assumes nothing.
 use mathlib.Core.Path.{_≡_, refl, sym, ap, _∙_, subst}
 use mathlib.Core.Logic.{_≢_, _⊎_, inl, inr, _↔_}
 use Prim.Native.Nat.{ℕ, zero, suc, _<_}
 use native.Mathlib.Omega.{arith}
-use mathlib.Core.Bool.{Bool, true, false, not, _&&_, false≢true}
+use mathlib.Core.Bool.{Bool, true, false, not, _&&_, _||_, false≢true, or-true}
 use mathlib.Core.List.{List, [], _∷_}
 use lib.ListN.{length, getD, set, length-set}
 use lib.Seq.{getD-set-same, getD-set-other}
@@ -14,9 +14,10 @@ use Rattle.bits.specs.Sets.{has, one, setOf, count}
 use Rattle.bits.proofs.SetLaws.{setOf-lt, has-setOf, setOf-same, count-none}
 use Rattle.loops.proofs.BelowLaws.{and-left, and-right, and-both, test-off}
 use Rattle.handle.specs.declared.Handle.{Handle}
-use Rattle.handle.specs.Selectors.{references, excludes, flat, allFlat, firstFlat, common, keepsAll, parameter}
-use Rattle.handle.specs.Handles.{renewed, reduced}
-use Rattle.handle.specs.Words.{Bit, subselector, Four, References, Excluded, Common, ReducedInWords}
+use Rattle.handle.specs.Selectors.{references, excludes, either, flat, allFlat, firstFlat, keepsAll, parameter}
+use Rattle.handle.specs.Handles.{renewed, made, reduced, joined}
+use Rattle.handle.specs.Words.{Bit, subselector, Four, References, Excluded, Holding, ReducedInWords}
+use Rattle.handle.specs.Words.{JoinedInWords}
 use Rattle.handle.specs.Words.{Cut, WeakenedInWords, CountInWords}
 use Rattle.handle.proofs.SelectorLaws.{first-here, first-past, has-parameter, parameter-lt, keeps-each}
 use Rattle.handle.proofs.HandleLaws.{weakened-cases, reduced-cases}
@@ -66,6 +67,30 @@ first-is (s ∷ ss) (suc j) l e b =
     first-past 8 s ss (ne-eqb s 255 (b 0 (omega arith)))
     ∙ ap suc (first-is ss j (omega arith) e (λ k q. b (suc k) (omega arith)))
 
+-- what is made of a set holds the segments of it
+made-holding : (f : List ℕ → ℕ → List ℕ) (q : ℕ → Bool) (S : ℕ → Type 0) → ((i : ℕ) → q i ≡ true → S i)
+    → ((i : ℕ) → S i → q i ≡ true) → (p : List ℕ) (h : Handle) → Holding f S p h (made 8 f h p (setOf 8 q))
+made-holding f q S out into p h =
+    record {
+      node = refl;
+      local = refl;
+      four = refl;
+      byte = setOf-lt 8 q;
+      bits = λ i l. (
+        λ b. out i (sym (has-setOf 8 q i l) ∙ bit-in i (setOf 8 q) b),
+        λ r. bit-out i (setOf 8 q) (has-setOf 8 q i l ∙ into i r),
+      );
+      others = rest;
+      password = refl;
+    }
+  where
+    rest : (k : ℕ) → 0 < k → k < 4 → getD (setOf 8 q ∷ 255 ∷ 255 ∷ 255 ∷ []) k 0 ≡ 255
+    rest zero a b = absurd (omega arith)
+    rest (suc zero) a b = refl
+    rest (suc (suc zero)) a b = refl
+    rest (suc (suc (suc zero))) a b = refl
+    rest (suc (suc (suc (suc k)))) a b = absurd (omega arith)
+
 module _ (h : Handle) (e : Four h) where
   abbrev ss : List ℕ
   ss = h .selector
@@ -91,31 +116,10 @@ module _ (h : Handle) (e : Four h) where
   -- ---- reduction
 
   module _ (f : List ℕ → ℕ → List ℕ) (p : List ℕ) where
-    made-common : Common f p h (renewed h (f p (common 8 ss)) (common 8 ss ∷ 255 ∷ 255 ∷ 255 ∷ []))
-    made-common =
-        record {
-          node = refl;
-          local = refl;
-          four = refl;
-          byte = setOf-lt 8 (references ss);
-          bits = λ i l. (
-            λ b. refers-out i (sym (has-setOf 8 (references ss) i l) ∙ bit-in i (common 8 ss) b),
-            λ r. bit-out i (common 8 ss) (has-setOf 8 (references ss) i l ∙ refers-in i r),
-          );
-          others = rest;
-          password = refl;
-        }
-      where
-        rest : (k : ℕ) → 0 < k → k < 4 → getD (common 8 ss ∷ 255 ∷ 255 ∷ 255 ∷ []) k 0 ≡ 255
-        rest zero a b = absurd (omega arith)
-        rest (suc zero) a b = refl
-        rest (suc (suc zero)) a b = refl
-        rest (suc (suc (suc zero))) a b = refl
-        rest (suc (suc (suc (suc k)))) a b = absurd (omega arith)
-
-    other-common : (k : ℕ) → k < 4 → subselector h k ≢ 255 → Common f p h (reduced 8 f h p)
-    other-common k l n =
-        reduced-cases 8 f h p (Common f p h) (λ t. absurd (n (flat-out ss t k (rw e l)))) (λ t. made-common)
+    other-holding : (k : ℕ) → k < 4 → subselector h k ≢ 255 → Holding f (References h) p h (reduced 8 f h p)
+    other-holding k l n =
+        reduced-cases 8 f h p (Holding f (References h) p h) (λ t. absurd (n (flat-out ss t k (rw e l))))
+        (λ t. made-holding f (references ss) (References h) refers-out refers-in p h)
 
     pub reduced-in-words : ReducedInWords f h p
     reduced-in-words =
@@ -123,7 +127,7 @@ module _ (h : Handle) (e : Four h) where
           primary = λ all.
               reduced-cases 8 f h p (λ k. k ≡ h) (λ t. refl)
               (λ t. absurd (false≢true (sym t ∙ flat-in ss (λ k l. all k (rw e at l)))));
-          other = other-common;
+          other = other-holding;
         }
 
   -- ---- weakening
@@ -202,3 +206,22 @@ module _ (h : Handle) (e : Four h) where
               subst (λ (k : ℕ). Cut f mask h j (renewed h (f (h .password) v) (set ss k v)))
               (sym (first-is ss j (rw e a) q b)) (cut-at j a));
         }
+
+-- ---- joining
+
+pub joined-in-words : (f : List ℕ → ℕ → List ℕ) (h k : Handle) → Four h → Four k → (p : List ℕ) → JoinedInWords f h k p
+unfolding joined
+joined-in-words f h k e d p =
+    made-holding f (either (h .selector) (k .selector)) (λ i. References h i ⊎ References k i) out into p h
+  where
+    out : (i : ℕ) → either (h .selector) (k .selector) i ≡ true → References h i ⊎ References k i
+    out i q = go (references (h .selector) i) refl q
+      where
+        go : (b : Bool) → references (h .selector) i ≡ b → b || references (k .selector) i ≡ true
+            → References h i ⊎ References k i
+        go true r q = inl (refers-out h e i r)
+        go false r q = inr (refers-out k d i q)
+
+    into : (i : ℕ) → References h i ⊎ References k i → either (h .selector) (k .selector) i ≡ true
+    into i (inl r) = ap (λ (b : Bool). b || references (k .selector) i) (refers-in h e i r)
+    into i (inr r) = ap (λ (b : Bool). references (h .selector) i || b) (refers-in k d i r) ∙ or-true (references (h .selector) i)

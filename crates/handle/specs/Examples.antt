@@ -2,13 +2,13 @@
 -- and whole answers, for any conversion f, any password of the handle and primary password, and any mask where document 01
 -- names none.
 --     Question           what is asked of a selector: which segments it references and how many; what weakening by a
---                        mask gives; what it is reduced to
+--                        mask gives; what it is reduced to; and of two, what they are joined to
 --     Told               a set of segments and a count; the whole reply of a weakening; a whole handle
 --     Example            a question and its answer
 --     given h c, refused n    the whole reply of a weakening that is done, and of one that is refused with n, written out
 --     presented ss p     the handle that is asked about, with the selector ss and the password p
 --     examples           the list; more rows say that a primary handle is its own reduction, that a gap higher up is one
---                        too, and where 21 begins and ends
+--                        too, where 21 begins and ends, and what document 02, §5, joins
 --     tells q            what the definitions tell
 -- Assumes nothing.
 use Prim.Native.Nat.{ℕ}
@@ -18,12 +18,13 @@ use Rattle.sizes.specs.Sizes.{segments}
 use Rattle.handle.specs.declared.Handle.{Handle}
 use Rattle.handle.specs.declared.Weakened.{Weakened}
 use Rattle.handle.specs.Selectors.{common, referenced}
-use Rattle.handle.specs.Handles.{weakening, reduced}
+use Rattle.handle.specs.Handles.{weakening, reduced, joined}
 
 pub data Question : Type 0 where
   referencing : List ℕ → Question
   weakeningBy : ℕ → List ℕ → Question
   reducing : List ℕ → Question
+  joining : List ℕ → List ℕ → Question
 
 pub data Told : Type 0 where
   segmentSet : ℕ → ℕ → Told
@@ -98,9 +99,19 @@ module _ (f : List ℕ → ℕ → List ℕ) (password first : List ℕ) (mask :
       ∷ asks (reducing noneLeft) (handle (presented (0x00 ∷ 0xff ∷ 0xff ∷ 0xff ∷ []) (f first 0x00)))
       -- a primary handle
       ∷ asks (reducing primary) (handle (presented primary password))
+      -- document 02, §5: segments 0 to 2 and 3 to 4, either way round; overlapping, and one within the other; with itself,
+      -- as reduced; none, with some and with none
+      ∷ asks (joining (0x07 ∷ 0xff ∷ 0xff ∷ 0xff ∷ []) (0x1f ∷ 0xf8 ∷ 0xff ∷ 0xff ∷ [])) (handle (presented (0x1f ∷ 0xff ∷ 0xff ∷ 0xff ∷ []) (f first 0x1f)))
+      ∷ asks (joining (0x1f ∷ 0xf8 ∷ 0xff ∷ 0xff ∷ []) (0x07 ∷ 0xff ∷ 0xff ∷ 0xff ∷ [])) (handle (presented (0x1f ∷ 0xff ∷ 0xff ∷ 0xff ∷ []) (f first 0x1f)))
+      ∷ asks (joining twoCut fourCut) (handle (presented (0xfc ∷ 0xff ∷ 0xff ∷ 0xff ∷ []) (f first 0xfc)))
+      ∷ asks (joining twoCut (0x70 ∷ 0xff ∷ 0xff ∷ 0xff ∷ [])) (handle (presented (0x7c ∷ 0xff ∷ 0xff ∷ 0xff ∷ []) (f first 0x7c)))
+      ∷ asks (joining fourCut fourCut) (handle (presented (0xf0 ∷ 0xff ∷ 0xff ∷ 0xff ∷ []) (f first 0xf0)))
+      ∷ asks (joining noneLeft fourCut) (handle (presented (0xf0 ∷ 0xff ∷ 0xff ∷ 0xff ∷ []) (f first 0xf0)))
+      ∷ asks (joining noneLeft noneLeft) (handle (presented (0x00 ∷ 0xff ∷ 0xff ∷ 0xff ∷ []) (f first 0x00)))
       ∷ []
 
   unfoldable pub tells : Question → Told
   tells (referencing ss) = segmentSet (common segments ss) (referenced segments ss)
   tells (weakeningBy m ss) = weaker (weakening segments f (presented ss password) m)
   tells (reducing ss) = handle (reduced segments f (presented ss password) first)
+  tells (joining ss ts) = handle (joined segments f (presented ss password) (presented ts password) first)

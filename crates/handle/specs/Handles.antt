@@ -1,7 +1,8 @@
--- Document 01, "The handle", "Validation", "Weakening", "Reduction", and what call 7 gives; document 02, §1. A handle and
--- its bytes:
+-- Document 01, "The handle", "Validation", "Weakening", "Reduction", and what call 7 gives; document 02, §1 and §5. A handle
+-- and its bytes:
 --     Name               what names a cluster: a node and a local number
 --     nodeOf, nameOf     the node and the name of a handle
+--     sameName h k       h and k have the same node and the same local number
 --     widthOf            how many segments the cluster of a handle has
 --     encoded h          the 23 bytes of h: node (high byte first), local number, password, selector
 --     decoded b          the handle that the 23 bytes b hold
@@ -23,11 +24,13 @@
 --     weakened h m       what weakening by the mask m makes of h, where it is not refused
 --     made h p s         the set s of segments in subselector 0, its password made from the primary password p
 --     reduced h p        what reduction makes of h, from the primary password p of its mode
+--     joined h k p       what joining makes of h and k, from the primary password p of the mode: the union of what either
+--                        references in subselector 0
 --     weakening h m      the reply of call 7
 -- Assumes nothing.
 use Prim.Native.Nat.{ℕ, zero, suc, _^_, _<_}
 use mathlib.Core.Path.{_≡_}
-use mathlib.Core.Bool.{Bool, true, false, _||_, cond}
+use mathlib.Core.Bool.{Bool, true, false, _&&_, _||_, cond}
 use mathlib.Core.List.{List, [], _∷_, _++_}
 use lib.Dec.{eqb, leb}
 use lib.ListN.{length, getD, take, drop, replicate}
@@ -40,7 +43,7 @@ use Rattle.numbers.specs.Numbers.{placeNumber, gappedNumber, emptyNumber, spent
 use Rattle.handle.specs.Sizes.{subselectors}
 use Rattle.handle.specs.Sizes.{nodeBytes, localAt, passwordAt, selectorAt}
 use Rattle.handle.specs.Selectors.{flat, allFlat, gapped, common, referenced}
-use Rattle.handle.specs.Selectors.{keepsAll, keepsNone, parameter, replaced, spent, inFirst}
+use Rattle.handle.specs.Selectors.{keepsAll, keepsNone, parameter, replaced, spent, union, inFirst}
 
 -- ---- a handle and its bytes
 
@@ -53,6 +56,9 @@ nodeOf h = h .node
 
 abbrev pub nameOf : Handle → Name
 nameOf h = record { node = h .node; local = h .local }
+
+abbrev pub sameName : Handle → Handle → Bool
+sameName h k = eqb (nodeOf h) (nodeOf k) && eqb (h .local) (k .local)
 
 abbrev pub widthOf : Handle → ℕ
 widthOf h = segments
@@ -142,6 +148,9 @@ module _ (w : ℕ) where
 
     unfoldable pub reduced : Handle → List ℕ → Handle
     reduced h p = elim (allFlat w (h .selector)) [ true ↦ h | false ↦ made h p (common w (h .selector)) ]
+
+    unfoldable pub joined : Handle → Handle → List ℕ → Handle
+    joined h k p = made h p (union w (h .selector) (k .selector))
 
     unfoldable pub weakening : Handle → ℕ → Weakened
     weakening h mask = reply (weakenNumber h mask) (weakened h mask) (referenced w (weakened h mask .selector))

@@ -7,3 +7,4 @@ pub mod Examples
 pub mod Literals
 pub mod Words
 pub mod Empty
+pub mod Joins

@@ -1,8 +1,10 @@
--- Document 01, "The handle" and "Weakening", and document 02, §1: rows of subselectors, for every width w; clusters of
--- eight segments have width 8, and there full w is 255. Subselector 0 stands first, and bit i of each stands for segment i.
+-- Document 01, "The handle" and "Weakening", and document 02, §1 and §5: rows of subselectors, for every width w; clusters
+-- of eight segments have width 8, and there full w is 255. Subselector 0 stands first, and bit i of each stands for segment
+-- i.
 --     references ss i    bit i is set in every subselector
 --     excludes m ss i    segment i is referenced and its bit of the mask m is clear
 --     keeps m ss i       segment i is referenced and its bit of the mask m is set
+--     either ss ts i     segment i is referenced by ss or by ts
 --     flat s             all bits of the width are set
 --     allFlat, anyFlat   every subselector is flat; some subselector is
 --     gapped             a flat subselector stands below one that is not flat
@@ -14,6 +16,8 @@
 --     parameter m ss     all bits of the width less those of the excluded segments
 --     replaced v ss      the first flat subselector becomes v
 --     spent m ss         something would be excluded and no subselector is flat
+--     union ss ts        the bits of the segments that either references
+--     wholeUnion ss ts   these are all of the width
 --     flats              every subselector flat
 --     inFirst s          subselector 0 is s and the others are flat
 --     Within ss          no subselector has a bit at or above the width
@@ -35,6 +39,9 @@ excludes mask ss i = references ss i && not (has i mask)
 
 abbrev pub keeps : ℕ → List ℕ → ℕ → Bool
 keeps mask ss i = references ss i && has i mask
+
+abbrev pub either : List ℕ → List ℕ → ℕ → Bool
+either ss ts i = references ss i || references ts i
 
 module _ (w : ℕ) where
   abbrev pub flat : ℕ → Bool
@@ -76,6 +83,12 @@ module _ (w : ℕ) where
 
   abbrev pub spent : ℕ → List ℕ → Bool
   spent mask ss = not (keepsAll mask ss) && not (anyFlat ss)
+
+  abbrev pub union : List ℕ → List ℕ → ℕ
+  union ss ts = setOf w (either ss ts)
+
+  abbrev pub wholeUnion : List ℕ → List ℕ → Bool
+  wholeUnion ss ts = flat (union ss ts)
 
   abbrev pub flats : List ℕ
   flats = replicate subselectors (full w)

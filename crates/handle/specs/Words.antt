@@ -1,14 +1,16 @@
--- Document 01, "The handle", "Reduction" and "Weakening", in their own words and numbers: handles of four subselectors
--- and clusters of eight segments. Nothing here is a test; `reduced`, `weakened` and `referenced` are held to it.
+-- Document 01, "The handle", "Reduction" and "Weakening", and document 02, §5, in their own words and numbers: handles of
+-- four subselectors and clusters of eight segments. Nothing here is a test; `reduced`, `joined`, `weakened` and `referenced`
+-- are held to it.
 --     Bit i s               bit i of s is set, 0 the least
 --     subselector h k       subselector k of h
 --     Four h                h has four subselectors
 --     References h i        bit i is set in all four
 --     Excluded h m i        segment i is referenced and its bit of the mask m is clear
---     Common f p h r        r is named as h; its subselector 0 is a byte, the bits common to all four of h, and the others
---                           are 255; its password is f of subselector 0 on p
---     ReducedInWords        a primary handle comes back unchanged; any other, one that references nothing too, as Common
---                           says
+--     Holding S f p h r     r is named as h; its subselector 0 is a byte, the bits of the segments of S, and the others are
+--                           255; its password is f of subselector 0 on p
+--     ReducedInWords        a primary handle comes back unchanged; any other, one that references nothing too, holds the bits
+--                           common to all four of its subselectors
+--     JoinedInWords         what joining h and k makes, where it is not refused, holds the segments that either references
 --     Cut f m h j r         r is h but for subselector j, a byte: 255 less the bits of the excluded segments; its password
 --                           is that of h through f with this byte
 --     WeakenedInWords       what weakening makes, where it is not refused: if none is excluded the handle as it came;
@@ -22,7 +24,7 @@ use mathlib.Core.List.{List}
 use lib.ListN.{length, getD}
 use Rattle.handle.specs.declared.Handle.{Handle}
 use Rattle.handle.specs.Selectors.{referenced}
-use Rattle.handle.specs.Handles.{weakened, reduced}
+use Rattle.handle.specs.Handles.{weakened, reduced, joined}
 
 abbrev pub Bit : ℕ → ℕ → Type 0
 Bit i s = s / 2 ^ i % 2 ≡ 1
@@ -40,20 +42,23 @@ abbrev pub Excluded : Handle → ℕ → ℕ → Type 0
 Excluded h mask i = References h i × ¬ Bit i mask
 
 module _ (f : List ℕ → ℕ → List ℕ) where
-  -- ---- reduction
+  -- ---- reduction and joining
 
-  pub record Common (p : List ℕ) (h r : Handle) : Type 0 where
+  pub record Holding (S : ℕ → Type 0) (p : List ℕ) (h r : Handle) : Type 0 where
     pub node : r .node ≡ h .node
     pub local : r .local ≡ h .local
     pub four : Four r
     pub byte : subselector r 0 < 256
-    pub bits : (i : ℕ) → i < 8 → Bit i (subselector r 0) ↔ References h i
+    pub bits : (i : ℕ) → i < 8 → Bit i (subselector r 0) ↔ S i
     pub others : (k : ℕ) → 0 < k → k < 4 → subselector r k ≡ 255
     pub password : r .password ≡ f p (subselector r 0)
 
   pub record ReducedInWords (h : Handle) (p : List ℕ) : Type 0 where
     pub primary : ((k : ℕ) → k < 4 → subselector h k ≡ 255) → reduced 8 f h p ≡ h
-    pub other : (k : ℕ) → k < 4 → subselector h k ≢ 255 → Common p h (reduced 8 f h p)
+    pub other : (k : ℕ) → k < 4 → subselector h k ≢ 255 → Holding (References h) p h (reduced 8 f h p)
+
+  abbrev pub JoinedInWords : Handle → Handle → List ℕ → Type 0
+  JoinedInWords h k p = Holding (λ i. References h i ⊎ References k i) p h (joined 8 f h k p)
 
   -- ---- weakening
 

@@ -1,6 +1,7 @@
-// Handles (document 01, "The handle"): what they reference, conversion, validation, weakening, reduction; their bytes
-// are in `codec`. A function whose name ends in `_with` is lent the tables of the cipher, which a caller takes once.
+// Handles (document 01, "The handle"): what they reference, conversion, validation, weakening; their bytes are in `codec`,
+// reduction and joining in `sets`. A function whose name ends in `_with` is lent the tables of the cipher, which a caller takes once.
 mod codec; // codec.rt: a handle from its bytes, and back
+mod sets; // sets.rt: reduction and joining, which put a set of segments in subselector 0
 
 use aes::Tables;
 pub use codec::bytes_in;
@@ -250,23 +251,5 @@ impl Handle {
     {
         let tables = aes::tables();
         self.weaken_with(&tables, mask)
-    }
-
-    // The handle reduced: the common bits in subselector 0, the password made from the primary one.
-    pub fn reduce_with(self, tables: &Tables, primary: Password) -> Handle
-        requires { ⌜ IsTables (now tables) ⌝ }
-        ensures { λ r. ⌜ r ≡ spec.reduced (spec.widthOf self) (product (spec.nameOf self)) self primary ⌝ }
-    {
-        if self.primary() {
-            return self;
-        }
-        let common = self.common();
-        let password = convert_with(tables, primary, common);
-        Handle {
-            node: self.node,
-            local: self.local,
-            password,
-            selector: [common, FLAT, FLAT, FLAT],
-        }
     }
 }

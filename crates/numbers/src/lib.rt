@@ -43,3 +43,7 @@ pub const LOOP: u8 = 20;
 pub const EMPTY: u8 = 21;
 
 pub const FROZEN: u8 = 22;
+
+pub const WHOLE: u8 = 23;
+
+pub const APART: u8 = 24;
