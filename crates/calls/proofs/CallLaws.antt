@@ -1,5 +1,6 @@
--- What the data about the kinds says. A call that opens a cluster presents one handle and is about that handle's
--- cluster; a call with no row 2 is about a place that exists; one with no row 3 needs the read mode or the write mode.
+-- What the data about the kinds says. A call that opens a cluster presents its handle and is about that handle's cluster;
+-- a call with no row 2 is about a place that exists; one with no row 3 needs the read mode or the write mode. A row of the
+-- handles that does not apply, applies to none of them.
 -- Assumes nothing.
 use mathlib.Core.Path.{_≡_, refl, sym, ap, _∙_}
 use mathlib.Core.Logic.{_≢_, _⊎_, inl, inr}
@@ -15,8 +16,8 @@ use Rattle.handle.specs.Handles.{Name, nodeOf, widthOf, noSuchPlace}
 use Rattle.store.specs.declared.Store.{Store}
 use Rattle.store.specs.Records.{Tables, recordOf, readMode, writeMode}
 use Rattle.calls.specs.Calls.{Call, call, Arguments, Kind, newCluster, deleteCluster, newSegment, deleteSegment}
-use Rattle.calls.specs.Calls.{read, write, weaken, reduce, newPassword, freeze, validate, look, among, opens, uses}
-use Rattle.calls.specs.Calls.{needed, handleOf, presented, anyOf, nodeFor, localFor}
+use Rattle.calls.specs.Calls.{read, write, weaken, reduce, newPassword, freeze, join, validate, look, among, opens}
+use Rattle.calls.specs.Calls.{uses, needed, handleOf, otherOf, presented, anyOf, nodeFor, localFor}
 use Rattle.calls.specs.Calls.{recordFor}
 use Rattle.calls.specs.Calls.{recordNamed}
 use Rattle.calls.specs.Numbers.{noPlace, badMode, badSegment, badSize, badField, gappedHandle, inactiveCluster}
@@ -34,26 +35,44 @@ or-cases : (a b : Bool) → (a || b) ≡ true → (a ≡ true) ⊎ (b ≡ true)
 or-cases true b e = inl refl
 or-cases false b e = inr e
 
--- ---- the handle presented
+-- ---- the handles presented
+
+-- a handle of a list
+abbrev pub In : Handle → List Handle → Type 0
+In h [] = ⊥
+In h (k ∷ hs) = (h ≡ k) ⊎ In h hs
+
+abbrev pub Presents : Call → Handle → Type 0
+Presents x h = In h (presented x)
+
+pub none-of : (p : Handle → Bool) (hs : List Handle) → anyOf p hs ≡ false → (h : Handle) → In h hs → p h ≡ false
+none-of p [] e h i = absurd i
+none-of p (k ∷ hs) e h (inl q) = ap p q ∙ or-left (p k) (anyOf p hs) e
+none-of p (k ∷ hs) e h (inr i) = none-of p hs (or-right (p k) (anyOf p hs) e) h i
+
+pub any-same : (p q : Handle → Bool) (hs : List Handle) → ((h : Handle) → In h hs → p h ≡ q h) → anyOf p hs ≡ anyOf q hs
+any-same p q [] e = refl
+any-same p q (k ∷ hs) e = λ j. e k (inl refl) j || any-same p q hs (λ h i. e h (inr i)) j
 
 pub record Opened (x : Call) : Type 0 where
-  pub one : presented x ≡ handleOf x ∷ []
+  pub presents : Presents x (handleOf x)
   pub node : nodeFor x ≡ nodeOf (handleOf x)
   pub local : localFor x ≡ handleOf x .local
 
 opened-kind : (k : Kind) (g : Arguments) → opens k ≡ true → Opened (call k g)
 opened-kind newCluster g e = absurd (false≢true e)
-opened-kind deleteCluster g e = record { one = refl; node = refl; local = refl }
-opened-kind newSegment g e = record { one = refl; node = refl; local = refl }
-opened-kind deleteSegment g e = record { one = refl; node = refl; local = refl }
-opened-kind read g e = record { one = refl; node = refl; local = refl }
-opened-kind write g e = record { one = refl; node = refl; local = refl }
+opened-kind deleteCluster g e = record { presents = inl refl; node = refl; local = refl }
+opened-kind newSegment g e = record { presents = inl refl; node = refl; local = refl }
+opened-kind deleteSegment g e = record { presents = inl refl; node = refl; local = refl }
+opened-kind read g e = record { presents = inl refl; node = refl; local = refl }
+opened-kind write g e = record { presents = inl refl; node = refl; local = refl }
 opened-kind weaken g e = absurd (false≢true e)
-opened-kind reduce g e = record { one = refl; node = refl; local = refl }
-opened-kind newPassword g e = record { one = refl; node = refl; local = refl }
-opened-kind freeze g e = record { one = refl; node = refl; local = refl }
-opened-kind validate g e = record { one = refl; node = refl; local = refl }
-opened-kind look g e = record { one = refl; node = refl; local = refl }
+opened-kind reduce g e = record { presents = inl refl; node = refl; local = refl }
+opened-kind newPassword g e = record { presents = inl refl; node = refl; local = refl }
+opened-kind freeze g e = record { presents = inl refl; node = refl; local = refl }
+opened-kind join g e = record { presents = inl refl; node = refl; local = refl }
+opened-kind validate g e = record { presents = inl refl; node = refl; local = refl }
+opened-kind look g e = record { presents = inl refl; node = refl; local = refl }
 
 pub opened : (x : Call) → opens (x .kind) ≡ true → Opened x
 opened x e = opened-kind (x .kind) (x .args) e
@@ -71,34 +90,34 @@ range-in n l e =
       local-low = leb-false clusters l (or-right (leb nodes n) (leb clusters l) e);
     }
 
-range-handle : (h : Handle) (q r : Bool) → ((noSuchPlace h || false) || q || r) ≡ false → InRange (nodeOf h) (h .local)
-range-handle h q r e =
+pub handle-range : (x : Call) (h : Handle) → Presents x h → noPlace x ≡ false → InRange (nodeOf h) (h .local)
+unfolding noPlace
+handle-range x h i e =
+    let far : Bool = anyOf noSuchPlace (presented x) in
+    let node : Bool = uses (x .kind) .current && leb nodes (x .args .current) in
+    let local : Bool = uses (x .kind) .local && leb clusters (x .args .local) in
     range-in (nodeOf h) (h .local)
-    (or-left (noSuchPlace h) false
-    (or-left (noSuchPlace h || false) q (or-left (noSuchPlace h || false || q) r e)))
+    (none-of noSuchPlace (presented x) (or-left far node (or-left (far || node) local e)) h i)
 
 range-kind : (k : Kind) (g : Arguments) → noPlace (call k g) ≡ false
     → InRange (nodeFor (call k g)) (localFor (call k g))
 unfolding noPlace
 range-kind newCluster g e = range-in (g .current) (g .local) e
-range-kind deleteCluster g e = range-handle (handleOf (call deleteCluster g)) (leb nodes (g .current)) false e
-range-kind newSegment g e = range-handle (handleOf (call newSegment g)) (leb nodes (g .current)) false e
-range-kind deleteSegment g e = range-handle (handleOf (call deleteSegment g)) (leb nodes (g .current)) false e
-range-kind read g e = range-handle (handleOf (call read g)) false false e
-range-kind write g e = range-handle (handleOf (call write g)) false false e
-range-kind weaken g e = range-handle (handleOf (call weaken g)) false false e
-range-kind reduce g e = range-handle (handleOf (call reduce g)) false false e
-range-kind newPassword g e = range-handle (handleOf (call newPassword g)) false false e
-range-kind freeze g e = range-handle (handleOf (call freeze g)) (leb nodes (g .current)) false e
-range-kind validate g e = range-handle (handleOf (call validate g)) false false e
-range-kind look g e = range-handle (handleOf (call look g)) (leb nodes (g .current)) false e
+range-kind deleteCluster g e = handle-range (call deleteCluster g) (handleOf (call deleteCluster g)) (inl refl) e
+range-kind newSegment g e = handle-range (call newSegment g) (handleOf (call newSegment g)) (inl refl) e
+range-kind deleteSegment g e = handle-range (call deleteSegment g) (handleOf (call deleteSegment g)) (inl refl) e
+range-kind read g e = handle-range (call read g) (handleOf (call read g)) (inl refl) e
+range-kind write g e = handle-range (call write g) (handleOf (call write g)) (inl refl) e
+range-kind weaken g e = handle-range (call weaken g) (handleOf (call weaken g)) (inl refl) e
+range-kind reduce g e = handle-range (call reduce g) (handleOf (call reduce g)) (inl refl) e
+range-kind newPassword g e = handle-range (call newPassword g) (handleOf (call newPassword g)) (inl refl) e
+range-kind freeze g e = handle-range (call freeze g) (handleOf (call freeze g)) (inl refl) e
+range-kind join g e = handle-range (call join g) (handleOf (call join g)) (inl refl) e
+range-kind validate g e = handle-range (call validate g) (handleOf (call validate g)) (inl refl) e
+range-kind look g e = handle-range (call look g) (handleOf (call look g)) (inl refl) e
 
 pub in-range : (x : Call) → noPlace x ≡ false → InRange (nodeFor x) (localFor x)
 in-range x e = range-kind (x .kind) (x .args) e
-
-pub handle-range : (x : Call) → opens (x .kind) ≡ true → noPlace x ≡ false
-    → InRange (nodeOf (handleOf x)) (handleOf x .local)
-handle-range x o e = let r = opened x o in rw (← r .node, ← r .local) (in-range x e)
 
 -- ---- the mode needed
 
@@ -124,38 +143,29 @@ mode-known x e =
     go false true q = inl refl
     go false false q = inr refl
 
--- ---- tests of the one handle
-
-or-none : (b : Bool) → (b || false) ≡ b
-or-none true = refl
-or-none false = refl
-
-pub only : (o : Bool) (p : Handle → Bool) (hs : List Handle) (h : Handle) → o ≡ true → hs ≡ h ∷ []
-    → (o && anyOf p hs) ≡ p h
-only true p hs h e q = ap (anyOf p) q ∙ or-none (p h)
-only false p hs h e q = absurd (false≢true e)
+-- ---- tests of the handles
 
 pub guarded : (g t : Bool) → g ≡ true → (g && t) ≡ false → t ≡ false
 guarded true t p e = e
 guarded false t p e = absurd (false≢true p)
 
-module _ (x : Call) (o : opens (x .kind) ≡ true) where
-  pub record-is : recordFor x ≡ recordNamed (handleOf x)
-  record-is = let r = opened x o in λ t. recordOf (r .node t) (r .local t)
+pub record-is : (x : Call) → opens (x .kind) ≡ true → recordFor x ≡ recordNamed (handleOf x)
+record-is x o = let r = opened x o in λ t. recordOf (r .node t) (r .local t)
 
-  pub ungapped-is : gappedHandle x ≡ false → gapped (widthOf (handleOf x)) (handleOf x .selector) ≡ false
+module _ (x : Call) (h : Handle) (i : Presents x h) where
+  pub ungapped-is : gappedHandle x ≡ false → gapped (widthOf h) (h .selector) ≡ false
   unfolding gappedHandle
-  ungapped-is e =
-      or-left (gapped (widthOf (handleOf x)) (handleOf x .selector)) false
-      (ap (anyOf (λ h. gapped (widthOf h) (h .selector))) (sym (opened x o .one)) ∙ e)
+  ungapped-is e = none-of (λ h. gapped (widthOf h) (h .selector)) (presented x) e h i
 
-  pub inactive-is : (ts : Tables) → inactiveCluster x ts ≡ not (ts (recordNamed (handleOf x)) .active)
-  unfolding inactiveCluster
-  inactive-is ts =
-      only (opens (x .kind)) (λ h. not (ts (recordNamed h) .active)) (presented x) (handleOf x) o (opened x o .one)
+  module _ (o : opens (x .kind) ≡ true) where
+    pub active-is : (ts : Tables) → inactiveCluster x ts ≡ false → ts (recordNamed h) .active ≡ true
+    unfolding inactiveCluster
+    active-is ts e =
+        not-false (ts (recordNamed h) .active)
+        (none-of (λ h. not (ts (recordNamed h) .active)) (presented x) (guarded (opens (x .kind)) _ o e) h i)
 
-  module _ (f : Name → List ℕ → ℕ → List ℕ) (s : Store) where
-    pub violated-is : violated f x s ≡ not (valid f (needed x) (handleOf x) s)
+    pub valid-is : (f : Name → List ℕ → ℕ → List ℕ) (s : Store) → violated f x s ≡ false → valid f (needed x) h s ≡ true
     unfolding violated
-    violated-is =
-        only (opens (x .kind)) (λ h. not (valid f (needed x) h s)) (presented x) (handleOf x) o (opened x o .one)
+    valid-is f s e =
+        not-false (valid f (needed x) h s)
+        (none-of (λ h. not (valid f (needed x) h s)) (presented x) (guarded (opens (x .kind)) _ o e) h i)

@@ -13,7 +13,8 @@ use Rattle.store.specs.declared.Store.{Store}
 use Rattle.store.specs.Sound.{sound}
 use Rattle.calls.specs.Calls.{Call}
 use Rattle.calls.specs.Numbers.{number, tests}
-use Rattle.calls.specs.Cases.{added, sample, marked, Case, calls, named, damaged, refusals, frozen, NumbersGiven}
+use Rattle.calls.specs.Cases.{added, sample, marked, Case, calls, named, damaged, refusals, joins, joinsApart, frozen}
+use Rattle.calls.specs.Cases.{NumbersGiven}
 use Rattle.calls.specs.Orders as order
 use Rattle.calls.proofs.Computing.{computing, sounding}
 use Rattle.calls.proofs.StepLaws.{numberBelow, number-below}
@@ -43,6 +44,14 @@ refusals-below : below sample (calls refusals) ≡ named refusals
 unfolding tests computing
 refusals-below = refl
 
+joins-below : below sample (calls joins) ≡ named joins
+unfolding tests computing
+joins-below = refl
+
+joins-apart-below : below marked (calls joinsApart) ≡ named joinsApart
+unfolding tests computing
+joins-apart-below = refl
+
 frozen-below : below marked (calls frozen) ≡ named frozen
 unfolding tests computing
 frozen-below = refl
@@ -54,6 +63,14 @@ orders-below = refl
 orders-meet : order.Meet sample order.orders
 unfolding tests computing
 orders-meet = refl
+
+joined-orders-below : below sample (asked order.joined) ≡ order.uppers order.joined
+unfolding tests computing
+joined-orders-below = refl
+
+joined-orders-meet : order.Meet sample order.joined
+unfolding tests computing
+joined-orders-meet = refl
 
 frozen-orders-below : below marked (asked order.frozen) ≡ order.uppers order.frozen
 unfolding tests computing
@@ -73,6 +90,8 @@ numbers-given =
     record {
       damaged = damaged-told;
       refusals = numbers-below sample sample-sound (calls refusals) ∙ refusals-below;
+      joins = numbers-below sample sample-sound (calls joins) ∙ joins-below;
+      joins-apart = numbers-below marked marked-sound (calls joinsApart) ∙ joins-apart-below;
       frozen = numbers-below marked marked-sound (calls frozen) ∙ frozen-below;
     }
 
@@ -81,6 +100,8 @@ orders-given =
     record {
       told = numbers-below sample sample-sound (asked order.orders) ∙ orders-below;
       meet = orders-meet;
+      told-joined = numbers-below sample sample-sound (asked order.joined) ∙ joined-orders-below;
+      meet-joined = joined-orders-meet;
       told-frozen = numbers-below marked marked-sound (asked order.frozen) ∙ frozen-orders-below;
       meet-frozen = frozen-orders-meet;
     }

@@ -4,14 +4,14 @@ use Rattle.bits.specs.Sets.{has, setOf, count}
 use Rattle.bits.specs.Bytes.{bytes, wordFrom, word}
 use Rattle.loops.specs.Below.{every}
 use Rattle.loops.specs.Search.{leastFrom, least}
-use Rattle.handle.specs.Handles.{encoded, decoded, samePassword, validates, weakened, reduced}
+use Rattle.handle.specs.Handles.{encoded, decoded, samePassword, validates, weakened, reduced, joined}
 use Rattle.store.specs.Sound.{inRanges, endsInside, inside, soundMark, soundSegment, apart, nodeApart, zeroBytes, idle, settled}
 use Rattle.store.specs.Sound.{sound}
 use Rattle.store.specs.Records.{noneFrozen}
 use Rattle.store.specs.Placement.{clear, fits, newBase, placement}
 
 unfoldable pub computing : Unit {0}
-unfolding has setOf count bytes word wordFrom every least leastFrom encoded decoded samePassword validates weakened reduced
+unfolding has setOf count bytes word wordFrom every least leastFrom encoded decoded samePassword validates weakened reduced joined
     placement newBase fits clear apart inside inRanges endsInside noneFrozen
 computing = tt
 

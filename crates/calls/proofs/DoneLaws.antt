@@ -1,5 +1,5 @@
--- What a call done has shown: no row of the table applied to it. So its place exists, its fields are good, its cluster
--- is active and its handle is not gapped and validates in the mode needed.
+-- What a call done has shown: no row of the table applied to it. So its place exists, its fields are good, and each handle
+-- that it presents is not gapped, names an active cluster and validates in the mode needed.
 -- Assumes nothing.
 use mathlib.Core.Path.{_≡_, refl, sym, ap, _∙_}
 use mathlib.Core.Logic.{_≢_, _⊎_}
@@ -10,24 +10,25 @@ use mathlib.Core.List.{List}
 use mathlib.Core.Option.{Option, none, some}
 use lib.Dec.{eqb}
 use lib.ListN.{length}
-use borrow.Author.Tests.{ltb-false, not-false}
+use borrow.Author.Tests.{ltb-false}
 use Rattle.handle.specs.Selectors.{gapped}
-use Rattle.handle.specs.Handles.{Name, widthOf}
+use Rattle.handle.specs.declared.Handle.{Handle}
+use Rattle.handle.specs.Handles.{Name, nodeOf, widthOf}
 use Rattle.store.specs.declared.Store.{Store}
 use Rattle.store.specs.Records.{tableAt, readMode, writeMode, lengthOf}
 use Rattle.numbers.specs.Numbers.{noRoomNumber}
 use Rattle.store.specs.Placement.{placedAt, newBase, placement}
 use Rattle.calls.specs.Calls.{Call, call, Arguments, newCluster, newSegment, write, opens}
 use Rattle.calls.specs.Calls.{needed, handleOf, nodeFor, localFor, recordFor, recordNamed, placeFor}
-use Rattle.calls.specs.Numbers.{unsound, noPlace, badMode, badSegment, badSize, badField, gappedHandle, elsewhere}
-use Rattle.calls.specs.Numbers.{inUse, twins, inactiveCluster, valid, violated, notPrimary, notReferenced, at}
+use Rattle.calls.specs.Numbers.{unsound, noPlace, badMode, badSegment, badSize, badField, gappedHandle, joinApart, elsewhere}
+use Rattle.calls.specs.Numbers.{inUse, twins, inactiveCluster, valid, violated, joinWhole, notPrimary, notReferenced, at}
 use Rattle.calls.specs.Numbers.{clusterFrozen, oldPassword}
 use Rattle.calls.specs.Numbers.{segmentPresent, segmentAbsent, segmentFrozen, short, fullNode, emptyHandle, spentHandle, rows, number}
 use Rattle.calls.specs.Steps.{newBaseFor}
 use Rattle.calls.specs.Clear.{Clear}
 use Rattle.calls.proofs.FirstLaws.{first-clear}
-use Rattle.calls.proofs.CallLaws.{or-left, or-right, InRange, in-range, mode-known}
-use Rattle.calls.proofs.CallLaws.{record-is, ungapped-is, inactive-is, violated-is}
+use Rattle.calls.proofs.CallLaws.{or-left, or-right, Presents, opened, InRange, in-range, handle-range, mode-known}
+use Rattle.calls.proofs.CallLaws.{record-is, ungapped-is, active-is, valid-is}
 
 -- what placement tells, where it does not tell that there is no room
 placed : (o : Option ℕ) → eqb (placedAt o .number) noRoomNumber ≡ false → o ≡ some (placedAt o .base)
@@ -41,11 +42,13 @@ module _ (f : Name → List ℕ → ℕ → List ℕ) where
     pub noPlace : noPlace x ≡ false
     pub badField : badField x ≡ false
     pub gappedHandle : gappedHandle x ≡ false
+    pub joinApart : joinApart x ≡ false
     pub elsewhere : elsewhere x ≡ false
     pub inUse : inUse x (tableAt s) ≡ false
     pub twins : twins x ≡ false
     pub inactiveCluster : inactiveCluster x (tableAt s) ≡ false
     pub violated : violated f x s ≡ false
+    pub joinWhole : joinWhole x ≡ false
     pub notPrimary : notPrimary x ≡ false
     pub clusterFrozen : clusterFrozen x (tableAt s) ≡ false
     pub notReferenced : notReferenced x ≡ false
@@ -66,11 +69,13 @@ module _ (f : Name → List ℕ → ℕ → List ℕ) where
           noPlace = search;
           badField = search;
           gappedHandle = search;
+          joinApart = search;
           elsewhere = search;
           inUse = search;
           twins = search;
           inactiveCluster = search;
           violated = search;
+          joinWhole = search;
           notPrimary = search;
           clusterFrozen = search;
           notReferenced = search;
@@ -102,18 +107,30 @@ module _ (f : Name → List ℕ → ℕ → List ℕ) where
     unfolding badField
     done-segment = or-right (badMode x) (badSegment x) (or-left (badMode x || badSegment x) (badSize x) (r .badField))
 
+    -- of each handle that it presents
+    module _ (h : Handle) (i : Presents x h) where
+      pub each-range : InRange (nodeOf h) (h .local)
+      each-range = handle-range x h i (r .noPlace)
+
+      pub each-even : gapped (widthOf h) (h .selector) ≡ false
+      each-even = ungapped-is x h i (r .gappedHandle)
+
+      pub each-active : opens (x .kind) ≡ true → tableAt s (recordNamed h) .active ≡ true
+      each-active o = active-is x h i o (tableAt s) (r .inactiveCluster)
+
+      pub each-valid : opens (x .kind) ≡ true → valid f (needed x) h s ≡ true
+      each-valid o = valid-is x h i o f s (r .violated)
+
     module _ (o : opens (x .kind) ≡ true) where
       pub done-even : gapped (widthOf (handleOf x)) (handleOf x .selector) ≡ false
-      done-even = ungapped-is x o (r .gappedHandle)
+      done-even = each-even (handleOf x) (opened x o .presents)
 
       pub done-active : tableAt s (recordFor x) .active ≡ true
       done-active =
-          ap (λ (n : ℕ). tableAt s n .active) (record-is x o)
-          ∙ not-false (tableAt s (recordNamed (handleOf x)) .active)
-          (sym (inactive-is x o (tableAt s)) ∙ r .inactiveCluster)
+          ap (λ (n : ℕ). tableAt s n .active) (record-is x o) ∙ each-active (handleOf x) (opened x o .presents) o
 
       pub done-valid : valid f (needed x) (handleOf x) s ≡ true
-      done-valid = not-false (valid f (needed x) (handleOf x) s) (sym (violated-is x o f s) ∙ r .violated)
+      done-valid = each-valid (handleOf x) (opened x o .presents) o
 
   -- ---- by kind
 

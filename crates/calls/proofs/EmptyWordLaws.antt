@@ -17,12 +17,13 @@ use Rattle.handle.specs.Selectors.{firstFlat, parameter}
 use Rattle.handle.specs.Handles.{Name, nameOf, nodeOf, encoded, decoded, noSuchPlace, weakenNumber, weakening}
 use Rattle.handle.specs.Conversion.{SixteenBytes}
 use Rattle.handle.specs.Empty.{SomeLeft}
+use Rattle.handle.specs.Words.{Bit}
 use Rattle.handle.proofs.HandleLaws.{weakened-cases}
 use Rattle.handle.proofs.EmptyLaws.{empty-out, empty-in, handle-done, done-references}
 use Rattle.store.specs.declared.Store.{Store}
 use Rattle.calls.specs.Calls.{Call, Kind, weaken, call, handleOf}
 use Rattle.calls.specs.Numbers.{emptyHandle, at, rows, number}
-use Rattle.calls.specs.Words.{Named, Handled, Taken, Bit}
+use Rattle.calls.specs.Words.{Named, Handled, Taken}
 use Rattle.calls.specs.Steps.{Outcome, weakenReply}
 use Rattle.calls.specs.EmptyWords.{Emptied, EmptyInWords, SomeGiven, NeverToNothing}
 use Rattle.calls.proofs.FirstLaws.{first-holding}
@@ -54,7 +55,7 @@ module _ (f : Name → List ℕ → ℕ → List ℕ) where
     h = handleOf x
 
     here : length (h .selector) ≡ 4
-    here = four x t (weaken-handled x k)
+    here = four (x .args .handle) (t .first (weaken-handled x k))
 
     place-is : Is (noSuchPlace h) ((4 ≤ nodeOf h) ⊎ (8 ≤ h .local))
     place-is = or-is (le-is 4 (nodeOf h)) (le-is 8 (h .local))
@@ -72,16 +73,16 @@ module _ (f : Name → List ℕ → ℕ → List ℕ) where
           weakens = k;
           node = omega arith;
           local = omega arith;
-          even = λ g. true≢false (sym (gapped-is x here .into (g .1)) ∙ r .1);
-          none = empty-is x here (x .args .mask) .out (r .2);
+          even = λ g. true≢false (sym (gapped-is h here .into g) ∙ r .1);
+          none = empty-is h here (x .args .mask) .out (r .2);
         }
 
     given : Emptied x → weakenNumber 8 h (x .args .mask) ≡ 21
     given e =
         empty-in 8 (f (nameOf h)) h (x .args .mask)
         (off-is place-is beyond)
-        (off-is (gapped-is x here) (λ g. e .even (weaken-handled x k, g)))
-        (empty-is x here (x .args .mask) .into (e .none))
+        (off-is (gapped-is h here) (e .even))
+        (empty-is h here (x .args .mask) .into (e .none))
       where
         beyond : ¬ ((4 ≤ nodeOf h) ⊎ (8 ≤ h .local))
         beyond (inl l) = let n = e .node in omega arith

@@ -1,4 +1,4 @@
--- The kinds that a list names. There are twelve, so a test of a kind that gives at each of them what a list gives is the
+-- The kinds that a list names. There are thirteen, so a test of a kind that gives at each of them what a list gives is the
 -- list's: one computed comparison.
 -- Assumes nothing.
 use mathlib.Core.Path.{_≡_, refl, sym, ap, _∙_}
@@ -9,7 +9,7 @@ use mathlib.Core.List.{List, [], _∷_, map}
 use lib.Dec.{eqb}
 use lib.ListN.{getD}
 use Rattle.calls.specs.Calls.{Call, Kind, newCluster, deleteCluster, newSegment, deleteSegment, read, write, weaken}
-use Rattle.calls.specs.Calls.{reduce, newPassword, freeze, validate, look}
+use Rattle.calls.specs.Calls.{reduce, newPassword, freeze, join, validate, look}
 use Rattle.calls.specs.Words.{Named}
 use Rattle.calls.proofs.TestLaws.{Is, map-is, same-is, not-is, or-is, eq-is}
 
@@ -25,6 +25,7 @@ kinds =
     ∷ reduce
     ∷ newPassword
     ∷ freeze
+    ∷ join
     ∷ validate
     ∷ look
     ∷ []
@@ -41,8 +42,9 @@ placeOf weaken = 6
 placeOf reduce = 7
 placeOf newPassword = 8
 placeOf freeze = 9
-placeOf validate = 10
-placeOf look = 11
+placeOf join = 10
+placeOf validate = 11
+placeOf look = 12
 
 at-place : {A : Type 0} (g : Kind → A) (d : A) (k : Kind) → getD (map g kinds) (placeOf k) d ≡ g k
 at-place g d newCluster = refl
@@ -55,6 +57,7 @@ at-place g d weaken = refl
 at-place g d reduce = refl
 at-place g d newPassword = refl
 at-place g d freeze = refl
+at-place g d join = refl
 at-place g d validate = refl
 at-place g d look = refl
 

@@ -97,7 +97,7 @@ module _ (f : Name → List ℕ → ℕ → List ℕ) (g : Arguments) (c : Copy)
           unfrozen = λ t.
               true≢false
               (sym t
-              ∙ ap (λ (o : Outcome). frozenOf (tableOf (clusterOf x (o .copy .store))) (g .segment)) step-made
+              ∙ ap (λ (o : Outcome). frozenOf (tableOf (clusterOf (handleOf x) (o .copy .store))) (g .segment)) step-made
               ∙ ap (λ (z : Segment). z .frozen) found);
           room = smallest .0;
           smallest = smallest .1;

@@ -14,17 +14,17 @@ use Rattle.loops.specs.Search.{least}
 use Rattle.loops.proofs.BelowLaws.{every-same}
 use Rattle.sizes.specs.Sizes.{nodes, clusters, segments, nodeMemory}
 use Rattle.numbers.specs.Numbers.{noRoomNumber}
-use Rattle.handle.specs.Handles.{Name, nameOf, widthOf, Row, samePassword, validates, encoded, reduced}
+use Rattle.handle.specs.Handles.{Name, nameOf, widthOf, Row, samePassword, validates, encoded, reduced, joined}
 use Rattle.store.specs.declared.Place.{Place}
 use Rattle.store.specs.declared.Place.the-variants.{Present}
 use Rattle.store.specs.declared.Store.{Store}
 use Rattle.store.specs.Records.{recordOf, tableAt, frozenOf, noneFrozen, lengthOf, baseOf, address}
-use Rattle.store.specs.Records.{readMode}
+use Rattle.store.specs.Records.{readMode, clusterAt, primaryOf}
 use Rattle.store.specs.Sound.{isAbsent, inside, apart, sound}
 use Rattle.store.specs.Placement.{Placed, placedAt, clear, fits, newBase, placement}
 use Rattle.calls.specs.Calls.{Call, Kind, newCluster, deleteCluster, newSegment, deleteSegment}
-use Rattle.calls.specs.Calls.{read, write, weaken, reduce, newPassword, freeze, validate, look, among, isLook}
-use Rattle.calls.specs.Calls.{opens, needed, handleOf, presented, anyOf, buffer, nodeFor, recordFor, recordNamed}
+use Rattle.calls.specs.Calls.{read, write, weaken, reduce, newPassword, freeze, join, validate, look, among, isLook}
+use Rattle.calls.specs.Calls.{opens, needed, handleOf, otherOf, presented, anyOf, buffer, nodeFor, recordFor, recordNamed}
 use Rattle.calls.specs.Calls.{placeFor, frozenFor}
 use Rattle.calls.specs.Numbers.{unsound, inUse, inactiveCluster, valid, violated, clusterFrozen, oldPassword}
 use Rattle.calls.specs.Numbers.{segmentPresent, segmentAbsent, segmentFrozen, short, fullNode, rows, number}
@@ -143,11 +143,13 @@ module _ (f : Name → List ℕ → ℕ → List ℕ) (x : Call) (a b : Store) (
       refl ▸ λ e2.
       refl ▸ λ e3.
       refl ▸ λ e4.
+      refl ▸ λ e24.
       refl ▸ λ e5.
       ap (told 6) six ▸ λ e6.
       refl ▸ λ e7.
       ap (told 8) eight ▸ λ e8.
       ap (told 9) nine ▸ λ e9.
+      refl ▸ λ e23.
       refl ▸ λ e10.
       ap (told 22) frozen-cluster ▸ λ e22.
       refl ▸ λ e11.
@@ -170,6 +172,14 @@ module _ (f : Name → List ℕ → ℕ → List ℕ) (x : Call) (a b : Store) (
   abbrev here : placeFor x (tableAt a) ≡ placeFor x (tableAt b)
   here = same .places (recordFor x) (x .args .segment)
 
+  password : primaryOf (clusterAt a (recordFor x)) (x .args .mode) ≡ primaryOf (clusterAt b (recordFor x)) (x .args .mode)
+  password =
+      λ j.
+      elim (eqb (x .args .mode) readMode) [
+        | true ↦ same .read (recordFor x) j
+        | false ↦ same .write (recordFor x) j
+      ]
+
   same-given : (k : Kind) → given f k x (copyOf a m) ≡ given f k x (copyOf b m)
   unfolding given segmentRead segmentShown
   same-given newCluster = refl
@@ -185,17 +195,15 @@ module _ (f : Name → List ℕ → ℕ → List ℕ) (x : Call) (a b : Store) (
   same-given write = refl
   same-given weaken = refl
   same-given reduce =
-      λ j.
-      handles
-      (encoded
-      (reduced (widthOf (handleOf x)) (f (nameOf (handleOf x))) (handleOf x)
-      (elim (eqb (x .args .mode) readMode) [
-        | true ↦ same .read (recordFor x) j
-        | false ↦ same .write (recordFor x) j
-      ])))
-      zeroHandle 0
+      ap (λ (p : List ℕ). handles (encoded (reduced (widthOf (handleOf x)) (f (nameOf (handleOf x))) (handleOf x) p)) zeroHandle 0)
+      password
   same-given newPassword = refl
   same-given freeze = refl
+  same-given join =
+      ap
+      (λ (p : List ℕ).
+      handles (encoded (joined (widthOf (handleOf x)) (f (nameOf (handleOf x))) (handleOf x) (otherOf x) p)) zeroHandle 0)
+      password
   same-given validate = refl
   same-given look =
       ap

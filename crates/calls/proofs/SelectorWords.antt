@@ -12,15 +12,18 @@ use lib.Dec.{eqb}
 use lib.ListN.{length, getD, drop, length-drop}
 use lib.Seq.{length-take-le, getD-take, getD-drop}
 use borrow.Author.Tests.{not-true}
-use Rattle.bits.specs.Sets.{has, count}
+use Rattle.bits.specs.Sets.{has, setOf, count}
 use Rattle.bits.specs.Bytes.{word, wordFrom}
-use Rattle.bits.proofs.SetLaws.{count-out, count-in}
+use Rattle.bits.proofs.SetLaws.{count-out, count-in, setOf-lt, has-setOf, same-bits}
+use Rattle.bits.proofs.OperationLaws.{has-full, full-lt}
 use Rattle.sizes.specs.Sizes.{segments, passwordBytes}
-use Rattle.handle.specs.Selectors.{references, excludes, keeps, flat, allFlat, anyFlat, gapped, keepsNone, spent}
+use Rattle.handle.specs.Selectors.{references, excludes, keeps, either, flat, allFlat, anyFlat, gapped, keepsNone, spent}
+use Rattle.handle.specs.Selectors.{wholeUnion}
 use Rattle.handle.specs.Handles.{decoded, samePassword, converted, validates}
 use Rattle.handle.proofs.CodeLaws.{converted-flat, converted-other, code-opened}
-use Rattle.calls.specs.Calls.{Call, handleOf}
-use Rattle.calls.specs.Words.{Handled, Taken, HandleInWords, Bit, References, SamePassword, Converted, Chain, subselector}
+use Rattle.handle.specs.declared.Handle.{Handle}
+use Rattle.handle.specs.Words.{Bit, References, subselector}
+use Rattle.calls.specs.Words.{HandleInWords, SamePassword, Converted, Chain, GappedHandle}
 use Rattle.calls.proofs.TestLaws.{Is, map-is, same-is, not-is, and-is, or-is, eq-is, every-is}
 
 -- ---- along a row of subselectors
@@ -145,11 +148,9 @@ password-is a b =
 
 -- ---- a handle of 23 bytes
 
-pub four : (x : Call) → Taken x → Handled x → length (handleOf x .selector) ≡ 4
+pub four : (b : List ℕ) → length b ≡ 23 → length (decoded b .selector) ≡ 4
 unfolding decoded
-four x t h =
-    let l : length (x .args .handle) ≡ 23 = t h in
-    length-take-le 4 (drop 19 (x .args .handle)) (simp length-drop (omega arith))
+four b e = length-take-le 4 (drop 19 b) (simp length-drop (omega arith))
 
 pub handle-in-words : (b : List ℕ) → length b ≡ 23 → HandleInWords b
 unfolding decoded word wordFrom
@@ -163,35 +164,34 @@ handle-in-words (n ∷ m ∷ bs) e =
       selector = λ k h. getD-take 4 (drop 19 (n ∷ m ∷ bs)) k 0 h ∙ getD-drop 19 (n ∷ m ∷ bs) k 0;
     }
 
-module _ (x : Call) (e : length (handleOf x .selector) ≡ 4) where
+module _ (h : Handle) (e : length (h .selector) ≡ 4) where
   abbrev ss : List ℕ
-  ss = handleOf x .selector
+  ss = h .selector
 
-  pub references-is : (i : ℕ) → Is (references ss i) (References x i)
+  pub references-is : (i : ℕ) → Is (references ss i) (References h i)
   references-is i =
-      subst (λ (n : ℕ). Is (references ss i) ((k : ℕ) → k < n → Bit i (subselector x k))) e (row-references i ss)
+      subst (λ (n : ℕ). Is (references ss i) ((k : ℕ) → k < n → Bit i (subselector h k))) e (row-references i ss)
 
-  pub other-is : Is (not (allFlat segments ss)) ((k : ℕ) × (k < 4) × (subselector x k ≢ 255))
+  pub other-is : Is (not (allFlat segments ss)) ((k : ℕ) × (k < 4) × (subselector h k ≢ 255))
   other-is =
-      subst (λ (n : ℕ). Is (not (allFlat segments ss)) ((k : ℕ) × (k < n) × (subselector x k ≢ 255))) e (row-other ss)
+      subst (λ (n : ℕ). Is (not (allFlat segments ss)) ((k : ℕ) × (k < n) × (subselector h k ≢ 255))) e (row-other ss)
 
-  pub gapped-is : Is (gapped segments ss)
-      ((j : ℕ) × (k : ℕ) × (j < k) × (k < 4) × (subselector x j ≡ 255) × (subselector x k ≢ 255))
+  pub gapped-is : Is (gapped segments ss) (GappedHandle h)
   gapped-is = subst (λ (n : ℕ). Is (gapped segments ss) (Gap n ss)) e (row-gapped ss)
 
-  pub empty-is : (mask : ℕ) → Is (keepsNone segments mask ss) ((i : ℕ) → i < 8 → ¬ (References x i × Bit i mask))
+  pub empty-is : (mask : ℕ) → Is (keepsNone segments mask ss) ((i : ℕ) → i < 8 → ¬ (References h i × Bit i mask))
   empty-is mask =
-      none-is segments (keeps mask ss) (λ i. References x i × Bit i mask)
+      none-is segments (keeps mask ss) (λ i. References h i × Bit i mask)
       (λ i. and-is (references-is i) (bit-is i mask))
 
   pub spent-is : (mask : ℕ) → Is (spent segments mask ss)
-      (((i : ℕ) × (i < 8) × References x i × ¬ Bit i mask) × ((k : ℕ) → k < 4 → subselector x k ≢ 255))
+      (((i : ℕ) × (i < 8) × References h i × ¬ Bit i mask) × ((k : ℕ) → k < 4 → subselector h k ≢ 255))
   spent-is mask =
       subst
       (λ (n : ℕ).
       Is (spent segments mask ss)
-      (((i : ℕ) × (i < 8) × ((k : ℕ) → k < n → Bit i (subselector x k)) × ¬ Bit i mask)
-      × ((k : ℕ) → k < n → subselector x k ≢ 255)))
+      (((i : ℕ) × (i < 8) × ((k : ℕ) → k < n → Bit i (subselector h k)) × ¬ Bit i mask)
+      × ((k : ℕ) → k < n → subselector h k ≢ 255)))
       e (and-is (row-excluded mask ss) (row-unflat ss))
 
   -- ---- validation
@@ -208,7 +208,7 @@ module _ (x : Call) (e : length (handleOf x .selector) ≡ 4) where
     words-converted p s q (inl (f, r)) = r ∙ converted-flat segments g p s f
     words-converted p s q (inr (f, r)) = converted-other segments g p s f q r
 
-    chain-words : (p : List ℕ) → validates segments g p (handleOf x) ≡ true → Chain g p x
+    chain-words : (p : List ℕ) → validates segments g p h ≡ true → Chain g p h
     unfolding validates
     chain-words p t =
         record {
@@ -216,40 +216,60 @@ module _ (x : Call) (e : length (handleOf x .selector) ≡ 4) where
           after1 = b;
           after2 = c;
           after3 = d;
-          by0 = converted-words p (subselector x 0);
-          by1 = converted-words a (subselector x 1);
-          by2 = converted-words b (subselector x 2);
-          by3 = converted-words c (subselector x 3);
+          by0 = converted-words p (subselector h 0);
+          by1 = converted-words a (subselector h 1);
+          by2 = converted-words b (subselector h 2);
+          by3 = converted-words c (subselector h 3);
           ends =
-              password-is d (handleOf x .password) .out
-              (ap (λ (q : List ℕ). samePassword q (handleOf x .password))
+              password-is d (h .password) .out
+              (ap (λ (q : List ℕ). samePassword q (h .password))
               (code-opened segments g ss p a b c d e refl refl refl refl)
               ∙ t);
         }
       where
         a : List ℕ
-        a = converted segments g p (subselector x 0)
+        a = converted segments g p (subselector h 0)
 
         b : List ℕ
-        b = converted segments g a (subselector x 1)
+        b = converted segments g a (subselector h 1)
 
         c : List ℕ
-        c = converted segments g b (subselector x 2)
+        c = converted segments g b (subselector h 2)
 
         d : List ℕ
-        d = converted segments g c (subselector x 3)
+        d = converted segments g c (subselector h 3)
 
-    words-chain : (p : List ℕ) → Chain g p x → validates segments g p (handleOf x) ≡ true
+    words-chain : (p : List ℕ) → Chain g p h → validates segments g p h ≡ true
     unfolding validates
     words-chain p w =
-        ap (λ (q : List ℕ). samePassword q (handleOf x .password))
+        ap (λ (q : List ℕ). samePassword q (h .password))
         (sym
         (code-opened segments g ss p (w .after0) (w .after1) (w .after2) (w .after3) e
-        (words-converted p (subselector x 0) (w .after0) (w .by0))
-        (words-converted (w .after0) (subselector x 1) (w .after1) (w .by1))
-        (words-converted (w .after1) (subselector x 2) (w .after2) (w .by2))
-        (words-converted (w .after2) (subselector x 3) (w .after3) (w .by3))))
-        ∙ password-is (w .after3) (handleOf x .password) .into (w .ends)
+        (words-converted p (subselector h 0) (w .after0) (w .by0))
+        (words-converted (w .after0) (subselector h 1) (w .after1) (w .by1))
+        (words-converted (w .after1) (subselector h 2) (w .after2) (w .by2))
+        (words-converted (w .after2) (subselector h 3) (w .after3) (w .by3))))
+        ∙ password-is (w .after3) (h .password) .into (w .ends)
 
-    pub chain-is : (p : List ℕ) → Is (validates segments g p (handleOf x)) (Chain g p x)
+    pub chain-is : (p : List ℕ) → Is (validates segments g p h) (Chain g p h)
     chain-is p = record { out = chain-words p; into = words-chain p }
+
+-- ---- what either of two handles references
+
+-- a set is all of the width just where every segment passes
+full-is : (q : ℕ → Bool) (S : ℕ → Type 0) → ((i : ℕ) → Is (q i) (S i))
+    → Is (flat segments (setOf segments q)) ((i : ℕ) → i < 8 → S i)
+full-is q S each =
+    map-is (λ e i l. each i .out (sym (has-setOf segments q i l) ∙ ap (has i) e ∙ has-full segments i l)) back
+    (flat-is (setOf segments q))
+  where
+    back : ((i : ℕ) → i < 8 → S i) → setOf segments q ≡ 255
+    back all =
+        same-bits segments (setOf segments q) 255 (setOf-lt segments q) (full-lt segments)
+        (λ i l. has-setOf segments q i l ∙ each i .into (all i l) ∙ sym (has-full segments i l))
+
+pub whole-is : (h k : Handle) → length (h .selector) ≡ 4 → length (k .selector) ≡ 4
+    → Is (wholeUnion segments (h .selector) (k .selector)) ((i : ℕ) → i < 8 → References h i ⊎ References k i)
+whole-is h k e d =
+    full-is (either (h .selector) (k .selector)) (λ i. References h i ⊎ References k i)
+    (λ i. or-is (references-is h e i) (references-is k d i))

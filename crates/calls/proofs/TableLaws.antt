@@ -14,8 +14,8 @@ use Rattle.calls.specs.Numbers.{at, rows, number}
 use Rattle.calls.specs.Words.{Taken, Entry, Nothing, Told, table, TableInWords}
 use Rattle.calls.proofs.FirstLaws.{Numbered}
 use Rattle.calls.proofs.TestLaws.{Is}
-use Rattle.calls.proofs.WordLaws.{unsound-is, noPlace-is, badField-is, gapped-row, elsewhere-is, inUse-is, twins-is}
-use Rattle.calls.proofs.WordLaws.{inactive-is, notPrimary-is, clusterFrozen-is, notReferenced-is, oldPassword-is, present-is}
+use Rattle.calls.proofs.WordLaws.{unsound-is, noPlace-is, badField-is, gapped-row, apart-is, elsewhere-is, inUse-is, twins-is}
+use Rattle.calls.proofs.WordLaws.{whole-row, inactive-is, notPrimary-is, clusterFrozen-is, notReferenced-is, oldPassword-is, present-is}
 use Rattle.calls.proofs.WordLaws.{absent-is, segmentFrozen-is, short-is, fullNode-is, empty-row, spent-row}
 use Rattle.calls.proofs.ValidWords.{violated-is}
 
@@ -66,11 +66,13 @@ module _ (f : Name → List ℕ → ℕ → List ℕ) (x : Call) (s : Store) (si
       next (noPlace-is x) λ b.
       next (badField-is x) λ c.
       next (gapped-row x t) λ r4.
+      next (apart-is x) λ r24.
       next (elsewhere-is x) λ r5.
       next (inUse-is x s) λ r6.
       next (twins-is x) λ r7.
       next (inactive-is x s) λ r8.
       next (violated-is f x s t c) λ r9.
+      next (whole-row x t) λ r23.
       next (notPrimary-is x t) λ r10.
       next (clusterFrozen-is x s) λ r22.
       next (notReferenced-is x t) λ r11.

@@ -10,17 +10,19 @@ use mathlib.Core.List.{List, [], _∷_}
 use lib.Dec.{eqb}
 use borrow.Author.Tests.{eqb-true}
 use Rattle.sizes.specs.Sizes.{segments}
+use lib.ListN.{length}
+use Rattle.handle.specs.declared.Handle.{Handle}
 use Rattle.handle.specs.Handles.{Name, nameOf, validates}
 use Rattle.store.specs.declared.Store.{Store}
 use Rattle.store.specs.Records.{primaryOf}
-use Rattle.calls.specs.Calls.{Call, among, opens, uses, needed, handleOf}
+use Rattle.calls.specs.Calls.{Call, among, opens, uses, needed, handleOf, otherOf}
 use Rattle.calls.specs.Numbers.{valid, violated}
 use Rattle.calls.specs.Words.{Taken, Opening, ReadMode, WriteMode, Chain, Valid, Field, Violated, clusterOf}
-use Rattle.calls.proofs.TestLaws.{Is, map-is, same-is, off-is, not-is, and-is, or-is, eq-is}
-use Rattle.calls.proofs.KindLaws.{kind-is, other-kind}
+use Rattle.calls.proofs.TestLaws.{Is, map-is, same-is, off-is, not-is, then-is, and-is, or-is, eq-is}
+use Rattle.calls.proofs.KindLaws.{kind-is}
 use Rattle.calls.proofs.CallLaws.{mode-known}
-use Rattle.calls.proofs.SelectorWords.{chain-is, four}
-use Rattle.calls.proofs.WordLaws.{opens-is, named-is, badField-is}
+use Rattle.calls.proofs.SelectorWords.{chain-is}
+use Rattle.calls.proofs.WordLaws.{opens-is, presented-is, first, second, badField-is}
 
 -- ---- the mode needed
 
@@ -54,32 +56,36 @@ module _ (x : Call) where
       go w false false e = ap (λ (t : Bool). t && true || false) (sym e)
 
 module _ (f : Name → List ℕ → ℕ → List ℕ) (x : Call) (s : Store) (t : Taken x) (c : ¬ Field x) where
-  from : ℕ → Bool
-  from mode = validates segments (f (nameOf (handleOf x))) (primaryOf (clusterOf x s) mode) (handleOf x)
+  module _ (h : Handle) (four : length (h .selector) ≡ 4) (o : Opening x) where
+    from : ℕ → Bool
+    from mode = validates segments (f (nameOf h)) (primaryOf (clusterOf h s) mode) h
 
-  valid-is : Opening x → Is (valid f (needed x) (handleOf x) s) (Valid f x s)
-  unfolding valid from
-  valid-is o = go (mode-known x (off-is (badField-is x) c))
-    where
-      chain : (p : List ℕ) → Is (validates segments (f (nameOf (handleOf x))) p (handleOf x))
-          (Chain (f (nameOf (handleOf x))) p x)
-      chain p = chain-is x (four x t (other-kind _ refl x o)) (f (nameOf (handleOf x))) p
+    valid-is : Is (valid f (needed x) h s) (Valid f x h s)
+    unfolding valid from
+    valid-is = go (mode-known x (off-is (badField-is x) c))
+      where
+        chain : (p : List ℕ) → Is (validates segments (f (nameOf h)) p h) (Chain (f (nameOf h)) p h)
+        chain p = chain-is h four (f (nameOf h)) p
 
-      go : (needed x ≡ 1) ⊎ (needed x ≡ 2) → Is (valid f (needed x) (handleOf x) s) (Valid f x s)
-      go (inl e) =
-          same-is (ap from e) (map-is (λ w. inl (read-is x .out (ap (λ (n : ℕ). eqb n 1) e), w)) back (chain (clusterOf x s .read)))
-        where
-          back : Valid f x s → Chain (f (nameOf (handleOf x))) (clusterOf x s .read) x
-          back (inl (r, w)) = w
-          back (inr (r, w)) = absurd (omega (arith, e, eqb-true (needed x) 2 (write-is x o .into r)))
-      go (inr e) =
-          same-is (ap from e) (map-is (λ w. inr (write-is x o .out (ap (λ (n : ℕ). eqb n 2) e), w)) back (chain (clusterOf x s .write)))
-        where
-          back : Valid f x s → Chain (f (nameOf (handleOf x))) (clusterOf x s .write) x
-          back (inl (r, w)) = absurd (omega (arith, e, eqb-true (needed x) 1 (read-is x .into r)))
-          back (inr (r, w)) = w
+        go : (needed x ≡ 1) ⊎ (needed x ≡ 2) → Is (valid f (needed x) h s) (Valid f x h s)
+        go (inl e) =
+            same-is (ap from e)
+            (map-is (λ w. inl (read-is x .out (ap (λ (n : ℕ). eqb n 1) e), w)) back (chain (clusterOf h s .read)))
+          where
+            back : Valid f x h s → Chain (f (nameOf h)) (clusterOf h s .read) h
+            back (inl (r, w)) = w
+            back (inr (r, w)) = absurd (omega (arith, e, eqb-true (needed x) 2 (write-is x o .into r)))
+        go (inr e) =
+            same-is (ap from e)
+            (map-is (λ w. inr (write-is x o .out (ap (λ (n : ℕ). eqb n 2) e), w)) back (chain (clusterOf h s .write)))
+          where
+            back : Valid f x h s → Chain (f (nameOf h)) (clusterOf h s .write) h
+            back (inl (r, w)) = absurd (omega (arith, e, eqb-true (needed x) 1 (read-is x .into r)))
+            back (inr (r, w)) = w
 
   pub violated-is : Is (violated f x s) (Violated f x s)
   unfolding violated
   violated-is =
-      named-is x (opens-is x) (other-kind _ refl x) (λ h. not (valid f (needed x) h s)) (λ o. not-is (valid-is o))
+      then-is (opens-is x) (λ o.
+      presented-is x (λ h. not (valid f (needed x) h s)) (λ h. ¬ Valid f x h s)
+      (λ q. not-is (valid-is (handleOf x) (first x t q) o)) (λ q. not-is (valid-is (otherOf x) (second x t q) o)))

@@ -2,12 +2,13 @@
 -- record that a call is about) is worked out for the kinds that the row names; the rest is the test's own parts in words.
 -- Rows 9 and 16 are told that no words above them hold: there is a mode, a node and a size, and the store is sound.
 -- Assumes nothing.
-use mathlib.Core.Path.{_≡_, refl, sym, ap, _∙_, subst}
+use mathlib.Core.Path.{_≡_, refl, sym, ap, ap₂, _∙_, subst}
 use mathlib.Core.Logic.{_≢_, _⊎_, inl, inr}
 use Prim.Native.Nat.{ℕ, _*_, _+_, _<_}
+use native.Mathlib.Decide.{ℕ-discrete}
 use native.Mathlib.Omega.{arith}
 use mathlib.Core.Bool.{Bool, true, false, not, _&&_, _||_, false≢true, or-false}
-use mathlib.Core.List.{[], _∷_}
+use mathlib.Core.List.{List, [], _∷_, _++_}
 use lib.Dec.{eqb, ltb}
 use lib.ListN.{length}
 use borrow.Author.Tests.{ltb-true, lt-ltb}
@@ -24,19 +25,20 @@ use Rattle.store.specs.SoundWords.{SoundInWords}
 use Rattle.store.specs.PlacementWords.{Room}
 use Rattle.store.proofs.SoundWordLaws.{sound-in-words}
 use Rattle.store.proofs.PlacementWordLaws.{placement-in-words}
-use Rattle.calls.specs.Calls.{Call, newCluster, newSegment, read, write, weaken}
-use Rattle.calls.specs.Calls.{among, isLook, opens, uses, handleOf, presented, anyOf}
+use Rattle.calls.specs.Calls.{Call, Kind, newCluster, newSegment, read, write, weaken, join}
+use Rattle.calls.specs.Calls.{among, isLook, opens, uses, handleOf, otherOf, taken, presented, anyOf}
 use Rattle.calls.specs.Calls.{buffer, nodeFor, recordFor, recordNamed, placeFor}
-use Rattle.calls.specs.Numbers.{unsound, noPlace, badMode, badSegment, badSize, badField, gappedHandle, elsewhere}
-use Rattle.calls.specs.Numbers.{inUse, twins, inactiveCluster, notPrimary, clusterFrozen, notReferenced, isOld, oldPassword}
+use Rattle.calls.specs.Numbers.{unsound, noPlace, badMode, badSegment, badSize, badField, gappedHandle, joinApart, elsewhere}
+use Rattle.calls.specs.Numbers.{inUse, twins, inactiveCluster, joinWhole, notPrimary, clusterFrozen, notReferenced, isOld}
+use Rattle.calls.specs.Numbers.{oldPassword}
 use Rattle.calls.specs.Numbers.{segmentPresent, segmentAbsent, segmentFrozen, short, fullNode, emptyHandle, spentHandle}
-use Rattle.calls.specs.Words.{Named, Handled, Taken, Opening, clusterOf, place, Unsound, NoSuchPlace, Field}
-use Rattle.calls.specs.Words.{Gapped, Elsewhere, InUse, Twins, Inactive, NotPrimary, NotReferenced, OldPassword}
+use Rattle.calls.specs.Words.{Named, Handled, Joining, Taken, Some, GappedHandle, Opening, clusterOf, place, Unsound, NoSuchPlace, Field}
+use Rattle.calls.specs.Words.{Gapped, Apart, Whole, Elsewhere, InUse, Twins, Inactive, NotPrimary, NotReferenced, OldPassword}
 use Rattle.calls.specs.Words.{ClusterFrozen, SegmentPresent, SegmentAbsent, SegmentFrozen, Short, NoRoom, Empty, Spent}
 use Rattle.calls.proofs.TestLaws.{Is, map-is, same-is, off-is, not-is, then-is, and-is, or-is, three-is, holds-is}
 use Rattle.calls.proofs.TestLaws.{fails-is, eq-is, le-is, lt-is, some-is}
-use Rattle.calls.proofs.KindLaws.{kind-is, but-is, other-kind}
-use Rattle.calls.proofs.SelectorWords.{references-is, other-is, gapped-is, empty-is, spent-is, password-is, four}
+use Rattle.calls.proofs.KindLaws.{one, kind-is, but-is, other-kind}
+use Rattle.calls.proofs.SelectorWords.{references-is, other-is, gapped-is, empty-is, spent-is, whole-is, password-is, four}
 
 module _ (x : Call) where
   -- ---- the kinds
@@ -76,23 +78,40 @@ module _ (x : Call) where
   handle-place : (s : Store) → Handled x → placeFor x (tableAt s) ≡ place x s
   handle-place s h = ap (λ (n : ℕ). placeAt (tableAt s) n (x .args .segment)) (handle-record h)
 
-  -- a test of the handles presented is one of the call's handle, where it takes one
-  one-handle : (p : Handle → Bool) → anyOf p (presented x) ≡ uses (x .kind) .handle && p (handleOf x)
-  one-handle p = go (uses (x .kind) .handle)
+  -- a test of the handles presented is one of the handle that the call takes, and one of the second that a join takes
+  join-is : Is (uses (x .kind) .other) (Joining x)
+  join-is = kind-is (λ k. uses k .other) _ refl x
+
+  each-handle : (p : Handle → Bool)
+      → anyOf p (presented x) ≡ uses (x .kind) .handle && p (handleOf x) || uses (x .kind) .other && p (otherOf x)
+  each-handle p = go (uses (x .kind) .handle) (uses (x .kind) .other)
     where
-      go : (u : Bool) → anyOf p (elim u [ true ↦ handleOf x ∷ [] | false ↦ [] ]) ≡ u && p (handleOf x)
-      go true = or-false (p (handleOf x))
-      go false = refl
+      go : (u v : Bool) → anyOf p (taken u (handleOf x) ++ taken v (otherOf x)) ≡ u && p (handleOf x) || v && p (otherOf x)
+      go true true = ap (λ (b : Bool). p (handleOf x) || b) (or-false (p (otherOf x)))
+      go true false = refl
+      go false true = or-false (p (otherOf x))
+      go false false = refl
 
-  presented-is : (p : Handle → Bool) {P : Type 0} → (Handled x → Is (p (handleOf x)) P)
-      → Is (anyOf p (presented x)) (Handled x × P)
-  presented-is p h = same-is (one-handle p) (then-is handled-is h)
+  pub presented-is : (p : Handle → Bool) (P : Handle → Type 0) → (Handled x → Is (p (handleOf x)) (P (handleOf x)))
+      → (Joining x → Is (p (otherOf x)) (P (otherOf x))) → Is (anyOf p (presented x)) (Some P x)
+  presented-is p P h k = same-is (each-handle p) (or-is (then-is handled-is h) (then-is join-is k))
 
-  -- and beside a test of kinds that all take a handle
-  pub named-is : {a : Bool} {A P : Type 0} → Is a A → (A → Handled x) → (p : Handle → Bool)
-      → (A → Is (p (handleOf x)) P) → Is (a && anyOf p (presented x)) (A × P)
-  named-is h k p q =
-      then-is h (λ n. same-is (one-handle p ∙ ap (λ (u : Bool). u && p (handleOf x)) (handled-is .into (k n))) (q n))
+  -- and beside a test of kinds that all take a handle, and no second one
+  alone-is : {a : Bool} (ks : List Kind) → Is a (Named ks x) → one ks newCluster ≡ false → one ks join ≡ false
+      → (p : Handle → Bool) {P : Type 0} → (Named ks x → Is (p (handleOf x)) P)
+      → Is (a && anyOf p (presented x)) (Named ks x × P)
+  unfolding Named
+  alone-is ks h e j p q =
+      then-is h (λ n.
+      same-is
+      (each-handle p
+      ∙ ap₂ (λ (u v : Bool). u && p (handleOf x) || v && p (otherOf x)) (handled-is .into (other-kind ks e x n))
+      (off-is join-is (apart n))
+      ∙ or-false (p (handleOf x))) (q n))
+    where
+      apart : Named ks x → ¬ Joining x
+      apart n (inl k) = other-kind ks j x n k
+      apart n (inr k) = k
 
   -- ---- the rows of the call alone
 
@@ -100,9 +119,12 @@ module _ (x : Call) where
   unfolding noPlace
   noPlace-is =
       three-is
-      (presented-is noSuchPlace (λ h. or-is (le-is 4 (nodeOf (handleOf x))) (le-is 8 (handleOf x .local))))
+      (presented-is noSuchPlace (λ h. (3 < nodeOf h) ⊎ (7 < h .local)) (λ h. place-is (handleOf x)) (λ h. place-is (otherOf x)))
       (and-is (kind-is (λ k. uses k .current) _ refl x) (le-is 4 (x .args .current)))
       (and-is local-is (le-is 8 (x .args .local)))
+    where
+      place-is : (h : Handle) → Is (noSuchPlace h) ((3 < nodeOf h) ⊎ (7 < h .local))
+      place-is h = or-is (le-is 4 (nodeOf h)) (le-is 8 (h .local))
 
   pub badField-is : Is (badField x) (Field x)
   unfolding badField badMode badSegment badSize
@@ -118,6 +140,27 @@ module _ (x : Call) where
       neither m n (inl e) = m e
       neither m n (inr e) = n e
 
+  pub apart-is : Is (joinApart x) (Apart x)
+  unfolding joinApart
+  apart-is =
+      and-is (kind-is (among (11 ∷ [])) _ refl x)
+      (map-is some both
+      (not-is (and-is (eq-is (nodeOf (handleOf x)) (nodeOf (otherOf x))) (eq-is (handleOf x .local) (otherOf x .local)))))
+    where
+      some : ¬ ((nodeOf (handleOf x) ≡ nodeOf (otherOf x)) × (handleOf x .local ≡ otherOf x .local))
+          → (nodeOf (handleOf x) ≢ nodeOf (otherOf x)) ⊎ (handleOf x .local ≢ otherOf x .local)
+      some n = go (ℕ-discrete (nodeOf (handleOf x)) (nodeOf (otherOf x)))
+        where
+          go : Dec (nodeOf (handleOf x) ≡ nodeOf (otherOf x))
+              → (nodeOf (handleOf x) ≢ nodeOf (otherOf x)) ⊎ (handleOf x .local ≢ otherOf x .local)
+          go (yes e) = inr (λ l. n (e, l))
+          go (no e) = inl e
+
+      both : (nodeOf (handleOf x) ≢ nodeOf (otherOf x)) ⊎ (handleOf x .local ≢ otherOf x .local)
+          → ¬ ((nodeOf (handleOf x) ≡ nodeOf (otherOf x)) × (handleOf x .local ≡ otherOf x .local))
+      both (inl d) e = d (e .0)
+      both (inr d) e = d (e .1)
+
   pub elsewhere-is : Is (elsewhere x) (Elsewhere x)
   unfolding elsewhere
   elsewhere-is =
@@ -132,34 +175,48 @@ module _ (x : Call) where
   -- ---- the rows of a selector
 
   module _ (t : Taken x) where
+    pub first : Handled x → length (handleOf x .selector) ≡ 4
+    first h = four (x .args .handle) (t .first h)
+
+    pub second : Joining x → length (otherOf x .selector) ≡ 4
+    second h = four (x .args .other) (t .second h)
+
     pub gapped-row : Is (gappedHandle x) (Gapped x)
     unfolding gappedHandle
-    gapped-row = presented-is (λ h. gapped (widthOf h) (h .selector)) (λ h. gapped-is x (four x t h))
+    gapped-row =
+        presented-is (λ h. gapped (widthOf h) (h .selector)) GappedHandle (λ h. gapped-is (handleOf x) (first h))
+        (λ h. gapped-is (otherOf x) (second h))
 
     pub notPrimary-is : Is (notPrimary x) (NotPrimary x)
     unfolding notPrimary
     notPrimary-is =
-        named-is (kind-is (among (2 ∷ 3 ∷ 4 ∷ 9 ∷ 10 ∷ [])) _ refl x) (other-kind _ refl x)
-        (λ h. not (allFlat (widthOf h) (h .selector))) (λ n. other-is x (four x t (other-kind _ refl x n)))
+        alone-is _ (kind-is (among (2 ∷ 3 ∷ 4 ∷ 9 ∷ 10 ∷ [])) _ refl x) refl refl
+        (λ h. not (allFlat (widthOf h) (h .selector))) (λ n. other-is (handleOf x) (first (other-kind _ refl x n)))
+
+    pub whole-row : Is (joinWhole x) (Whole x)
+    unfolding joinWhole
+    whole-row =
+        then-is (kind-is (among (11 ∷ [])) _ refl x) (λ n.
+        whole-is (handleOf x) (otherOf x) (first (other-kind _ refl x n)) (second n))
 
     pub notReferenced-is : Is (notReferenced x) (NotReferenced x)
     unfolding notReferenced
     notReferenced-is =
         then-is (kind-is (among (5 ∷ 6 ∷ [])) _ refl x) (λ n.
-        not-is (references-is x (four x t (other-kind _ refl x n)) (x .args .segment)))
+        not-is (references-is (handleOf x) (first (other-kind _ refl x n)) (x .args .segment)))
 
     pub empty-row : Is (emptyHandle x) (Empty x)
     unfolding emptyHandle
     empty-row =
         then-is (kind-is (among (7 ∷ [])) _ refl x) (λ n.
-        empty-is x (four x t (other-kind _ refl x n)) (x .args .mask))
+        empty-is (handleOf x) (first (other-kind _ refl x n)) (x .args .mask))
 
     pub spent-row : Is (spentHandle x) (Spent x)
     unfolding spentHandle
     spent-row =
         map-is (λ r. (r .0, r .1 .0, r .1 .1)) (λ r. (r .0, (r .1, r .2)))
         (then-is (kind-is (among (7 ∷ [])) _ refl x) (λ n.
-        spent-is x (four x t (other-kind _ refl x n)) (x .args .mask)))
+        spent-is (handleOf x) (first (other-kind _ refl x n)) (x .args .mask)))
 
   -- ---- the rows of the store
 
@@ -179,15 +236,16 @@ module _ (x : Call) where
     pub inactive-is : Is (inactiveCluster x (tableAt s)) (Inactive x s)
     unfolding inactiveCluster
     inactive-is =
-        named-is opens-is (other-kind _ refl x) (λ h. not (tableAt s (recordNamed h) .active)) (λ h.
-        fails-is (clusterOf x s .active))
+        and-is opens-is
+        (presented-is (λ h. not (tableAt s (recordNamed h) .active)) (λ h. clusterOf h s .active ≡ false)
+        (λ h. fails-is (clusterOf (handleOf x) s .active)) (λ h. fails-is (clusterOf (otherOf x) s .active)))
 
     pub oldPassword-is : Is (oldPassword x s) (OldPassword x s)
     unfolding oldPassword
     oldPassword-is =
         then-is (kind-is (among (9 ∷ [])) _ refl x) (λ n.
         same-is (ap (λ (k : ℕ). isOld (x .args .first) (clusterAt s k)) (handle-record (other-kind _ refl x n)))
-        (or-is (password-is (x .args .first) (clusterOf x s .read)) (password-is (x .args .first) (clusterOf x s .write))))
+        (or-is (password-is (x .args .first) (clusterOf (handleOf x) s .read)) (password-is (x .args .first) (clusterOf (handleOf x) s .write))))
 
     pub present-is : Is (segmentPresent x (tableAt s)) (SegmentPresent x s)
     unfolding segmentPresent
@@ -214,7 +272,7 @@ module _ (x : Call) where
     clusterFrozen-is =
         then-is (kind-is (among (2 ∷ [])) _ refl x) (λ n.
         same-is (ap (λ (k : ℕ). not (noneFrozen (tableAt s k))) (handle-record (other-kind _ refl x n)))
-        (some-is 8 (frozenOf (tableOf (clusterOf x s)))))
+        (some-is 8 (frozenOf (tableOf (clusterOf (handleOf x) s)))))
 
     pub segmentFrozen-is : Is (segmentFrozen x (tableAt s)) (SegmentFrozen x s)
     unfolding segmentFrozen
@@ -266,7 +324,7 @@ module _ (x : Call) where
             → Is (eqb (placement (tableAt s) (nodeOf (handleOf x)) (x .args .size) .number) 16)
             ((base : ℕ) → ¬ Room s (nodeOf (handleOf x)) (x .args .size) base)
         placed n =
-            let node : ¬ (3 < nodeOf (handleOf x)) = λ h. b (inl (other-kind _ refl x n, inl h)) in
+            let node : ¬ (3 < nodeOf (handleOf x)) = λ h. b (inl (inl (other-kind _ refl x n, inl h))) in
             let some : ¬ (x .args .size ≡ 0) = λ h. c (inr (inr (n, inl h))) in
             let w = whole (other-kind _ refl x n) (sound s size) refl in
             let p = placement-in-words s size w (nodeOf (handleOf x)) (x .args .size) (omega arith) (omega arith) in

@@ -1,10 +1,10 @@
--- Document 01, "The calls" and the first sentences of "Two copies", with the look of document 02, §2, and its §3, call
--- 10: what a call carries and what it looks at.
+-- Document 01, "The calls" and the first sentences of "Two copies", with the look of document 02, §2, its §3, call 10, and
+-- its §5, call 11: what a call carries and what it looks at.
 --     Copy                    the records of all clusters and the bytes of the slice
 --     start                   the starting store, with a memory of zeros
---     Kind                    the ten calls, validation and the look
---     Arguments               what a call may carry: handles as 23 bytes, passwords as sixteen; `bytes` are a read's
---                             buffer or a write's data
+--     Kind                    the eleven calls, validation and the look
+--     Arguments               what a call may carry: handles as 23 bytes, passwords as sixteen; `other` is the second
+--                             handle of a join, `bytes` are a read's buffer or a write's data
 --     Call, call              a kind and its arguments
 --     makingCluster .. looking    each call by name, with what it uses; its other arguments are zero or empty
 --     code                    the code by which the tables name a kind; validation has the rows of call 8, a look those of
@@ -15,10 +15,11 @@
 --     Uses, uses              which arguments a kind looks at; no other argument counts
 --     needed                  the mode that the handle must validate in: the one named, else read for call 5 and a look,
 --                             write for the others
---     handleOf, presented     the handle that the bytes hold; the handles that a call presents
+--     handleOf, otherOf       the handle that the bytes hold, and that of the second ones
+--     taken u h, presented    the handle h where u is true; the handles that a call presents: one, or the two of a join
 --     buffer                  the buffer or data that comes with a call
 --     nodeFor, localFor       the node and the local number of the cluster that a call is about: named by the call,
---                             else by its handle
+--                             else by its handle; of a join by the first
 --     recordFor, recordNamed  its record's number; that of the cluster that a handle names
 --     placeFor                the place of the segment that a call is about
 --     frozenFor               that segment is frozen
@@ -28,7 +29,7 @@
 -- Assumes nothing.
 use Prim.Native.Nat.{ℕ, _+_}
 use mathlib.Core.Bool.{Bool, true, false, _||_}
-use mathlib.Core.List.{List, [], _∷_}
+use mathlib.Core.List.{List, [], _∷_, _++_}
 use lib.Dec.{eqb}
 use lib.ListN.{replicate}
 use Rattle.sizes.specs.Sizes.{memory}
@@ -50,7 +51,7 @@ start = record { store = startingStore; memory = replicate memory 0 }
 -- ---- calls
 
 pub data Kind : Type 0 where
-  newCluster deleteCluster newSegment deleteSegment read write weaken reduce newPassword freeze validate look : Kind
+  newCluster deleteCluster newSegment deleteSegment read write weaken reduce newPassword freeze join validate look : Kind
 
 pub record Arguments : Type 0 where
   pub current : ℕ
@@ -60,6 +61,7 @@ pub record Arguments : Type 0 where
   pub size : ℕ
   pub mask : ℕ
   pub handle : List ℕ
+  pub other : List ℕ
   pub first : List ℕ
   pub second : List ℕ
   pub bytes : List ℕ
@@ -72,8 +74,8 @@ abbrev pub call : Kind → Arguments → Call
 call k g = record { kind = k; args = g }
 
 -- the fields in the order of the record
-abbrev arguments : ℕ → ℕ → ℕ → ℕ → ℕ → ℕ → List ℕ → List ℕ → List ℕ → List ℕ → Arguments
-arguments current local mode segment size mask handle first second bytes =
+abbrev arguments : ℕ → ℕ → ℕ → ℕ → ℕ → ℕ → List ℕ → List ℕ → List ℕ → List ℕ → List ℕ → Arguments
+arguments current local mode segment size mask handle other first second bytes =
     record {
       current = current;
       local = local;
@@ -82,46 +84,50 @@ arguments current local mode segment size mask handle first second bytes =
       size = size;
       mask = mask;
       handle = handle;
+      other = other;
       first = first;
       second = second;
       bytes = bytes;
     }
 
 abbrev pub makingCluster : ℕ → ℕ → List ℕ → List ℕ → Call
-makingCluster current local first second = call newCluster (arguments current local 0 0 0 0 [] first second [])
+makingCluster current local first second = call newCluster (arguments current local 0 0 0 0 [] [] first second [])
 
 abbrev pub deletingCluster : ℕ → List ℕ → Call
-deletingCluster current handle = call deleteCluster (arguments current 0 0 0 0 0 handle [] [] [])
+deletingCluster current handle = call deleteCluster (arguments current 0 0 0 0 0 handle [] [] [] [])
 
 abbrev pub makingSegment : ℕ → ℕ → ℕ → List ℕ → Call
-makingSegment current segment size handle = call newSegment (arguments current 0 0 segment size 0 handle [] [] [])
+makingSegment current segment size handle = call newSegment (arguments current 0 0 segment size 0 handle [] [] [] [])
 
 abbrev pub deletingSegment : ℕ → ℕ → List ℕ → Call
-deletingSegment current segment handle = call deleteSegment (arguments current 0 0 segment 0 0 handle [] [] [])
+deletingSegment current segment handle = call deleteSegment (arguments current 0 0 segment 0 0 handle [] [] [] [])
 
 abbrev pub reading : ℕ → List ℕ → List ℕ → Call
-reading segment handle buffer = call read (arguments 0 0 0 segment 0 0 handle [] [] buffer)
+reading segment handle buffer = call read (arguments 0 0 0 segment 0 0 handle [] [] [] buffer)
 
 abbrev pub writing : ℕ → List ℕ → List ℕ → Call
-writing segment handle written = call write (arguments 0 0 0 segment 0 0 handle [] [] written)
+writing segment handle written = call write (arguments 0 0 0 segment 0 0 handle [] [] [] written)
 
 abbrev pub weakeningBy : ℕ → List ℕ → Call
-weakeningBy mask handle = call weaken (arguments 0 0 0 0 0 mask handle [] [] [])
+weakeningBy mask handle = call weaken (arguments 0 0 0 0 0 mask handle [] [] [] [])
 
 abbrev pub reducing : ℕ → List ℕ → Call
-reducing mode handle = call reduce (arguments 0 0 mode 0 0 0 handle [] [] [])
+reducing mode handle = call reduce (arguments 0 0 mode 0 0 0 handle [] [] [] [])
 
 abbrev pub renewing : ℕ → List ℕ → List ℕ → Call
-renewing mode handle password = call newPassword (arguments 0 0 mode 0 0 0 handle password [] [])
+renewing mode handle password = call newPassword (arguments 0 0 mode 0 0 0 handle [] password [] [])
 
 abbrev pub freezing : ℕ → ℕ → List ℕ → Call
-freezing current segment handle = call freeze (arguments current 0 0 segment 0 0 handle [] [] [])
+freezing current segment handle = call freeze (arguments current 0 0 segment 0 0 handle [] [] [] [])
+
+abbrev pub joining : ℕ → List ℕ → List ℕ → Call
+joining mode handle other = call join (arguments 0 0 mode 0 0 0 handle other [] [] [])
 
 abbrev pub validating : ℕ → List ℕ → Call
-validating mode handle = call validate (arguments 0 0 mode 0 0 0 handle [] [] [])
+validating mode handle = call validate (arguments 0 0 mode 0 0 0 handle [] [] [] [])
 
 abbrev pub looking : ℕ → ℕ → List ℕ → Call
-looking current segment handle = call look (arguments current 0 0 segment 0 0 handle [] [] [])
+looking current segment handle = call look (arguments current 0 0 segment 0 0 handle [] [] [] [])
 
 abbrev pub code : Kind → ℕ
 code newCluster = 1
@@ -134,6 +140,7 @@ code weaken = 7
 code reduce = 8
 code newPassword = 9
 code freeze = 10
+code join = 11
 code validate = 8
 code look = 5
 
@@ -152,11 +159,12 @@ isLook weaken = false
 isLook reduce = false
 isLook newPassword = false
 isLook freeze = false
+isLook join = false
 isLook validate = false
 isLook look = true
 
 abbrev pub opens : Kind → Bool
-opens k = among (2 ∷ 3 ∷ 4 ∷ 5 ∷ 6 ∷ 8 ∷ 9 ∷ 10 ∷ []) k
+opens k = among (2 ∷ 3 ∷ 4 ∷ 5 ∷ 6 ∷ 8 ∷ 9 ∷ 10 ∷ 11 ∷ []) k
 
 -- ---- what a kind looks at
 
@@ -168,12 +176,13 @@ pub record Uses : Type 0 where
   pub size : Bool
   pub mask : Bool
   pub handle : Bool
+  pub other : Bool
   pub first : Bool
   pub second : Bool
   pub bytes : Bool
 
-abbrev columns : Bool → Bool → Bool → Bool → Bool → Bool → Bool → Bool → Bool → Bool → Uses
-columns c l m s z k h p q b =
+abbrev columns : Bool → Bool → Bool → Bool → Bool → Bool → Bool → Bool → Bool → Bool → Bool → Uses
+columns c l m s z k h t p q b =
     record {
       current = c;
       local = l;
@@ -182,6 +191,7 @@ columns c l m s z k h p q b =
       size = z;
       mask = k;
       handle = h;
+      other = t;
       first = p;
       second = q;
       bytes = b;
@@ -194,20 +204,21 @@ x = true
 abbrev o : Bool
 o = false
 
--- the columns: current, local, mode, segment, size, mask, handle, first, second, bytes
+-- the columns: current, local, mode, segment, size, mask, handle, other, first, second, bytes
 abbrev pub uses : Kind → Uses
-uses newCluster = columns x x o o o o o x x o
-uses deleteCluster = columns x o o o o o x o o o
-uses newSegment = columns x o o x x o x o o o
-uses deleteSegment = columns x o o x o o x o o o
-uses read = columns o o o x o o x o o x
-uses write = columns o o o x o o x o o x
-uses weaken = columns o o o o o x x o o o
-uses reduce = columns o o x o o o x o o o
-uses newPassword = columns o o x o o o x x o o
-uses freeze = columns x o o x o o x o o o
-uses validate = columns o o x o o o x o o o
-uses look = columns x o o x o o x o o o
+uses newCluster = columns x x o o o o o o x x o
+uses deleteCluster = columns x o o o o o x o o o o
+uses newSegment = columns x o o x x o x o o o o
+uses deleteSegment = columns x o o x o o x o o o o
+uses read = columns o o o x o o x o o o x
+uses write = columns o o o x o o x o o o x
+uses weaken = columns o o o o o x x o o o o
+uses reduce = columns o o x o o o x o o o o
+uses newPassword = columns o o x o o o x o x o o
+uses freeze = columns x o o x o o x o o o o
+uses join = columns o o x o o o x x o o o
+uses validate = columns o o x o o o x o o o o
+uses look = columns x o o x o o x o o o o
 
 abbrev pub needed : Call → ℕ
 needed x =
@@ -219,8 +230,14 @@ needed x =
 abbrev pub handleOf : Call → Handle
 handleOf x = decoded (x .args .handle)
 
+abbrev pub otherOf : Call → Handle
+otherOf x = decoded (x .args .other)
+
+abbrev pub taken : Bool → Handle → List Handle
+taken u h = elim u [ true ↦ h ∷ [] | false ↦ [] ]
+
 abbrev pub presented : Call → List Handle
-presented x = elim (uses (x .kind) .handle) [ true ↦ handleOf x ∷ [] | false ↦ [] ]
+presented x = taken (uses (x .kind) .handle) (handleOf x) ++ taken (uses (x .kind) .other) (otherOf x)
 
 abbrev pub anyOf : (Handle → Bool) → List Handle → Bool
 anyOf p [] = false

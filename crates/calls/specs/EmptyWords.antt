@@ -14,20 +14,21 @@ use Prim.Native.Nat.{ℕ, _+_, _≤_, _<_}
 use mathlib.Core.List.{List}
 use lib.ListN.{length, getD}
 use Rattle.handle.specs.Handles.{Name, nodeOf}
+use Rattle.handle.specs.Words.{Bit, References}
 use Rattle.store.specs.declared.Store.{Store}
 use Rattle.calls.specs.Calls.{Copy, Call, Arguments, call, weaken, handleOf}
 use Rattle.calls.specs.Numbers.{number}
-use Rattle.calls.specs.Words.{Taken, Bit, References, Gapped}
+use Rattle.calls.specs.Words.{Taken, GappedHandle}
 use Rattle.calls.specs.Steps.{Reply, step}
 
 abbrev pub Left : Call → ℕ → Type 0
-Left x i = References x i × Bit i (x .args .mask)
+Left x i = References (handleOf x) i × Bit i (x .args .mask)
 
 pub record Emptied (x : Call) : Type 0 where
   pub weakens : x .kind ≡ weaken
   pub node : nodeOf (handleOf x) ≤ 3
   pub local : handleOf x .local ≤ 7
-  pub even : ¬ Gapped x
+  pub even : ¬ GappedHandle (handleOf x)
   pub none : (i : ℕ) → i < 8 → ¬ Left x i
 
 pub record SomeGiven (r : Reply) : Type 0 where

@@ -18,7 +18,7 @@ use Rattle.calls.specs.Words.{place, Frozen, clusterOf}
 use Rattle.calls.specs.Steps.{step}
 
 abbrev pub Eight : Call → Copy → Type 0
-Eight x c = length (clusterOf x (c .store) .segments) ≡ 8
+Eight x c = length (clusterOf (handleOf x) (c .store) .segments) ≡ 8
 
 module _ (f : Name → List ℕ → ℕ → List ℕ) (g : Arguments) (c : Copy) where
   abbrev x : Call

@@ -1,15 +1,18 @@
--- Document 01, "Numbers a call may be turned down with": the rows 1 to 17, and document 02's 21 and 22, a test for each,
--- in the order in which they are looked at; 22 stands in two places. Where a row names call 5, a look is meant too,
--- except in row 15; and a look has row 5. Call 10 has the rows that document 01 gives to call 4.
+-- Document 01, "Numbers a call may be turned down with": the rows 1 to 17, and document 02's 21 to 24, a test for each, in
+-- the order in which they are looked at; 22 stands in two places. Where a row names call 5, a look is meant too, except in
+-- row 15; and a look has row 5. Call 10 has the rows that document 01 gives to call 4. Of call 11 rows 2, 4, 8 and 9 apply
+-- if they apply to either of its handles.
 --     unsound              1, all but 7: the store is not sound
 --     noPlace              2: a node above 3 or a local number above 7, in a handle or in the call
 --     badField             3: badMode, not 1 or 2; badSegment, above 7; badSize, 0 or above 4,096
 --     gappedHandle         4: a handle's selector is gapped
+--     joinApart            24, for 11: the two names of node and cluster differ
 --     elsewhere            5, for 2, 3, 4, 10 and a look: the current node is not the handle's
 --     inUse                6, for 1: the cluster is active
 --     twins                7, for 1: the two passwords are equal
---     inactiveCluster      8, for 2 to 6, 8, 9, 10: a handle's cluster is inactive
---     violated             9, for 2 to 6, 8, 9, 10: a handle does not validate in the mode needed
+--     inactiveCluster      8, for 2 to 6, 8 to 11: a handle's cluster is inactive
+--     violated             9, for 2 to 6, 8 to 11: a handle does not validate in the mode needed
+--     joinWhole            23, for 11: the union of what either handle references is all of the width
 --     notPrimary           10, for 2, 3, 4, 9, 10: some subselector is not flat
 --     clusterFrozen        22, for 2: some segment of the cluster is frozen
 --     notReferenced        11, for 5, 6: the handle does not reference the segment
@@ -38,8 +41,8 @@ use lib.Dec.{eqb, leb, ltb}
 use lib.ListN.{length}
 use Rattle.sizes.specs.Sizes.{nodes, clusters, segments, nodeMemory}
 use Rattle.handle.specs.declared.Handle.{Handle}
-use Rattle.handle.specs.Selectors.{references, allFlat, gapped, keepsNone, spent}
-use Rattle.handle.specs.Handles.{Name, nameOf, widthOf, samePassword, noSuchPlace, Row, firstOf, validates}
+use Rattle.handle.specs.Selectors.{references, allFlat, gapped, keepsNone, spent, wholeUnion}
+use Rattle.handle.specs.Handles.{Name, nameOf, sameName, widthOf, samePassword, noSuchPlace, Row, firstOf, validates}
 use Rattle.store.specs.declared.Cluster.{Cluster}
 use Rattle.store.specs.declared.Store.{Store}
 use Rattle.store.specs.Records.{Tables, clusterAt, tableAt, noneFrozen, readMode, writeMode, lengthOf, primaryOf}
@@ -47,7 +50,7 @@ use Rattle.store.specs.Sound.{isAbsent, sound}
 use Rattle.numbers.specs.Numbers.{noRoomNumber}
 use Rattle.store.specs.Placement.{placement}
 use Rattle.calls.specs.Calls.{Call, among, isLook, opens, uses, needed}
-use Rattle.calls.specs.Calls.{handleOf, presented, anyOf, buffer, nodeFor, recordFor, recordNamed}
+use Rattle.calls.specs.Calls.{handleOf, otherOf, presented, anyOf, buffer, nodeFor, recordFor, recordNamed}
 use Rattle.calls.specs.Calls.{placeFor, frozenFor}
 
 -- ---- tests of the call alone
@@ -73,12 +76,19 @@ badField x = badMode x || badSegment x || badSize x
 unfoldable pub gappedHandle : Call → Bool
 gappedHandle x = anyOf (λ h. gapped (widthOf h) (h .selector)) (presented x)
 
+unfoldable pub joinApart : Call → Bool
+joinApart x = among (11 ∷ []) (x .kind) && not (sameName (handleOf x) (otherOf x))
+
 unfoldable pub elsewhere : Call → Bool
 elsewhere x =
     (among (2 ∷ 3 ∷ 4 ∷ 10 ∷ []) (x .kind) || isLook (x .kind)) && not (eqb (x .args .current) (nodeFor x))
 
 unfoldable pub twins : Call → Bool
 twins x = among (1 ∷ []) (x .kind) && samePassword (x .args .first) (x .args .second)
+
+unfoldable pub joinWhole : Call → Bool
+joinWhole x =
+    among (11 ∷ []) (x .kind) && wholeUnion (widthOf (handleOf x)) (handleOf x .selector) (otherOf x .selector)
 
 unfoldable pub notPrimary : Call → Bool
 notPrimary x =
@@ -163,11 +173,13 @@ module _ (f : Name → List ℕ → ℕ → List ℕ) where
       ∷ byCall 2 noPlace
       ∷ byCall 3 badField
       ∷ byCall 4 gappedHandle
+      ∷ byCall 24 joinApart
       ∷ byCall 5 elsewhere
       ∷ byTables 6 inUse
       ∷ byCall 7 twins
       ∷ byTables 8 inactiveCluster
       ∷ byRecords 9 violated
+      ∷ byCall 23 joinWhole
       ∷ byCall 10 notPrimary
       ∷ byTables 22 clusterFrozen
       ∷ byCall 11 notReferenced
@@ -185,8 +197,8 @@ module _ (f : Name → List ℕ → ℕ → List ℕ) where
   number x s size = firstOf (at x s (rows size))
 
 unfoldable pub otherTests : Unit {0}
-unfolding unsound noPlace badMode badSegment badSize badField gappedHandle elsewhere inUse twins inactiveCluster notPrimary
-    clusterFrozen notReferenced oldPassword segmentPresent segmentAbsent segmentFrozen short fullNode emptyHandle spentHandle
+unfolding unsound noPlace badMode badSegment badSize badField gappedHandle joinApart elsewhere inUse twins inactiveCluster
+    joinWhole notPrimary clusterFrozen notReferenced oldPassword segmentPresent segmentAbsent segmentFrozen short fullNode emptyHandle spentHandle
 otherTests = tt
 
 unfoldable pub tests : Unit {0}

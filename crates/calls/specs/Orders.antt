@@ -5,6 +5,7 @@
 --     Order, over u l x    a call to which two rows apply, the upper and the lower
 --     applies s n x        a row with the number n applies to the call on the store s
 --     orders               every two rows that stand next to each other for a call, where they can meet
+--     joined               those of call 11, by its first handle and by its second
 --     frozen               those of 22, where the segment is frozen
 --     numbersOf, uppers    the numbers that the calls get on a store, and the upper ones
 --     Meet                 the lower rows apply too
@@ -18,11 +19,11 @@ use Rattle.sizes.specs.Sizes.{segments, memory}
 use Rattle.handle.specs.Selectors.{flats}
 use Rattle.store.specs.declared.Store.{Store}
 use Rattle.calls.specs.Calls.{Call, makingCluster, deletingCluster, makingSegment, deletingSegment, reading}
-use Rattle.calls.specs.Calls.{writing, weakeningBy, reducing, renewing, freezing, validating, looking}
+use Rattle.calls.specs.Calls.{writing, weakeningBy, reducing, renewing, freezing, joining, validating, looking}
 use Rattle.calls.specs.Numbers.{at, rows, number}
 use Rattle.calls.specs.Clear.{holding}
 use Rattle.calls.specs.Cases.{added, sixteen, shown, primary, weak, other, gap, far, high, idle, spent, nothing, room, tight}
-use Rattle.calls.specs.Cases.{sample, marked}
+use Rattle.calls.specs.Cases.{lower, upper, sample, marked}
 
 abbrev farGap : List ℕ
 farGap = shown 4 2 3 (255 ∷ 254 ∷ 255 ∷ 255 ∷ [])
@@ -146,6 +147,40 @@ orders =
     ∷ over 13 16 (makingSegment 1 5 4094 (primary 4))
     ∷ []
 
+abbrev pub joined : List Order
+joined =
+    -- 2 above 3, and above 4 and 24
+    over 2 3 (joining 3 far (weak 3))
+    ∷ over 2 3 (joining 3 (weak 3) high)
+    ∷ over 2 4 (joining 1 farGap (weak 3))
+    ∷ over 2 4 (joining 1 gap far)
+    ∷ over 2 24 (joining 1 (weak 3) far)
+    -- 3 above 4
+    ∷ over 3 4 (joining 3 gap (weak 3))
+    ∷ over 3 4 (joining 0 (weak 3) gap)
+    -- 4 above 24
+    ∷ over 4 24 (joining 1 gap idle)
+    ∷ over 4 24 (joining 1 idle gap)
+    ∷ over 4 24 (joining 1 (weak 3) idleGap)
+    ∷ over 4 24 (joining 1 idleGap (weak 3))
+    -- 24 above 8, 9 and 23
+    ∷ over 24 8 (joining 1 (weak 3) idle)
+    ∷ over 24 8 (joining 1 idle (weak 3))
+    ∷ over 24 8 (joining 1 idle (shown 1 5 0 (flats segments)))
+    ∷ over 24 9 (joining 1 (weak 4) idle)
+    ∷ over 24 9 (joining 1 (weak 3) idleWrong)
+    ∷ over 24 23 (joining 1 (primary 3) idle)
+    -- 8 above 9 and 23
+    ∷ over 8 9 (joining 1 idleWrong idle)
+    ∷ over 8 9 (joining 1 idle idleWrong)
+    ∷ over 8 23 (joining 1 idle idle)
+    -- 9 above 23
+    ∷ over 9 23 (joining 1 (primary 4) (weak 3))
+    ∷ over 9 23 (joining 1 (weak 3) (primary 4))
+    ∷ over 9 23 (joining 2 (lower 4) (upper 3))
+    ∷ over 9 23 (joining 2 (lower 3) (upper 4))
+    ∷ []
+
 -- where the segment is frozen: 9, 10 and 11 above 22, and 22 above 15
 abbrev pub frozen : List Order
 frozen =
@@ -171,5 +206,7 @@ Meet s os = map (λ (o : Order). applies s (o .lower) (o .call)) os ≡ map (λ 
 pub record OrdersGiven : Type 0 where
   pub told : numbersOf sample orders ≡ uppers orders
   pub meet : Meet sample orders
+  pub told-joined : numbersOf sample joined ≡ uppers joined
+  pub meet-joined : Meet sample joined
   pub told-frozen : numbersOf marked frozen ≡ uppers frozen
   pub meet-frozen : Meet marked frozen

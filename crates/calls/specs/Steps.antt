@@ -1,6 +1,6 @@
 -- Document 01, "The calls": what a call done gives and leaves; what a refusal gives; and "Two copies": a list of calls,
 -- each working on what the one before it left. With the look of document 02, §2, whose bytes shown are part of the reply,
--- and its §3, call 10.
+-- its §3, call 10, and its §5, call 11.
 --     Reply               the number, two handles as 23 bytes, a count, a length, the buffer afterwards, and the bytes
 --                         shown; a handle that is not given is 23 zero bytes, a count or length that is not told is
 --                         zero, and where nothing is shown there are no bytes
@@ -32,6 +32,7 @@
 --     newPrimary          1: a primary handle of the cluster made
 --     weaker f            7: the handle weakened by the mask
 --     reducedFrom f       8: the handle reduced, from the primary password of the mode named
+--     joinedFrom f        11: the two handles joined, from the same
 --     given f k           the reply of a call of the kind k, once done
 -- And as a whole:
 --     outcome f n         what is left and given where the number is n: a refusal leaves the copy and the buffer alone
@@ -49,7 +50,7 @@ use Rattle.handle.specs.declared.Handle.{Handle}
 use Rattle.handle.specs.declared.Weakened.{Weakened}
 use Rattle.handle.specs.Sizes.{handleBytes}
 use Rattle.handle.specs.Selectors.{referenced}
-use Rattle.handle.specs.Handles.{Name, nameOf, widthOf, encoded, weakened, reduced}
+use Rattle.handle.specs.Handles.{Name, nameOf, widthOf, encoded, weakened, reduced, joined}
 use Rattle.handle.specs.Conversion.{product}
 use Rattle.handle.specs.Opens.{primaryHandle}
 use Rattle.store.specs.declared.Place.{Place}
@@ -59,8 +60,8 @@ use Rattle.store.specs.Records.{Tables, inactive, started, clusterAt, tableAt, 
 use Rattle.store.specs.Placement.{placement}
 use Rattle.calls.specs.Calls.{Copy, Call, Kind, newCluster, deleteCluster, newSegment, deleteSegment}
 use Rattle.store.specs.Records.{lengthOf, address, primaryOf}
-use Rattle.calls.specs.Calls.{read, write, weaken, reduce, newPassword, freeze, validate, look}
-use Rattle.calls.specs.Calls.{handleOf, buffer, nodeFor, localFor, recordFor, placeFor}
+use Rattle.calls.specs.Calls.{read, write, weaken, reduce, newPassword, freeze, join, validate, look}
+use Rattle.calls.specs.Calls.{handleOf, otherOf, buffer, nodeFor, localFor, recordFor, placeFor}
 use Rattle.calls.specs.Calls.{startFor, partFor}
 use Rattle.calls.specs.declared.Part.{Part}
 use Rattle.calls.specs.Numbers.{number}
@@ -177,6 +178,7 @@ left weaken x c = c
 left reduce x c = c
 left newPassword x c = passwordReplaced x c
 left freeze x c = segmentMarked x c
+left join x c = c
 left validate x c = c
 left look x c = c
 
@@ -202,6 +204,10 @@ module _ (f : Name → List ℕ → ℕ → List ℕ) where
   reducedFrom x c =
       reduced (widthOf (handleOf x)) (f (nameOf (handleOf x))) (handleOf x) (primaryOf (about x c) (x .args .mode))
 
+  abbrev pub joinedFrom : Call → Copy → Handle
+  joinedFrom x c =
+      joined (widthOf (handleOf x)) (f (nameOf (handleOf x))) (handleOf x) (otherOf x) (primaryOf (about x c) (x .args .mode))
+
   unfoldable pub given : Kind → Call → Copy → Reply
   given newCluster x c = handles (newPrimary x (x .args .first)) (newPrimary x (x .args .second)) 0
   given deleteCluster x c = plain 0 []
@@ -215,6 +221,7 @@ module _ (f : Name → List ℕ → ℕ → List ℕ) where
   given newPassword x c =
       handles (encoded (primaryHandle (widthOf (handleOf x)) (nameOf (handleOf x)) (x .args .first))) zeroHandle 0
   given freeze x c = plain 0 []
+  given join x c = handles (encoded (joinedFrom x c)) zeroHandle 0
   given validate x c = plain 0 []
   given look x c = segmentShown x c
 

@@ -1,26 +1,26 @@
 -- Document 01, "Numbers a call may be turned down with", row by row in the table's own words and numbers, with document
--- 02's 21; its 22, in two places; its call 10, which has the rows of call 4; and the look, which has the rows of call 5
--- but 15, and row 5. Nothing here is a test, and `number` (Numbers) is held to it both ways. The calls that a row names
--- are listed by kind, in the order of their codes, validation and the look last; validation stands with call 8, whose
--- number it gives. The cluster of node v and local number l is record v * 8 + l.
+-- 02's 21; its 22, in two places; its call 10, which has the rows of call 4; its call 11, of two handles, with 23 and 24; and
+-- the look, which has the rows of call 5 but 15, and row 5. Nothing here is a test, and `number` (Numbers) is held to it
+-- both ways. The calls that a row names are listed by kind, in the order of their codes, validation and the look last;
+-- validation stands with call 8, whose number it gives. The cluster of node v and local number l is record v * 8 + l. Bits,
+-- subselectors and references are the handle crate's words.
 --     Named ks x           the call x is of one of the kinds ks
 --     Handled x            the call takes a handle: all but 1
---     Taken x              it takes it as 23 bytes
+--     Joining x            it takes a second one: 11
+--     Taken x              it takes each as 23 bytes
+--     Some P x             P holds of the handle that it takes, or of the second one of a join
 --     HandleInWords b      the handle that 23 bytes hold: node (high byte first), local number, password, selector
---     subselector x k      subselector k of its handle
---     Bit i s              bit i of s is set, 0 the least
---     References x i       bit i is set in all four subselectors
 --     SamePassword p q     the sixteen bytes of p are those of q
 --     cluster s v l        the record of the cluster of node v and local number l
---     clusterOf x s        that of the cluster which the call's handle names
---     place x s            the place of the segment which the call names, in that cluster
+--     clusterOf h s        that of the cluster which a handle names
+--     place x s            the place of the segment which the call names, in the cluster of its handle
 --     Frozen x s i         segment i of that cluster is frozen
 --     Converted g p s q    the step of validation by the subselector s: a flat one is skipped and q is p; by another p goes
 --                          through the conversion g with s and comes out as q
---     Chain g p x          the chain from the primary password p, by subselector 0 first, ends as the handle's password
---     ReadMode, WriteMode  the mode needed: read for 5 and a look, write for 2, 3, 4, 6 and 10, the one named for 8 and 9
---     Valid f x s          the handle validates in the mode needed
---     Unsound .. Spent     the twenty rows
+--     Chain g p h          the chain from the primary password p, by subselector 0 first, ends as the handle's password
+--     ReadMode, WriteMode  the mode needed: read for 5 and a look, write for 2, 3, 4, 6 and 10, the one named for 8, 9 and 11
+--     Valid f x h s        the handle validates in the mode that the call needs
+--     Unsound .. Spent     the twenty-two rows
 --     Entry, table         a number and its words; the table, nearest the top first
 --     Nothing ls           no words of ls hold
 --     Told ls n            the words of the entry with number n hold, and none above it
@@ -29,11 +29,13 @@
 -- Assumes nothing.
 use mathlib.Core.Path.{_≡_}
 use mathlib.Core.Logic.{_≢_, _⊎_, _↔_}
-use Prim.Native.Nat.{ℕ, _+_, _*_, _/_, _%_, _^_, _<_}
+use Prim.Native.Nat.{ℕ, _+_, _*_, _<_}
 use mathlib.Core.Bool.{true, false}
 use mathlib.Core.List.{List, [], _∷_}
 use lib.ListN.{length, getD}
+use Rattle.handle.specs.declared.Handle.{Handle}
 use Rattle.handle.specs.Handles.{Name, nameOf, nodeOf, decoded}
+use Rattle.handle.specs.Words.{Bit, subselector, References}
 use Rattle.store.specs.declared.Place.{Place}
 use Rattle.store.specs.declared.Place.the-variants.{Absent, Present}
 use Rattle.store.specs.declared.Cluster.{Cluster}
@@ -42,7 +44,7 @@ use Rattle.store.specs.Records.{tableOf, clusterAt, placeOf, frozenOf}
 use Rattle.store.specs.SoundWords.{SoundInWords}
 use Rattle.store.specs.PlacementWords.{Room}
 use Rattle.calls.specs.Calls.{Call, Kind, newCluster, deleteCluster, newSegment, deleteSegment, read, write, weaken}
-use Rattle.calls.specs.Calls.{reduce, newPassword, freeze, validate, look, handleOf}
+use Rattle.calls.specs.Calls.{reduce, newPassword, freeze, join, validate, look, handleOf, otherOf}
 use Rattle.calls.specs.Numbers.{number}
 
 -- ---- the calls that a row names
@@ -54,14 +56,33 @@ Named (k ∷ ks) x = (x .kind ≡ k) ⊎ Named ks x
 abbrev pub Handled : Call → Type 0
 Handled x = x .kind ≢ newCluster
 
-abbrev pub Taken : Call → Type 0
-Taken x = Handled x → length (x .args .handle) ≡ 23
+abbrev pub Joining : Call → Type 0
+Joining x = Named (join ∷ []) x
 
--- 2 to 6, 8, 9, 10, and a look
+pub record Taken (x : Call) : Type 0 where
+  pub first : Handled x → length (x .args .handle) ≡ 23
+  pub second : Joining x → length (x .args .other) ≡ 23
+
+abbrev pub Some : (Handle → Type 0) → Call → Type 0
+Some P x = (Handled x × P (handleOf x)) ⊎ (Joining x × P (otherOf x))
+
+-- 2 to 6, 8 to 11, and a look
 abbrev pub Opening : Call → Type 0
 Opening x =
     Named
-    (deleteCluster ∷ newSegment ∷ deleteSegment ∷ read ∷ write ∷ reduce ∷ newPassword ∷ freeze ∷ validate ∷ look ∷ []) x
+    (deleteCluster
+    ∷ newSegment
+    ∷ deleteSegment
+    ∷ read
+    ∷ write
+    ∷ reduce
+    ∷ newPassword
+    ∷ freeze
+    ∷ join
+    ∷ validate
+    ∷ look
+    ∷ [])
+    x
 
 -- ---- handles and clusters
 
@@ -71,58 +92,50 @@ pub record HandleInWords (b : List ℕ) : Type 0 where
   pub password : (k : ℕ) → k < 16 → getD (decoded b .password) k 0 ≡ getD b (3 + k) 0
   pub selector : (k : ℕ) → k < 4 → getD (decoded b .selector) k 0 ≡ getD b (19 + k) 0
 
-abbrev pub subselector : Call → ℕ → ℕ
-subselector x k = getD (handleOf x .selector) k 0
-
-abbrev pub Bit : ℕ → ℕ → Type 0
-Bit i s = s / 2 ^ i % 2 ≡ 1
-
-abbrev pub References : Call → ℕ → Type 0
-References x i = (k : ℕ) → k < 4 → Bit i (subselector x k)
-
 abbrev pub SamePassword : List ℕ → List ℕ → Type 0
 SamePassword p q = (k : ℕ) → k < 16 → getD p k 0 ≡ getD q k 0
 
 abbrev pub cluster : Store → ℕ → ℕ → Cluster
 cluster s v l = clusterAt s (v * 8 + l)
 
-abbrev pub clusterOf : Call → Store → Cluster
-clusterOf x s = cluster s (nodeOf (handleOf x)) (handleOf x .local)
+abbrev pub clusterOf : Handle → Store → Cluster
+clusterOf h s = cluster s (nodeOf h) (h .local)
 
 abbrev pub place : Call → Store → Place
-place x s = placeOf (tableOf (clusterOf x s)) (x .args .segment)
+place x s = placeOf (tableOf (clusterOf (handleOf x) s)) (x .args .segment)
 
 abbrev pub Frozen : Call → Store → ℕ → Type 0
-Frozen x s i = frozenOf (tableOf (clusterOf x s)) i ≡ true
+Frozen x s i = frozenOf (tableOf (clusterOf (handleOf x) s)) i ≡ true
 
 -- ---- validation
 
 abbrev pub Converted : (List ℕ → ℕ → List ℕ) → List ℕ → ℕ → List ℕ → Type 0
 Converted g p s q = ((s ≡ 255) × (q ≡ p)) ⊎ ((s ≢ 255) × (q ≡ g p s))
 
-pub record Chain (g : List ℕ → ℕ → List ℕ) (p : List ℕ) (x : Call) : Type 0 where
+pub record Chain (g : List ℕ → ℕ → List ℕ) (p : List ℕ) (h : Handle) : Type 0 where
   pub after0 : List ℕ
   pub after1 : List ℕ
   pub after2 : List ℕ
   pub after3 : List ℕ
-  pub by0 : Converted g p (subselector x 0) after0
-  pub by1 : Converted g after0 (subselector x 1) after1
-  pub by2 : Converted g after1 (subselector x 2) after2
-  pub by3 : Converted g after2 (subselector x 3) after3
-  pub ends : SamePassword after3 (handleOf x .password)
+  pub by0 : Converted g p (subselector h 0) after0
+  pub by1 : Converted g after0 (subselector h 1) after1
+  pub by2 : Converted g after1 (subselector h 2) after2
+  pub by3 : Converted g after2 (subselector h 3) after3
+  pub ends : SamePassword after3 (h .password)
 
 abbrev pub ReadMode : Call → Type 0
-ReadMode x = Named (read ∷ look ∷ []) x ⊎ (Named (reduce ∷ newPassword ∷ validate ∷ []) x × (x .args .mode ≡ 1))
+ReadMode x =
+    Named (read ∷ look ∷ []) x ⊎ (Named (reduce ∷ newPassword ∷ join ∷ validate ∷ []) x × (x .args .mode ≡ 1))
 
 abbrev pub WriteMode : Call → Type 0
 WriteMode x =
     Named (deleteCluster ∷ newSegment ∷ deleteSegment ∷ write ∷ freeze ∷ []) x
-    ⊎ (Named (reduce ∷ newPassword ∷ validate ∷ []) x × (x .args .mode ≡ 2))
+    ⊎ (Named (reduce ∷ newPassword ∷ join ∷ validate ∷ []) x × (x .args .mode ≡ 2))
 
-abbrev pub Valid : (Name → List ℕ → ℕ → List ℕ) → Call → Store → Type 0
-Valid f x s =
-    (ReadMode x × Chain (f (nameOf (handleOf x))) (clusterOf x s .read) x)
-    ⊎ (WriteMode x × Chain (f (nameOf (handleOf x))) (clusterOf x s .write) x)
+abbrev pub Valid : (Name → List ℕ → ℕ → List ℕ) → Call → Handle → Store → Type 0
+Valid f x h s =
+    (ReadMode x × Chain (f (nameOf h)) (clusterOf h s .read) h)
+    ⊎ (WriteMode x × Chain (f (nameOf h)) (clusterOf h s .write) h)
 
 -- ---- the rows
 
@@ -130,27 +143,32 @@ Valid f x s =
 abbrev pub Unsound : ℕ → Call → Store → Type 0
 Unsound size x s = (x .kind ≢ weaken) × ¬ SoundInWords s size
 
--- 2: node above 3 or local number above 7, in the handle or the call. Calls 1 to 4, 10 and a look name a current node, 1 a
+-- 2: node above 3 or local number above 7, in a handle or the call. Calls 1 to 4, 10 and a look name a current node, 1 a
 -- local number
 abbrev pub NoSuchPlace : Call → Type 0
 NoSuchPlace x =
-    (Handled x × ((3 < nodeOf (handleOf x)) ⊎ (7 < handleOf x .local)))
+    Some (λ h. (3 < nodeOf h) ⊎ (7 < h .local)) x
     ⊎ (Named (newCluster ∷ deleteCluster ∷ newSegment ∷ deleteSegment ∷ freeze ∷ look ∷ []) x × (3 < x .args .current))
     ⊎ (Named (newCluster ∷ []) x × (7 < x .args .local))
 
--- 3: mode not 1 or 2; segment above 7; size 0 or above 4,096. A mode is named by 8 and 9, a segment by 3 to 6, 10 and a
+-- 3: mode not 1 or 2; segment above 7; size 0 or above 4,096. A mode is named by 8, 9 and 11, a segment by 3 to 6, 10 and a
 -- look, a size by 3
 abbrev pub Field : Call → Type 0
 Field x =
-    (Named (reduce ∷ newPassword ∷ validate ∷ []) x × (x .args .mode ≢ 1) × (x .args .mode ≢ 2))
+    (Named (reduce ∷ newPassword ∷ join ∷ validate ∷ []) x × (x .args .mode ≢ 1) × (x .args .mode ≢ 2))
     ⊎ (Named (newSegment ∷ deleteSegment ∷ read ∷ write ∷ freeze ∷ look ∷ []) x × (7 < x .args .segment))
     ⊎ (Named (newSegment ∷ []) x × ((x .args .size ≡ 0) ⊎ (4096 < x .args .size)))
 
--- 4: the handle's selector is gapped: a flat subselector j stands below one, k, that is not flat
+-- 4: a handle's selector is gapped: a flat subselector j stands below one, k, that is not flat
+abbrev pub GappedHandle : Handle → Type 0
+GappedHandle h = (j : ℕ) × (k : ℕ) × (j < k) × (k < 4) × (subselector h j ≡ 255) × (subselector h k ≢ 255)
+
 abbrev pub Gapped : Call → Type 0
-Gapped x =
-    Handled x
-    × ((j : ℕ) × (k : ℕ) × (j < k) × (k < 4) × (subselector x j ≡ 255) × (subselector x k ≢ 255))
+Gapped x = Some GappedHandle x
+
+-- 24, for 11: the two names of node and cluster differ
+abbrev pub Apart : Call → Type 0
+Apart x = Joining x × ((nodeOf (handleOf x) ≢ nodeOf (otherOf x)) ⊎ (handleOf x .local ≢ otherOf x .local))
 
 -- 5, for 2, 3, 4, 10 and a look: the current node is not the handle's
 abbrev pub Elsewhere : Call → Type 0
@@ -165,19 +183,23 @@ InUse x s = Named (newCluster ∷ []) x × (cluster s (x .args .current) (x .arg
 abbrev pub Twins : Call → Type 0
 Twins x = Named (newCluster ∷ []) x × SamePassword (x .args .first) (x .args .second)
 
--- 8, for 2 to 6, 8, 9, 10 and a look: the cluster is inactive
+-- 8, for 2 to 6, 8 to 11 and a look: a handle's cluster is inactive
 abbrev pub Inactive : Call → Store → Type 0
-Inactive x s = Opening x × (clusterOf x s .active ≡ false)
+Inactive x s = Opening x × Some (λ h. clusterOf h s .active ≡ false) x
 
--- 9, for 2 to 6, 8, 9, 10 and a look: the handle does not validate in the mode needed
+-- 9, for 2 to 6, 8 to 11 and a look: a handle does not validate in the mode needed
 abbrev pub Violated : (Name → List ℕ → ℕ → List ℕ) → Call → Store → Type 0
-Violated f x s = Opening x × ¬ Valid f x s
+Violated f x s = Opening x × Some (λ h. ¬ Valid f x h s) x
+
+-- 23, for 11: the union is all eight, each segment referenced by the one handle or the other
+abbrev pub Whole : Call → Type 0
+Whole x = Joining x × ((i : ℕ) → i < 8 → References (handleOf x) i ⊎ References (otherOf x) i)
 
 -- 10, for 2, 3, 4, 9, 10: some subselector is not flat
 abbrev pub NotPrimary : Call → Type 0
 NotPrimary x =
     Named (deleteCluster ∷ newSegment ∷ deleteSegment ∷ newPassword ∷ freeze ∷ []) x
-    × ((k : ℕ) × (k < 4) × (subselector x k ≢ 255))
+    × ((k : ℕ) × (k < 4) × (subselector (handleOf x) k ≢ 255))
 
 -- 22, for 2: any of the cluster's segments is frozen
 abbrev pub ClusterFrozen : Call → Store → Type 0
@@ -185,13 +207,14 @@ ClusterFrozen x s = Named (deleteCluster ∷ []) x × ((i : ℕ) × (i < 8) × F
 
 -- 11, for 5, 6 and a look: the handle does not reference the segment
 abbrev pub NotReferenced : Call → Type 0
-NotReferenced x = Named (read ∷ write ∷ look ∷ []) x × ¬ References x (x .args .segment)
+NotReferenced x = Named (read ∷ write ∷ look ∷ []) x × ¬ References (handleOf x) (x .args .segment)
 
 -- 12, for 9: the new password equals either current primary password
 abbrev pub OldPassword : Call → Store → Type 0
 OldPassword x s =
     Named (newPassword ∷ []) x
-    × (SamePassword (x .args .first) (clusterOf x s .read) ⊎ SamePassword (x .args .first) (clusterOf x s .write))
+    × (SamePassword (x .args .first) (clusterOf (handleOf x) s .read)
+    ⊎ SamePassword (x .args .first) (clusterOf (handleOf x) s .write))
 
 -- 13, for 3: the segment is present
 abbrev pub SegmentPresent : Call → Store → Type 0
@@ -217,14 +240,14 @@ NoRoom x s = Named (newSegment ∷ []) x × ((base : ℕ) → ¬ Room s (nodeOf 
 
 -- 21, for 7: nothing would be left, no segment that is referenced and whose mask bit is set
 abbrev pub Empty : Call → Type 0
-Empty x = Named (weaken ∷ []) x × ((i : ℕ) → i < 8 → ¬ (References x i × Bit i (x .args .mask)))
+Empty x = Named (weaken ∷ []) x × ((i : ℕ) → i < 8 → ¬ (References (handleOf x) i × Bit i (x .args .mask)))
 
 -- 17, for 7: something would be excluded, a referenced segment whose mask bit is clear, and no subselector is flat
 abbrev pub Spent : Call → Type 0
 Spent x =
     Named (weaken ∷ []) x
-    × ((i : ℕ) × (i < 8) × References x i × ¬ Bit i (x .args .mask))
-    × ((k : ℕ) → k < 4 → subselector x k ≢ 255)
+    × ((i : ℕ) × (i < 8) × References (handleOf x) i × ¬ Bit i (x .args .mask))
+    × ((k : ℕ) → k < 4 → subselector (handleOf x) k ≢ 255)
 
 -- ---- the table
 
@@ -250,11 +273,13 @@ module _ (f : Name → List ℕ → ℕ → List ℕ) (x : Call) (s : Store) (si
       ∷ entry 2 (NoSuchPlace x)
       ∷ entry 3 (Field x)
       ∷ entry 4 (Gapped x)
+      ∷ entry 24 (Apart x)
       ∷ entry 5 (Elsewhere x)
       ∷ entry 6 (InUse x s)
       ∷ entry 7 (Twins x)
       ∷ entry 8 (Inactive x s)
       ∷ entry 9 (Violated f x s)
+      ∷ entry 23 (Whole x)
       ∷ entry 10 (NotPrimary x)
       ∷ entry 22 (ClusterFrozen x s)
       ∷ entry 11 (NotReferenced x)

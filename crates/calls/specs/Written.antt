@@ -14,7 +14,7 @@ use mathlib.Core.List.{List, [], _∷_, _++_, map}
 use lib.ListN.{replicate}
 use Rattle.calls.specs.declared.Looked.{Looked}
 use Rattle.calls.specs.Calls.{Copy, Call, makingCluster, deletingCluster, makingSegment, deletingSegment, reading}
-use Rattle.calls.specs.Calls.{writing, weakeningBy, reducing, renewing, freezing, validating, looking}
+use Rattle.calls.specs.Calls.{writing, weakeningBy, reducing, renewing, freezing, joining, validating, looking}
 use Rattle.calls.specs.Steps.{Reply, step}
 use Rattle.calls.specs.Looks.{looked}
 use Rattle.calls.specs.Cases.{added, sample}
@@ -47,6 +47,23 @@ answered =
     ∷ tells (renewing 2 (primary 1 2 4) (sixteen 5)) (told 0 (primary 1 2 5) none 0 0 [])
     ∷ tells (freezing 1 5 (primary 1 2 4)) (told 0 none none 0 0 [])
     ∷ tells (freezing 1 6 (primary 1 2 4)) (told 14 none none 0 0 [])
+    -- joins: segments 0 to 2 and 3 to 4, either way round, in either mode; two that overlap; one with itself; nothing and
+    -- nothing; refused
+    ∷ tells (joining 1 (handle 1 2 10 (7 ∷ 255 ∷ 255 ∷ 255 ∷ [])) (handle 1 2 27 (24 ∷ 255 ∷ 255 ∷ 255 ∷ [])))
+    (told 0 (handle 1 2 34 (31 ∷ 255 ∷ 255 ∷ 255 ∷ [])) none 0 0 [])
+    ∷ tells (joining 1 (handle 1 2 27 (24 ∷ 255 ∷ 255 ∷ 255 ∷ [])) (handle 1 2 10 (7 ∷ 255 ∷ 255 ∷ 255 ∷ [])))
+    (told 0 (handle 1 2 34 (31 ∷ 255 ∷ 255 ∷ 255 ∷ [])) none 0 0 [])
+    ∷ tells (joining 2 (handle 1 2 11 (7 ∷ 255 ∷ 255 ∷ 255 ∷ [])) (handle 1 2 28 (24 ∷ 255 ∷ 255 ∷ 255 ∷ [])))
+    (told 0 (handle 1 2 35 (31 ∷ 255 ∷ 255 ∷ 255 ∷ [])) none 0 0 [])
+    ∷ tells (joining 1 (handle 1 2 67 (48 ∷ 16 ∷ 255 ∷ 255 ∷ [])) (handle 1 2 51 (48 ∷ 255 ∷ 255 ∷ 255 ∷ [])))
+    (told 0 (handle 1 2 51 (48 ∷ 255 ∷ 255 ∷ 255 ∷ [])) none 0 0 [])
+    ∷ tells (joining 1 (handle 1 2 67 (48 ∷ 16 ∷ 255 ∷ 255 ∷ [])) (handle 1 2 67 (48 ∷ 16 ∷ 255 ∷ 255 ∷ [])))
+    (told 0 (handle 1 2 19 (16 ∷ 255 ∷ 255 ∷ 255 ∷ [])) none 0 0 [])
+    ∷ tells (joining 1 (handle 1 2 51 (16 ∷ 32 ∷ 255 ∷ 255 ∷ [])) (handle 1 2 51 (16 ∷ 32 ∷ 255 ∷ 255 ∷ [])))
+    (told 0 (handle 1 2 3 (0 ∷ 255 ∷ 255 ∷ 255 ∷ [])) none 0 0 [])
+    ∷ tells (joining 1 (primary 1 2 3) (handle 1 2 10 (7 ∷ 255 ∷ 255 ∷ 255 ∷ []))) (told 23 none none 0 0 [])
+    ∷ tells (joining 1 (handle 1 2 10 (7 ∷ 255 ∷ 255 ∷ 255 ∷ [])) (handle 1 3 27 (24 ∷ 255 ∷ 255 ∷ 255 ∷ [])))
+    (told 24 none none 0 0 [])
     ∷ tells (validating 2 (primary 1 2 4)) (told 0 none none 0 0 [])
     ∷ tells (validating 1 (handle 1 2 51 (16 ∷ 32 ∷ 255 ∷ 255 ∷ []))) (told 0 none none 0 0 [])
     ∷ tells (reading 5 (primary 1 2 4) (1 ∷ 2 ∷ 3 ∷ 4 ∷ [])) (told 9 none none 0 0 (1 ∷ 2 ∷ 3 ∷ 4 ∷ []))

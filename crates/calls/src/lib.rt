@@ -29,6 +29,8 @@ pub const NEW_PASSWORD: u8 = 9;
 
 pub const FREEZE: u8 = 10;
 
+pub const JOIN: u8 = 11;
+
 // What a call answers: its number; the handles, the count and the length that it gives, zero where it gives none.
 pub struct Answer {
     pub number: u8,
