@@ -21,6 +21,9 @@ pub mod LookReadLaws
 pub mod MadeWordLaws
 pub mod FreezeLaws
 pub mod FreezeNumberLaws
+pub mod JoinNumberLaws
+pub mod JoinLaws
+pub mod JoinWordLaws
 pub mod MarkWordLaws
 pub mod FreezeAgainLaws
 pub mod WrittenLaws

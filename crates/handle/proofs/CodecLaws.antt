@@ -17,8 +17,8 @@ use Rattle.handle.specs.declared.Handle.{Handle}
 use Rattle.sizes.specs.Sizes.{segments, passwordBytes}
 use Rattle.handle.specs.Sizes.{subselectors}
 use Rattle.handle.specs.Sizes.{nodeBytes, localAt, passwordAt, selectorAt, handleBytes}
-use Rattle.handle.specs.Selectors.{firstFlat, common, parameter}
-use Rattle.handle.specs.Handles.{encoded, decoded, noHandle, Holdable, weakened, reduced}
+use Rattle.handle.specs.Selectors.{firstFlat, common, parameter, union}
+use Rattle.handle.specs.Handles.{encoded, decoded, noHandle, Holdable, weakened, made, reduced, joined}
 use Rattle.handle.specs.Opens.{Whole}
 use Rattle.handle.proofs.HandleLaws.{weakened-cases, reduced-cases}
 
@@ -70,6 +70,10 @@ module _ (h : Handle) (lp : length (h .password) ≡ passwordBytes) (ls : length
       high : h .node / 256 ≡ h .node / 256 % 256
       high = omega arith
 
+pub length-encoded : (h : Handle) → Holdable h → length (encoded h) ≡ handleBytes
+unfolding tabulate
+length-encoded h o = sym (ap length (encoded-is h (o .password) (o .selector) (o .node)))
+
 -- ---- the round trips
 
 pub decode-encode : (h : Handle) → Holdable h → decoded (encoded h) ≡ h
@@ -120,7 +124,7 @@ module _ (b : List ℕ) (o : Bytes handleBytes b) where
     within = (o .below 19, (o .below 20, (o .below 21, (o .below 22, tt))));
   })
 
--- ---- what weakening and reduction give, by a conversion that gives sixteen bytes
+-- ---- what weakening, reduction and joining give, by a conversion that gives sixteen bytes
 
 module _ (w : ℕ) (f : List ℕ → ℕ → List ℕ) (sixteen : (q : List ℕ) (c : ℕ) → length (f q c) ≡ passwordBytes)
     (h : Handle) (o : Holdable h) where
@@ -132,10 +136,12 @@ module _ (w : ℕ) (f : List ℕ → ℕ → List ℕ) (sixteen : (q : List ℕ)
     selector = length-set (h .selector) (firstFlat w (h .selector)) (parameter w mask (h .selector)) ∙ o .selector;
   })
 
+  holdable-made : (p : List ℕ) (s : ℕ) → Holdable (made w f h p s)
+  holdable-made p s = record { node = o .node; local = o .local; password = sixteen p s; selector = refl }
+
   pub holdable-reduced : (p : List ℕ) → Holdable (reduced w f h p)
-  holdable-reduced p = reduced-cases w f h p Holdable (λ e. o) (λ e. record {
-    node = o .node;
-    local = o .local;
-    password = sixteen p (common w (h .selector));
-    selector = refl;
-  })
+  holdable-reduced p = reduced-cases w f h p Holdable (λ e. o) (λ e. holdable-made p (common w (h .selector)))
+
+  pub holdable-joined : (k : Handle) (p : List ℕ) → Holdable (joined w f h k p)
+  unfolding joined
+  holdable-joined k p = holdable-made p (union w (h .selector) (k .selector))

@@ -6,15 +6,16 @@ use Prim.Native.Nat.{ℕ, _<_}
 use mathlib.Core.Path.{_≡_, refl, sym, ap, _∙_}
 use mathlib.Core.Bool.{Bool, true, false, _&&_, _||_, false≢true, and-true, or-true, or-false}
 use mathlib.Core.List.{List}
-use Rattle.bits.specs.Sets.{setOf}
-use Rattle.bits.proofs.SetLaws.{setOf-lt, setOf-same}
-use Rattle.bits.proofs.OperationLaws.{full-lt}
+use borrow.Author.Tests.{eq-eqb}
+use Rattle.bits.specs.Sets.{full, setOf}
+use Rattle.bits.proofs.SetLaws.{setOf-lt, has-setOf, setOf-same, same-bits}
+use Rattle.bits.proofs.OperationLaws.{has-full, full-lt}
 use Rattle.handle.specs.declared.Handle.{Handle}
 use Rattle.handle.specs.Selectors.{references, either, flat, allFlat, common, union, wholeUnion}
 use Rattle.handle.specs.Handles.{Name, nameOf, renewed, made, reduced, joined}
 use Rattle.handle.specs.Opens.{Whole, Opens}
 use Rattle.handle.specs.Joins.{NoMore, Joins, JoinsItself}
-use Rattle.handle.proofs.SelectorLaws.{full-flat, common-not-flat, references-inFirst, gapped-inFirst}
+use Rattle.handle.proofs.SelectorLaws.{full-flat, common-not-flat, references-flat, references-inFirst, gapped-inFirst}
 use Rattle.handle.proofs.HandleLaws.{through-inFirst, reduced-cases}
 
 either-swapped : (a b : Bool) → a || b ≡ b || a
@@ -51,6 +52,16 @@ module _ (w : ℕ) (f : List ℕ → ℕ → List ℕ) (p : List ℕ) where
     unfolding joined
     joined-flat b e = simp (e, full-flat w, and-true)
 
+    -- a primary handle references every segment
+    primary : allFlat w (h .selector) ≡ true → wholeUnion w (h .selector) (k .selector) ≡ true
+    primary e =
+        eq-eqb bits (full w)
+        (same-bits w bits (full w) (setOf-lt w (either (h .selector) (k .selector))) (full-lt w)
+        (λ i l.
+        has-setOf w (either (h .selector) (k .selector)) i l
+        ∙ ap (λ (b : Bool). b || references (k .selector) i) (references-flat w (h .selector) e i l)
+        ∙ sym (has-full w i l)))
+
     swapped : nameOf h ≡ nameOf k → joined w f h k p ≡ joined w f k h p
     unfolding joined
     swapped e j = record {
@@ -80,6 +91,7 @@ module _ (w : ℕ) (f : List ℕ → ℕ → List ℕ) (p : List ℕ) where
       opens = opens-made h (either (h .selector) (k .selector));
       never-primary = joined-flat false;
       whole = joined-flat true;
+      primary = primary;
       swapped = swapped;
       union = union-swapped;
       within = within;

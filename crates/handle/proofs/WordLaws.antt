@@ -44,12 +44,12 @@ references-in i (s ∷ ss) b =
     and-both (has i s) (references ss i) (bit-in i s (b 0 (omega arith)))
     (references-in i ss (λ k l. b (suc k) (omega arith)))
 
-flat-out : (ss : List ℕ) → allFlat 8 ss ≡ true → (k : ℕ) → k < length ss → getD ss k 0 ≡ 255
+pub flat-out : (ss : List ℕ) → allFlat 8 ss ≡ true → (k : ℕ) → k < length ss → getD ss k 0 ≡ 255
 flat-out [] e k l = absurd (omega arith)
 flat-out (s ∷ ss) e zero l = eqb-true s 255 (and-left (flat 8 s) (allFlat 8 ss) e)
 flat-out (s ∷ ss) e (suc k) l = flat-out ss (and-right (flat 8 s) (allFlat 8 ss) e) k (omega arith)
 
-flat-in : (ss : List ℕ) → ((k : ℕ) → k < length ss → getD ss k 0 ≡ 255) → allFlat 8 ss ≡ true
+pub flat-in : (ss : List ℕ) → ((k : ℕ) → k < length ss → getD ss k 0 ≡ 255) → allFlat 8 ss ≡ true
 flat-in [] b = refl
 flat-in (s ∷ ss) b =
     and-both (flat 8 s) (allFlat 8 ss) (eq-eqb s 255 (b 0 (omega arith))) (flat-in ss (λ k l. b (suc k) (omega arith)))

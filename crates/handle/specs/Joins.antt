@@ -6,6 +6,7 @@
 --                       validates from p, and references exactly the segments that either references
 --       never-primary   and it is not primary
 --       whole           where the union is all of the width, what would be made is primary in form
+--       primary         and all of the width it is, where h is primary
 --       swapped         the order of the two does not matter: of one name, they join to the same handle
 --       union           and their union is the same either way
 --       within          where h is not primary and k references no more, the union is not all of the width, and the result
@@ -31,6 +32,7 @@ module _ (w : ℕ) (f : List ℕ → ℕ → List ℕ) (p : List ℕ) where
     pub never-primary : wholeUnion w (h .selector) (k .selector) ≡ false
         → allFlat w (joined w f h k p .selector) ≡ false
     pub whole : wholeUnion w (h .selector) (k .selector) ≡ true → allFlat w (joined w f h k p .selector) ≡ true
+    pub primary : allFlat w (h .selector) ≡ true → wholeUnion w (h .selector) (k .selector) ≡ true
     pub swapped : nameOf h ≡ nameOf k → joined w f h k p ≡ joined w f k h p
     pub union : union w (h .selector) (k .selector) ≡ union w (k .selector) (h .selector)
     pub within : Whole w h → allFlat w (h .selector) ≡ false → NoMore w k h

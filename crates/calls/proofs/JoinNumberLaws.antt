@@ -1,0 +1,219 @@
+-- The numbers of a join. Its rows are an `or` of what each handle is asked, so they are the same either way round; where
+-- the two names are one, so is the record that is looked at. A join done has shown of each handle what a reduction shows.
+-- Assumes nothing.
+use mathlib.Core.Path.{_≡_, refl, sym, ap, ap₂, _∙_}
+use Prim.Native.Nat.{ℕ, zero, suc, _+_, _*_, _<_}
+use native.Mathlib.Omega.{arith}
+use mathlib.Core.Bool.{Bool, true, false, not, _&&_, _||_, cond, or-false, or-true, or-self, false≢true}
+use mathlib.Core.List.{List, [], _∷_}
+use lib.Dec.{eqb}
+use lib.ListN.{length}
+use borrow.Author.Tests.{eqb-true, eq-eqb, not-false}
+use Rattle.bits.specs.Bytes.{Bytes}
+use Rattle.loops.proofs.BelowLaws.{and-left, and-right, and-both, test-off}
+use Rattle.handle.specs.declared.Handle.{Handle}
+use Rattle.handle.specs.Selectors.{references, allFlat, gapped, wholeUnion, flat}
+use Rattle.handle.specs.Handles.{Name, nameOf, nodeOf, sameName, widthOf, noSuchPlace, encoded, decoded, Row, firstOf}
+use Rattle.handle.specs.Handles.{validates, reduced, joined}
+use Rattle.handle.specs.Words.{References}
+use Rattle.handle.proofs.CodecLaws.{whole-decoded}
+use Rattle.handle.proofs.WordLaws.{flat-out}
+use Rattle.handle.proofs.JoinLaws.{joins, joins-itself}
+use Rattle.store.specs.declared.Cluster.{Cluster}
+use Rattle.store.specs.declared.Store.{Store}
+use Rattle.store.specs.Records.{clusterAt, primaryOf, readMode, writeMode}
+use Rattle.store.specs.Sound.{sound}
+use Rattle.calls.specs.Calls.{Copy, Call, joining, reducing, recordNamed}
+use Rattle.calls.specs.Numbers.{number, tests}
+use Rattle.calls.specs.Clear.{Clear}
+use Rattle.calls.specs.Steps.{Outcome, handles, zeroHandle, outcome, step, left, given}
+use Rattle.calls.specs.JoinRows.{joinRows}
+use Rattle.calls.specs.JoinWords.{Primary, JoinSwapped, JoinItself, JoinWithin}
+use Rattle.calls.proofs.FirstLaws.{Numbered, first-clear}
+use Rattle.calls.proofs.CallLaws.{or-left, or-right}
+use Rattle.calls.proofs.SelectorWords.{references-is, four}
+
+or-swapped : (a b : Bool) → a || b ≡ b || a
+or-swapped true b = sym (or-true b)
+or-swapped false b = sym (or-false b)
+
+-- ---- names
+
+pub name-same : (h k : Handle) → sameName h k ≡ true → nameOf h ≡ nameOf k
+name-same h k e =
+    λ j. record {
+      node = eqb-true (nodeOf h) (nodeOf k) (and-left (eqb (nodeOf h) (nodeOf k)) (eqb (h .local) (k .local)) e) j;
+      local = eqb-true (h .local) (k .local) (and-right (eqb (nodeOf h) (nodeOf k)) (eqb (h .local) (k .local)) e) j;
+    }
+
+pub same-name : (h k : Handle) → nodeOf h ≡ nodeOf k → h .local ≡ k .local → sameName h k ≡ true
+same-name h k n l =
+    and-both (eqb (nodeOf h) (nodeOf k)) (eqb (h .local) (k .local)) (eq-eqb (nodeOf h) (nodeOf k) n)
+    (eq-eqb (h .local) (k .local) l)
+
+-- ---- the rows of a join, and of a reduction, on the records of the handles
+
+abbrev row : ℕ → Bool → Row
+row n t = record { number = n; applies = t }
+
+abbrev noMode : ℕ → Bool
+noMode m = not (eqb m readMode || eqb m writeMode)
+
+module _ (f : Name → List ℕ → ℕ → List ℕ) (s : Store) (size m : ℕ) where
+  -- what a handle is asked
+  abbrev pub idle : Handle → Bool
+  idle h = not (clusterAt s (recordNamed h) .active)
+
+  abbrev pub shut : Handle → Bool
+  shut h = not (validates (widthOf h) (f (nameOf h)) (primaryOf (clusterAt s (recordNamed h)) m) h)
+
+  abbrev gap : Handle → Bool
+  gap h = gapped (widthOf h) (h .selector)
+
+  abbrev pub eachRows : Handle → Handle → List Row
+  eachRows h k =
+      row 1 (not (sound s size))
+      ∷ row 2 (noSuchPlace h || noSuchPlace k)
+      ∷ row 3 (noMode m)
+      ∷ row 4 (gap h || gap k)
+      ∷ row 24 (not (sameName h k))
+      ∷ row 8 (idle h || idle k)
+      ∷ row 9 (shut h || shut k)
+      ∷ row 23 (wholeUnion (widthOf h) (h .selector) (k .selector))
+      ∷ []
+
+  abbrev pub oneRows : Handle → List Row
+  oneRows h =
+      row 1 (not (sound s size))
+      ∷ row 2 (noSuchPlace h)
+      ∷ row 3 (noMode m)
+      ∷ row 4 (gap h)
+      ∷ row 8 (idle h)
+      ∷ row 9 (shut h)
+      ∷ []
+
+  pub each-numbered : (h k : Handle) → Numbered (eachRows h k)
+  each-numbered h k = omega arith
+
+  pub one-numbered : (h : Handle) → Numbered (oneRows h)
+  one-numbered h = omega arith
+
+  pub number-each : (a b : List ℕ) → number f (joining m a b) s size ≡ firstOf (eachRows (decoded a) (decoded b))
+  unfolding number tests
+  number-each a b = simp or-false
+
+  pub number-one : (a : List ℕ) → number f (reducing m a) s size ≡ firstOf (oneRows (decoded a))
+  unfolding number tests
+  number-one a = simp or-false
+
+  -- where the names are one, one record is looked at
+  pub record-same : (h k : Handle) → sameName h k ≡ true → recordNamed h ≡ recordNamed k
+  record-same h k e = ap (λ (n : Name). n .node * 8 + n .local) (name-same h k e)
+
+  pub number-join : (a b : List ℕ) → number f (joining m a b) s size
+      ≡ firstOf (joinRows f (sound s size) (decoded a) (decoded b) (clusterAt s (recordNamed (decoded a))) m)
+  number-join a b = number-each a b ∙ go (sameName h k) refl
+    where
+      h : Handle
+      h = decoded a
+
+      k : Handle
+      k = decoded b
+
+      upper : Bool → ℕ → ℕ
+      upper n rest =
+          cond (not (sound s size)) 1
+          (cond (noSuchPlace h || noSuchPlace k) 2 (cond (noMode m) 3 (cond (gap h || gap k) 4 (cond (not n) 24 rest))))
+
+      lower : Bool → Bool → ℕ
+      lower i v = cond i 8 (cond v 9 (cond (wholeUnion (widthOf h) (h .selector) (k .selector)) 23 0))
+
+      theirs : ℕ → Bool
+      theirs r = not (validates (widthOf k) (f (nameOf k)) (primaryOf (clusterAt s r) m) k)
+
+      go : (t : Bool) → sameName h k ≡ t
+          → upper (sameName h k) (lower (idle h || idle k) (shut h || shut k))
+          ≡ upper (sameName h k) (lower (idle h) (shut h || theirs (recordNamed h)))
+      go true e =
+          ap (λ (r : ℕ). upper (sameName h k) (lower (idle h || not (clusterAt s r .active)) (shut h || theirs r)))
+          (sym (record-same h k e))
+          ∙ ap (λ (i : Bool). upper (sameName h k) (lower i (shut h || theirs (recordNamed h)))) (or-self (idle h))
+      go false e =
+          ap (λ (n : Bool). upper n (lower (idle h || idle k) (shut h || shut k))) e
+          ∙ sym (ap (λ (n : Bool). upper n (lower (idle h) (shut h || theirs (recordNamed h)))) e)
+
+  -- the rows are the same either way round
+  pub number-swapped : (a b : List ℕ) → number f (joining m a b) s size ≡ number f (joining m b a) s size
+  number-swapped a b = number-each a b ∙ turned (decoded a) (decoded b) ∙ sym (number-each b a)
+    where
+      eq-swapped : (n k : ℕ) → eqb n k ≡ eqb k n
+      eq-swapped n k = go (eqb n k) refl
+        where
+          go : (t : Bool) → eqb n k ≡ t → eqb n k ≡ eqb k n
+          go true e = e ∙ sym (eq-eqb k n (sym (eqb-true n k e)))
+          go false e =
+              e ∙ sym (test-off (eqb k n) (λ q. false≢true (sym e ∙ eq-eqb n k (sym (eqb-true k n q)))))
+
+      turned : (h k : Handle) → firstOf (eachRows h k) ≡ firstOf (eachRows k h)
+      turned h k =
+          λ j.
+          firstOf
+          (row 1 (not (sound s size))
+          ∷ row 2 (or-swapped (noSuchPlace h) (noSuchPlace k) j)
+          ∷ row 3 (noMode m)
+          ∷ row 4 (or-swapped (gap h) (gap k) j)
+          ∷ row 24 (not (eq-swapped (nodeOf h) (nodeOf k) j && eq-swapped (h .local) (k .local) j))
+          ∷ row 8 (or-swapped (idle h) (idle k) j)
+          ∷ row 9 (or-swapped (shut h) (shut k) j)
+          ∷ row 23 (flat 8 (joins 8 (f (nameOf h)) [] h k .union j))
+          ∷ [])
+
+  -- what a join done has shown
+  pub record Cleared (h k : Handle) : Type 0 where
+    pub sound : not (sound s size) ≡ false
+    pub place : noSuchPlace h || noSuchPlace k ≡ false
+    pub mode : noMode m ≡ false
+    pub even : gap h || gap k ≡ false
+    pub together : sameName h k ≡ true
+    pub active : idle h || idle k ≡ false
+    pub valid : shut h || shut k ≡ false
+    pub some : wholeUnion (widthOf h) (h .selector) (k .selector) ≡ false
+
+  pub cleared : (h k : Handle) → firstOf (eachRows h k) ≡ 0 → Cleared h k
+  cleared h k e = from (first-clear (eachRows h k) (each-numbered h k) e)
+    where
+      from : Clear (eachRows h k) → Cleared h k
+      from r =
+          record {
+            sound = r .0;
+            place = r .1 .0;
+            mode = r .1 .1 .0;
+            even = r .1 .1 .1 .0;
+            together = not-false (sameName h k) (r .1 .1 .1 .1 .0);
+            active = r .1 .1 .1 .1 .1 .0;
+            valid = r .1 .1 .1 .1 .1 .1 .0;
+            some = r .1 .1 .1 .1 .1 .1 .1 .0;
+          }
+
+  -- so its first handle, and its second, could be reduced
+  pub cleared-first : (h k : Handle) → Cleared h k → firstOf (oneRows h) ≡ 0
+  cleared-first h k c =
+      simp (
+        c .sound,
+        or-left (noSuchPlace h) (noSuchPlace k) (c .place),
+        c .mode,
+        or-left (gap h) (gap k) (c .even),
+        or-left (idle h) (idle k) (c .active),
+        or-left (shut h) (shut k) (c .valid),
+      )
+
+  pub cleared-second : (h k : Handle) → Cleared h k → firstOf (oneRows k) ≡ 0
+  cleared-second h k c =
+      simp (
+        c .sound,
+        or-right (noSuchPlace h) (noSuchPlace k) (c .place),
+        c .mode,
+        or-right (gap h) (gap k) (c .even),
+        or-right (idle h) (idle k) (c .active),
+        or-right (shut h) (shut k) (c .valid),
+      )
