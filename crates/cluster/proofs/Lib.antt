@@ -1,6 +1,7 @@
 pub mod NumberLaws
 pub mod CoreLaws
 pub mod OpenLaws
+pub mod JoinLaws
 pub mod ChangeLaws
 pub mod PasswordLaws
 pub mod CreateLaws

@@ -7,7 +7,7 @@ mod bytes; // bytes.rt: reading, writing and looking
 mod change; // change.rt: the calls that change the record and no byte
 mod create; // create.rt: the call that makes a cluster, and weakening, which needs no record
 mod make; // make.rt: the call that makes a segment
-mod open; // open.rt: validation and reduction, which change nothing
+mod open; // open.rt: validation, reduction and joining, which change nothing
 
 pub use bytes::look;
 pub use bytes::read;
@@ -20,5 +20,6 @@ pub use create::new_cluster;
 pub use create::weaken;
 pub use make::new_segment;
 pub use make::segment_refusal;
+pub use open::join;
 pub use open::reduce;
 pub use open::validate;

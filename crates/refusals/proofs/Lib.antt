@@ -2,3 +2,4 @@ pub mod AfterLaws
 pub mod RowLaws
 pub mod OwnerLaws
 pub mod GivenLaws
+pub mod PairLaws

@@ -1,5 +1,7 @@
 // The refusals that calls share, by what their tests look at: 1 to 5, 8 and 9 of the calls that open a cluster by a
-// handle, and 10 of those that need the write primary handle on its own node.
+// handle, and 10 of those that need the write primary handle on its own node; and those of a join, which takes two.
+mod pair; // pair.rt: the refusals of a join
+
 use aes::Tables;
 use handle::Handle;
 use numbers::ELSEWHERE;
@@ -10,6 +12,7 @@ use numbers::NO_SUCH_PLACE;
 use numbers::NOT_PRIMARY;
 use numbers::UNSOUND;
 use numbers::VIOLATED;
+pub use pair::pair_refusal;
 use sizes::CLUSTERS;
 use sizes::NODES;
 use store::Cluster;

@@ -1,0 +1,106 @@
+-- Joining: the rows of two handles are all that it has, and a call done changes nothing. The record of the first handle's
+-- cluster may be looked up before its place is judged, as for the other calls.
+-- Assumes nothing.
+use mathlib.Core.Path.{_≡_, refl, sym, ap, subst, _∙_}
+use mathlib.Core.Bool.{Bool, true, false, not, _||_}
+use mathlib.Core.List.{List, [], _∷_}
+use Prim.Native.Nat.{ℕ}
+use native.Mathlib.Omega.{arith}
+use lib.ListN.{length}
+use Rattle.handle.specs.declared.Handle.{Handle}
+use Rattle.handle.specs.Selectors.{gapped, wholeUnion}
+use Rattle.handle.specs.Handles.{nameOf, sameName, widthOf, noSuchPlace, firstOf, Row, encoded, decoded, validates, joined}
+use Rattle.handle.specs.Conversion.{product}
+use Rattle.store.specs.declared.Cluster.{Cluster}
+use Rattle.store.specs.declared.Store.{Store}
+use Rattle.store.specs.Records.{clusterAt, primaryOf}
+use Rattle.calls.specs.declared.Answer.{Answer}
+use Rattle.calls.specs.Calls.{joining}
+use Rattle.calls.specs.Numbers.{number}
+use Rattle.calls.specs.Steps.{zeroHandle, handles, aesStep, left, given}
+use Rattle.calls.specs.Answers.{copyOf, ended, numberAlone, handlesAlone}
+use Rattle.calls.specs.JoinRows.{joinRows}
+use Rattle.calls.specs.Clear.{Clear}
+use Rattle.calls.proofs.FirstLaws.{first-clear}
+use Rattle.calls.proofs.CallLaws.{or-left}
+use Rattle.calls.proofs.StepLaws.{step-done}
+use Rattle.calls.proofs.JoinNumberLaws.{number-join}
+use Rattle.refusals.specs.Rows.{row, badModes}
+use Rattle.refusals.specs.Given.{Given}
+use Rattle.refusals.proofs.GivenLaws.{judged, shown, found, named, by-given, found-is, either-record}
+use Rattle.cluster.proofs.CoreLaws.{refused-alone}
+
+module _ (s : Store) (m a b : List ℕ) (mode : ℕ) where
+  -- the rows below the second, on a record
+  abbrev lower : Cluster → List Row
+  lower c =
+      row 3 (badModes mode)
+      ∷ row 4 (gapped (widthOf h) (h .selector) || gapped (widthOf k) (k .selector))
+      ∷ row 24 (not (sameName h k))
+      ∷ row 8 (not (c .active))
+      ∷ row 9
+      (not (validates (widthOf h) (product (nameOf h)) (primaryOf c mode) h)
+      || not (validates (widthOf k) (product (nameOf k)) (primaryOf c mode) k))
+      ∷ row 23 (wholeUnion (widthOf h) (h .selector) (k .selector))
+      ∷ []
+    where
+      h : Handle
+      h = shown s m a
+
+      k : Handle
+      k = decoded b
+
+  number-found : number product (joining mode a b) s (length m)
+      ≡ firstOf (joinRows product (judged s m a) (shown s m a) (decoded b) (found s m a) mode)
+  number-found =
+      number-join product s (length m) mode a b
+      ∙ either-record s m a (not (judged s m a)) (noSuchPlace (decoded b)) (λ c. firstOf (lower c))
+
+  module _ (n : ℕ) where
+    abbrev Told : Bool → Handle → Handle → Cluster → Type 0
+    Told sd h k c = n ≡ firstOf (joinRows product sd h k c mode)
+
+    told : Told (judged s m a) (shown s m a) (decoded b) (found s m a) → number product (joining mode a b) s (length m) ≡ n
+    told en = number-found ∙ sym en
+
+    module _ (sd : Bool) (h k : Handle) (c : Cluster) (g : Given sd h c s m a) (o : k ≡ decoded b) where
+      -- what is shown of the store's own holds of what was given
+      given-both : (P : Bool → Handle → Handle → Cluster → Type 0)
+          → P (judged s m a) (shown s m a) (decoded b) (found s m a) → P sd h k c
+      given-both P q = subst (λ (t : Handle). P sd h t c) (sym o) (by-given s m a (λ sd h c. P sd h (decoded b) c) sd h c g q)
+
+      pub join-refused : Told sd h k c → (n ≡ 0 → ⊥) → (r : Answer) → r ≡ numberAlone n
+          → ended s m r [] ≡ aesStep (joining mode a b) (copyOf s m)
+      join-refused =
+          given-both
+          (λ sd h k c. Told sd h k c → (n ≡ 0 → ⊥) → (r : Answer) → r ≡ numberAlone n
+          → ended s m r [] ≡ aesStep (joining mode a b) (copyOf s m))
+          (λ en t r e. ap (λ (x : Answer). ended s m x []) e ∙ refused-alone (joining mode a b) s m n t (told en))
+
+      abbrev Joined : Bool → Handle → Handle → Cluster → Type 0
+      Joined sd h k c = Told sd h k c → n ≡ 0 → (p : List ℕ) → p ≡ primaryOf c mode → (r : Handle)
+          → r ≡ joined (widthOf h) (product (nameOf h)) h k p → (e : List ℕ) → e ≡ encoded r → (q : Answer)
+          → q ≡ handlesAlone e zeroHandle → ended s m q [] ≡ aesStep (joining mode a b) (copyOf s m)
+
+      pub join-done : Joined sd h k c
+      unfolding left given
+      join-done =
+          given-both Joined
+          (λ en z p ep r er e ee q qq.
+          ap (λ (x : Answer). ended s m x []) qq
+          ∙ ap (λ (x : List ℕ). record { copy = copyOf s m; reply = handles x zeroHandle 0 })
+          (ee ∙ ap encoded (er ∙ ap (joined (widthOf u) (product (nameOf u)) u (decoded b)) (ep ∙ there en z)))
+          ∙ sym (step-done product (joining mode a b) (copyOf s m) (told en ∙ z)))
+        where
+          u : Handle
+          u = shown s m a
+
+          there : Told (judged s m a) u (decoded b) (found s m a) → n ≡ 0
+              → primaryOf (found s m a) mode ≡ primaryOf (named s m a) mode
+          there en z =
+              ap (λ (i : ℕ). primaryOf (clusterAt s i) mode)
+              (found-is s m a (or-left (noSuchPlace u) (noSuchPlace (decoded b)) (clear .1 .0)))
+            where
+              clear : Clear (joinRows product (judged s m a) u (decoded b) (found s m a) mode)
+              clear =
+                  first-clear (joinRows product (judged s m a) u (decoded b) (found s m a) mode) (omega arith) (sym en ∙ z)
