@@ -207,6 +207,22 @@ pub fn freeze(
     put_back(store, o.at, left)
 }
 
+// Call 11: two handles of one cluster joined in the mode named.
+pub fn join(
+    store: Store,
+    memory: &[u8],
+    mode: usize,
+    bytes: HandleBytes,
+    other: HandleBytes,
+) -> Answer
+    ensures { λ r. ⌜ ended store (now (memory .entry)) r []
+        ≡ aesStep (calls.joining mode bytes other) (copyOf store (now (memory .entry))) ⌝ }
+{
+    let o = look_up(store, memory.len(), bytes);
+    let second = Handle::decode(other);
+    cluster::join(o.sound, o.handle, second, o.cluster, mode)
+}
+
 // Validation asked for by itself: the number that reduction would give.
 pub fn validate(store: Store, memory: &[u8], mode: usize, bytes: HandleBytes) -> u8
     ensures { λ r. ⌜ r ≡ aesStep (calls.validating mode bytes) (copyOf store (now (memory .entry))) .reply .number ⌝ }
