@@ -25,5 +25,14 @@ nothing false = refl
 
 pub others-stop : OthersStop
 unfolding callLine told gives
-others-stop k code a s n1 n5 n7 n8 n9 =
-    rw (ne-eqb code 1 n1, ne-eqb code 5 n5, ne-eqb code 7 n7, ne-eqb code 8 n8, ne-eqb code 9 n9, nothing) refl
+others-stop k code a s n1 n5 n7 n8 n9 n11 =
+    rw (
+      ne-eqb code 1 n1,
+      ne-eqb code 5 n5,
+      ne-eqb code 7 n7,
+      ne-eqb code 8 n8,
+      ne-eqb code 9 n9,
+      ne-eqb code 11 n11,
+      nothing,
+    )
+    refl

@@ -52,12 +52,12 @@ module _ (m m₁ : List ℕ) (at r code : ℕ) (a : Answer) (s : List ℕ) where
     told-handles m₂ q x y e = rw (eq-eqb (a .number) 0 done, eq-eqb code 1 e) (put-words m m₁ m₂ at r q _ _ x y)
 
     module _ (n₁ : code ≡ 1 → ⊥) where
-      pub told-handle : Put m m₁ at r (spaced (hexadecimal (a .first) ∷ [])) → (eqb code 8 || eqb code 9) ≡ true
+      pub told-handle : Put m m₁ at r (spaced (hexadecimal (a .first) ∷ [])) → (eqb code 8 || eqb code 9 || eqb code 11) ≡ true
           → Put m m₁ at r (spaced (told code a s))
       unfolding told gives
       told-handle x e = rw (eq-eqb (a .number) 0 done, ne-eqb code 1 n₁, e) x
 
-      module _ (n₈ : (eqb code 8 || eqb code 9) ≡ false) where
+      module _ (n₈ : (eqb code 8 || eqb code 9 || eqb code 11) ≡ false) where
         pub told-segment : Put m m₁ at r (spaced (hexadecimal s ∷ [])) → code ≡ 5
             → Put m m₁ at r (spaced (told code a s))
         unfolding told gives

@@ -1,5 +1,5 @@
--- Document 01, "The list of calls": the sample's output line by line, and lines of the other forms; a freeze of document
--- 02.
+-- Document 01, "The list of calls": the sample's output line by line, and lines of the other forms; a freeze and joins of
+-- document 02.
 --     Example            a line that the definitions give, and how it is printed
 --     handle b ss        the handle of node 0, local number 2, the password of sixteen bytes b and the selector ss
 --     primary b          the same with a flat selector
@@ -55,6 +55,11 @@ examples =
     ∷ prints (callLine 4 10 (answered 0 noHandle noHandle 0) []) "4 10 0\n"
     ∷ prints (callLine 7 2 (answered 22 noHandle noHandle 0) []) "7 2 22\n"
     ∷ prints (callLine 6 6 (answered 22 noHandle noHandle 0) []) "6 6 22\n"
+    -- a join done, and joins refused with 23 and 24
+    ∷ prints (callLine 12 11 (answered 0 (handle 0xcd (0x1f ∷ 0xff ∷ 0xff ∷ 0xff ∷ [])) noHandle 0) [])
+    "12 11 0 000002cdcdcdcdcdcdcdcdcdcdcdcdcdcdcdcd1fffffff\n"
+    ∷ prints (callLine 13 11 (answered 23 noHandle noHandle 0) []) "13 11 23\n"
+    ∷ prints (callLine 14 11 (answered 24 noHandle noHandle 0) []) "14 11 24\n"
     -- an empty list, and a refused one
     ∷ prints (endLine 0) "end 0\n"
     ∷ prints (refusedLine 18) "list 18\n"

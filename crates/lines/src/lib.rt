@@ -1,6 +1,7 @@
 // The lines that `benchrun` writes (document 01, "The list of calls"), each put at the start of a lent buffer. An inner
 // function puts its text after the buffer's first `at` bytes and tells where it ends.
 use calls::Answer;
+use calls::JOIN;
 use calls::NEW_CLUSTER;
 use calls::NEW_PASSWORD;
 use calls::READ;
@@ -158,7 +159,7 @@ fn put_told(out: &mut [u8], at: usize, code: u8, answer: Answer, segment: &[u8])
         let p = put_handle(out, at, first);
         return put_handle(out, p, second);
     }
-    if (code == REDUCE) | (code == NEW_PASSWORD) {
+    if (code == REDUCE) | (code == NEW_PASSWORD) | (code == JOIN) {
         return put_handle(out, at, first);
     }
     if code == READ {
