@@ -44,7 +44,7 @@ use Rattle.store.specs.declared.Store.{Store}
 use Rattle.store.specs.Records.{inactive, tableOf, clusterAt, tableAt, segmentOf, placeOf}
 use Rattle.calls.specs.Calls.{Copy, Call, call, Arguments, Kind, newCluster, deleteCluster, newSegment, deleteSegment}
 use Rattle.store.specs.Records.{readMode, writeMode, lengthOf, primaryOf}
-use Rattle.calls.specs.Calls.{read, write, weaken, reduce, newPassword, freeze, validate, look}
+use Rattle.calls.specs.Calls.{read, write, weaken, reduce, newPassword, freeze, join, validate, look}
 use Rattle.calls.specs.Calls.{handleOf, nodeFor, localFor, recordFor, placeFor}
 use Rattle.calls.specs.Numbers.{valid}
 use Rattle.calls.specs.Steps.{Outcome, step}
@@ -176,6 +176,7 @@ Entries weaken x a b = b ≡ a
 Entries reduce x a b = b ≡ a
 Entries newPassword x a b = OtherPassword x a b
 Entries freeze x a b = OtherMarks x a b
+Entries join x a b = b ≡ a
 Entries validate x a b = b ≡ a
 Entries look x a b = b ≡ a
 

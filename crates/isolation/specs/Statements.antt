@@ -27,7 +27,7 @@ use Rattle.sizes.specs.Sizes.{nodes, clusters, segments}
 use Rattle.handle.specs.Handles.{Name}
 use Rattle.store.specs.Records.{Tables, recordOf, clusterAt, tableAt, placeOn}
 use Rattle.calls.specs.Calls.{Copy, start, Call, Kind, newCluster, deleteCluster, newSegment, deleteSegment}
-use Rattle.calls.specs.Calls.{read, write, weaken, reduce, newPassword, freeze, validate, look, nodeFor, localFor, recordFor}
+use Rattle.calls.specs.Calls.{read, write, weaken, reduce, newPassword, freeze, join, validate, look, nodeFor, localFor, recordFor}
 use Rattle.calls.specs.Calls.{placeFor}
 use Rattle.calls.specs.Steps.{newPlace, step, run}
 use Rattle.isolation.specs.Copies.{SoundCopy, InPlace, setApart, Alike, Held, Unaltered, AllShut, NoWriter, places}
@@ -46,6 +46,7 @@ Touched weaken x ts p = ⊥
 Touched reduce x ts p = ⊥
 Touched newPassword x ts p = ⊥
 Touched freeze x ts p = ⊥
+Touched join x ts p = ⊥
 Touched validate x ts p = ⊥
 Touched look x ts p = ⊥
 
