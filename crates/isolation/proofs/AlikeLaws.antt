@@ -11,7 +11,7 @@ use mathlib.Core.Bool.{true}
 use mathlib.Core.List.{List, _++_}
 use lib.ListN.{length, take, drop, replicate, length-set}
 use Rattle.sizes.specs.Sizes.{nodes, clusters}
-use Rattle.handle.specs.Handles.{Name, nameOf, widthOf, encoded, reduced}
+use Rattle.handle.specs.Handles.{Name, nameOf, widthOf, encoded, reduced, joined}
 use Rattle.store.specs.declared.Place.the-variants.{Absent}
 use Rattle.store.specs.declared.Cluster.{Cluster}
 use Rattle.store.specs.declared.Store.{Store}
@@ -19,8 +19,8 @@ use Rattle.store.specs.Records.{Table, Tables, inactive, started, tableOf, clus
 use Rattle.store.specs.Records.{withPlace, withMark, lengthOf, primaryOf, withPassword}
 use Rattle.store.proofs.ChangeLaws.{put-other, put-same, put-out}
 use Rattle.calls.specs.Calls.{Copy, Call, call, Arguments, Kind, newCluster, deleteCluster, newSegment, deleteSegment}
-use Rattle.calls.specs.Calls.{read, write, weaken, reduce, newPassword, freeze, validate, look, opens, uses, handleOf, nodeFor}
-use Rattle.calls.specs.Calls.{localFor, recordFor, placeFor, startFor, partFor}
+use Rattle.calls.specs.Calls.{read, write, weaken, reduce, newPassword, freeze, join, validate, look, opens, uses, handleOf, otherOf}
+use Rattle.calls.specs.Calls.{nodeFor, localFor, recordFor, placeFor, startFor, partFor}
 use Rattle.calls.specs.Steps.{zeroHandle, handles, readReply, lookReply, within, putCluster, putBytes, about, newPlace}
 use Rattle.calls.specs.Steps.{newStart}
 use Rattle.calls.specs.Steps.{clusterMade, clusterDeleted, segmentMade, segmentDeleted, segmentWritten}
@@ -159,6 +159,7 @@ module _ (node local : ℕ) (high : node < nodes) (low : local < clusters) (f : 
       (elsewhere newPassword refl e h)
   left-alike freeze h e =
       change node local a b al (call freeze g) (λ d. withMark d (g .segment)) (elsewhere freeze refl e h)
+  left-alike join h e = al
   left-alike validate h e = al
   left-alike look h e = al
 
@@ -225,5 +226,14 @@ module _ (node local : ℕ) (high : node < nodes) (low : local < clusters) (f : 
       (al .others (recordFor x) (elsewhere reduce refl e h))
   given-alike newPassword h e = refl
   given-alike freeze h e = refl
+  given-alike join h e =
+      let x : Call = call join g in
+      ap
+      (λ (d : Cluster).
+      handles
+      (encoded
+      (joined (widthOf (handleOf x)) (f (nameOf (handleOf x))) (handleOf x) (otherOf x) (primaryOf d (g .mode))))
+      zeroHandle 0)
+      (al .others (recordFor x) (elsewhere join refl e h))
   given-alike validate h e = refl
   given-alike look h e = look-alike e (elsewhere look refl e h)

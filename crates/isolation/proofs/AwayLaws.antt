@@ -1,5 +1,6 @@
--- A call done that is not keyed to a cluster is about another one: its handle validates in the mode needed and is not
--- gapped, so it does not name that cluster, and places that exist have one record each.
+-- A handle that names a cluster does not validate, if a call that is not keyed to the cluster presents it. So a call done that
+-- is not keyed to a cluster is about another one: its handle validates in the mode needed and is not gapped, so it does not
+-- name that cluster, and places that exist have one record each.
 -- Assumes nothing.
 use mathlib.Core.Path.{_≡_, sym, ap, _∙_}
 use mathlib.Core.Logic.{_≢_, _⊎_, inl, inr}
@@ -19,8 +20,8 @@ use Rattle.store.specs.declared.Store.{Store}
 use Rattle.store.specs.Records.{recordOf, readMode, writeMode}
 use Rattle.calls.specs.Calls.{Call, opens, needed, handleOf, presented, recordFor, recordNamed}
 use Rattle.calls.specs.Numbers.{valid, number}
-use Rattle.calls.proofs.CallLaws.{opened, InRange, handle-range, only, guarded, record-is}
-use Rattle.calls.proofs.DoneLaws.{no-row, done-mode, done-even, done-valid}
+use Rattle.calls.proofs.CallLaws.{opened, Presents, none-of, InRange, guarded, record-is}
+use Rattle.calls.proofs.DoneLaws.{done-mode, each-range, done-even, done-valid}
 use Rattle.isolation.specs.Copies.{setApart, names, keyed, Shut}
 
 -- a place in range is the cluster set apart, or has another record
@@ -34,26 +35,19 @@ named node local low n l r = go (ℕ-discrete n node) (ℕ-discrete l local)
     go (no p) d = inr (λ e. let hr = r .local-low in absurd (omega arith))
 
 module _ (f : Name → List ℕ → ℕ → List ℕ) (x : Call) (s : Store) where
-  module _ (o : opens (x .kind) ≡ true) where
-    -- the handle of a call that is not keyed in a mode does not validate in it, if it names the cluster
-    pub not-keyed : (node local m : ℕ) → keyed node local f m x s ≡ false
-        → gapped (widthOf (handleOf x)) (handleOf x .selector) ≡ false
-        → nodeOf (handleOf x) ≡ node → handleOf x .local ≡ local → valid f m (handleOf x) s ≡ false
+  module _ (h : Handle) (i : Presents x h) (o : opens (x .kind) ≡ true) where
+    -- a handle that a call not keyed in a mode presents does not validate in it, if it names the cluster
+    pub not-keyed : (node local m : ℕ) → keyed node local f m x s ≡ false → gapped (widthOf h) (h .selector) ≡ false
+        → nodeOf h ≡ node → h .local ≡ local → valid f m h s ≡ false
     unfolding keyed
     not-keyed node local m e g p q =
         guarded (names node local h && even) (valid f m h s)
         (and-both (names node local h) even
         (and-both (eqb (nodeOf h) node) (eqb (h .local) local) (eq-eqb (nodeOf h) node p) (eq-eqb (h .local) local q))
         (ap not g))
-        (sym
-        (only (opens (x .kind))
-        (λ h. names node local h && not (gapped (widthOf h) (h .selector)) && valid f m h s) (presented x) h o
-        (opened x o .one))
-        ∙ e)
+        (none-of (λ k. names node local k && not (gapped (widthOf k) (k .selector)) && valid f m k s) (presented x)
+        (guarded (opens (x .kind)) _ o e) h i)
       where
-        h : Handle
-        h = handleOf x
-
         even : Bool
         even = not (gapped (widthOf h) (h .selector))
 
@@ -64,7 +58,7 @@ module _ (f : Name → List ℕ → ℕ → List ℕ) (x : Call) (s : Store) whe
       away k =
           go
           (named node local low (nodeOf (handleOf x)) (handleOf x .local)
-          (handle-range x o (no-row f x s size e .noPlace)))
+          (each-range f x s size e (handleOf x) (opened x o .presents)))
         where
           go : ((nodeOf (handleOf x) ≡ node) × (handleOf x .local ≡ local))
               ⊎ (recordNamed (handleOf x) ≢ setApart node local) → recordFor x ≢ setApart node local
@@ -72,7 +66,8 @@ module _ (f : Name → List ℕ → ℕ → List ℕ) (x : Call) (s : Store) whe
           go (inl n) =
               absurd (true≢false
               (sym (done-valid f x s size e o)
-              ∙ not-keyed o node local (needed x) k (done-even f x s size e o) (n .0) (n .1)))
+              ∙ not-keyed (handleOf x) (opened x o .presents) o node local (needed x) k (done-even f x s size e o) (n .0)
+              (n .1)))
 
       pub shut-away : Shut node local f x s → recordFor x ≢ setApart node local
       shut-away h = away (go (done-mode f x s size e))

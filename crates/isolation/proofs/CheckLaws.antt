@@ -6,28 +6,28 @@ use mathlib.Core.Path.{_≡_, refl, sym, ap, _∙_, subst}
 use mathlib.Core.Logic.{_⊎_, inl, inr}
 use Prim.Native.Nat.{ℕ, zero, suc}
 use native.Mathlib.Omega.{arith}
-use mathlib.Core.Bool.{Bool, true, false, not, _||_, cond}
+use mathlib.Core.Bool.{Bool, true, false, not, _||_, cond, or-false}
 use mathlib.Core.List.{List, [], _∷_, _++_}
 use lib.Dec.{eqb}
 use lib.ListN.{length, drop, length-drop}
 use lib.Seq.{length-take-le}
 use borrow.Author.Tests.{eqb-true, not-false}
-use Rattle.loops.proofs.BelowLaws.{test-off}
+use Rattle.loops.proofs.BelowLaws.{and-left, and-right, test-off}
 use Rattle.sizes.specs.Sizes.{passwordBytes}
 use Rattle.handle.specs.declared.Handle.{Handle}
 use Rattle.handle.specs.Sizes.{passwordAt, handleBytes}
 use Rattle.handle.specs.Selectors.{references, allFlat}
-use Rattle.handle.specs.Handles.{Name, nameOf, nodeOf, widthOf, decoded, firstOf, reply}
+use Rattle.handle.specs.Handles.{Name, nameOf, nodeOf, sameName, widthOf, decoded, firstOf, reply}
 use Rattle.handle.specs.Handles.{validates}
 use Rattle.handle.proofs.PasswordLaws.{equal-validates, validates-equal}
 use Rattle.store.specs.declared.Store.{Store}
 use Rattle.store.specs.Records.{clusterAt, tableAt, readMode, writeMode, primaryOf}
 use Rattle.store.specs.Sound.{sound}
 use Rattle.calls.specs.Calls.{Call, call, Arguments, Kind, newCluster, deleteCluster, newSegment, deleteSegment}
-use Rattle.calls.specs.Calls.{read, write, weaken, reduce, newPassword, freeze, validate, look, opens, needed}
-use Rattle.calls.specs.Calls.{handleOf, buffer, recordNamed}
-use Rattle.calls.specs.Numbers.{unsound, noPlace, badMode, badSegment, badSize, badField, gappedHandle, elsewhere}
-use Rattle.calls.specs.Numbers.{inUse, twins, inactiveCluster, valid, violated, notPrimary, notReferenced, tests}
+use Rattle.calls.specs.Calls.{read, write, weaken, reduce, newPassword, freeze, join, validate, look, opens, needed}
+use Rattle.calls.specs.Calls.{handleOf, otherOf, buffer, recordNamed}
+use Rattle.calls.specs.Numbers.{unsound, noPlace, badMode, badSegment, badSize, badField, gappedHandle, joinApart, elsewhere}
+use Rattle.calls.specs.Numbers.{inUse, twins, inactiveCluster, valid, violated, joinWhole, notPrimary, notReferenced, tests}
 use Rattle.calls.specs.Numbers.{number, Line, at}
 use Rattle.calls.specs.Steps.{plain, outcome, step}
 use Rattle.isolation.specs.Copies.{SixteenBytes}
@@ -37,8 +37,8 @@ use Rattle.isolation.specs.Checks.{WeakeningIs}
 use Rattle.calls.proofs.StepLaws.{number-validate}
 use Rattle.calls.proofs.WeakenLaws.{step-weaken}
 use Rattle.calls.specs.Clear.{Clear}
-use Rattle.calls.proofs.CallLaws.{or-left, record-is, violated-is}
-use Rattle.calls.proofs.DoneLaws.{no-row, done-even, done-active, done-valid}
+use Rattle.calls.proofs.CallLaws.{or-left, Presents, opened}
+use Rattle.calls.proofs.DoneLaws.{no-row, each-even, each-active, each-valid}
 
 module _ (f : Name → List ℕ → ℕ → List ℕ) where
   -- ---- condition 1
@@ -70,13 +70,16 @@ module _ (f : Name → List ℕ → ℕ → List ℕ) where
   -- ---- the column "Must hold"
 
   module _ (x : Call) (s : Store) (size : ℕ) (e : number f x s size ≡ 0) where
-    opener : opens (x .kind) ≡ true → Opener f (needed x) x s
-    opener o =
+    opener-of : (h : Handle) → Presents x h → opens (x .kind) ≡ true → Opener f (needed x) h s
+    opener-of h i o =
         record {
-          valid = done-valid f x s size e o;
-          even = done-even f x s size e o;
-          active = ap (λ (n : ℕ). tableAt s n .active) (sym (record-is x o)) ∙ done-active f x s size e o;
+          valid = each-valid f x s size e h i o;
+          even = each-even f x s size e h i;
+          active = each-active f x s size e h i o;
         }
+
+    opener : opens (x .kind) ≡ true → Opener f (needed x) (handleOf x) s
+    opener o = opener-of (handleOf x) (opened x o .presents) o
 
   module _ (g : Arguments) (s : Store) (size : ℕ) where
     abbrev all : Kind → Bool
@@ -86,6 +89,13 @@ module _ (f : Name → List ℕ → ℕ → List ℕ) where
         → allFlat (widthOf h) (h .selector) ≡ true
     all-flat h e =
         not-false (allFlat (widthOf h) (h .selector)) (or-left (not (allFlat (widthOf h) (h .selector))) false e)
+
+    one-name : (h k : Handle) → not (sameName h k) ≡ false → nameOf h ≡ nameOf k
+    one-name h k e =
+        let t = not-false (sameName h k) e in
+        let p = eqb-true (nodeOf h) (nodeOf k) (and-left (eqb (nodeOf h) (nodeOf k)) (eqb (h .local) (k .local)) t) in
+        let q = eqb-true (h .local) (k .local) (and-right (eqb (nodeOf h) (nodeOf k)) (eqb (h .local) (k .local)) t) in
+        λ j. record { node = p j; local = q j }
 
     same-node : (h : Handle) → not (eqb (g .current) (nodeOf h)) ≡ false → g .current ≡ nodeOf h
     same-node h e = eqb-true (g .current) (nodeOf h) (not-false (eqb (g .current) (nodeOf h)) e)
@@ -97,14 +107,14 @@ module _ (f : Name → List ℕ → ℕ → List ℕ) where
         record {
           primary =
               record {
-                opener = subst (λ (m : ℕ). Opener f m (call k g) s) w (opener (call k g) s size e o);
+                opener = subst (λ (m : ℕ). Opener f m (handleOf (call k g)) s) w (opener (call k g) s size e o);
                 flat = all-flat (handleOf (call k g)) p;
               };
           here = same-node (handleOf (call k g)) h;
         }
 
     held-kind : (k : Kind) → number f (call k g) s size ≡ 0 → MustHold f k (call k g) s
-    unfolding notReferenced twins elsewhere notPrimary inUse
+    unfolding notReferenced twins elsewhere notPrimary inUse joinApart joinWhole
     held-kind newCluster e = let r = no-row f (call newCluster g) s size e in record { free = r .inUse; two = r .twins }
     held-kind deleteCluster e =
         let r = no-row f (call deleteCluster g) s size e in owner deleteCluster e refl refl (r .notPrimary) (r .elsewhere)
@@ -131,6 +141,15 @@ module _ (f : Name → List ℕ → ℕ → List ℕ) where
         record { opener = opener x s size e refl; flat = all-flat (handleOf x) (no-row f x s size e .notPrimary) }
     held-kind freeze e =
         let r = no-row f (call freeze g) s size e in owner freeze e refl refl (r .notPrimary) (r .elsewhere)
+    held-kind join e =
+        let x : Call = call join g in
+        let r = no-row f x s size e in
+        record {
+          first = opener x s size e refl;
+          second = opener-of x s size e (otherOf x) (inr (inl refl)) refl;
+          one = one-name (handleOf x) (otherOf x) (r .joinApart);
+          part = r .joinWhole;
+        }
     held-kind validate e = opener (call validate g) s size e refl
     held-kind look e =
         let x : Call = call look g in
@@ -186,8 +205,11 @@ module _ (f : Name → List ℕ → ℕ → List ℕ) where
         (mode-good (j .mode)) (ap (λ (t : Bool). t || false) (j .even)) (ap (λ (t : Bool). not t || false) (j .active))
 
     told : (v : Bool) → Judgeable f g s size → valid f (g .mode) h s ≡ v → number f x s size ≡ cond (not v) 9 0
+    unfolding violated
     told v j e =
-        reached j ∙ ap (λ (t : Bool). cond t 9 0) (violated-is x refl f s) ∙ ap (λ (t : Bool). cond (not t) 9 0) e
+        reached j
+        ∙ ap (λ (t : Bool). cond t 9 0) (or-false (not (valid f (g .mode) h s)))
+        ∙ ap (λ (t : Bool). cond (not t) 9 0) e
 
     length-password : length (g .handle) ≡ handleBytes → length (h .password) ≡ passwordBytes
     unfolding decoded

@@ -19,7 +19,7 @@ use Rattle.store.specs.Records.{segmentAt, absentSegment, clusterAt, tableAt, p
 use Rattle.store.specs.Records.{readMode, writeMode, primaryOf}
 use Rattle.store.proofs.ChangeLaws.{put-other, put-same, put-out}
 use Rattle.calls.specs.Calls.{Copy, Call, call, Arguments, Kind, newCluster, deleteCluster, newSegment, deleteSegment}
-use Rattle.calls.specs.Calls.{read, write, weaken, reduce, newPassword, freeze, validate, look, recordFor}
+use Rattle.calls.specs.Calls.{read, write, weaken, reduce, newPassword, freeze, join, validate, look, recordFor}
 use Rattle.store.specs.Records.{withPassword}
 use Rattle.calls.specs.Steps.{about, newPlace, effects}
 use Rattle.calls.specs.Steps.{left}
@@ -61,6 +61,7 @@ entries-same weaken x a = refl
 entries-same reduce x a = refl
 entries-same newPassword x a = record { table = refl; password = refl }
 entries-same freeze x a = record { others = record { active = refl; read = refl; write = refl; segments = λ j ne. refl }; place = refl }
+entries-same join x a = refl
 entries-same validate x a = refl
 entries-same look x a = refl
 
@@ -121,6 +122,7 @@ module _ (f : Name → List ℕ → ℕ → List ℕ) (g : Arguments) (c : Copy)
             (getD-set-same (about x c .segments) (g .segment) _ absentSegment
             (present-in (about x c) (g .segment) (freeze-present f g c e)));
       })
+  left-entries join e = refl
   left-entries validate e = refl
   left-entries look e = refl
 

@@ -25,7 +25,7 @@ use Rattle.store.specs.Sound.{isAbsent, inside, apart, sound}
 use Rattle.store.proofs.RecordLaws.{put-itself, mark-itself}
 use Rattle.store.proofs.SoundWordLaws.{sound-in-words}
 use Rattle.calls.specs.Calls.{Copy, Call, call, Arguments, Kind, newCluster, deleteCluster, newSegment, deleteSegment}
-use Rattle.calls.specs.Calls.{read, write, weaken, reduce, newPassword, freeze, validate, look, nodeFor, localFor}
+use Rattle.calls.specs.Calls.{read, write, weaken, reduce, newPassword, freeze, join, validate, look, nodeFor, localFor}
 use Rattle.calls.specs.Calls.{recordFor, placeFor, frozenFor}
 use Rattle.calls.specs.Numbers.{unsound, clusterFrozen, segmentPresent, segmentFrozen}
 use Rattle.calls.specs.Steps.{putCluster, about, segmentMarked, left, step, run}
@@ -117,6 +117,7 @@ module _ (f : Name → List ℕ → ℕ → List ℕ) (v l i base size : ℕ) (h
               (ap (λ (d : Cluster). clusterAt (putCluster c (recordFor (call freeze g)) d .store) (recordFor (call freeze g)))
               (mark-itself (about (call freeze g) c) (g .segment) (frozen-here freeze q (sym s)))
               ∙ ap (λ (z : Store). clusterAt z (recordFor (call freeze g))) (put-itself (c .store) (recordFor (call freeze g))))
+      stays join e q = unchanged join q refl
       stays validate e q = unchanged validate q refl
       stays look e q = unchanged look q refl
 
@@ -156,6 +157,7 @@ module _ (f : Name → List ℕ → ℕ → List ℕ) (v l i base size : ℕ) (h
       untouched reduce e a u t = t
       untouched newPassword e a u t = t
       untouched freeze e a u t = t
+      untouched join e a u t = t
       untouched validate e a u t = t
       untouched look e a u t = t
 

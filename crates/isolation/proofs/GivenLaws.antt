@@ -1,6 +1,6 @@
--- The handles that calls 1, 7, 8 and 9 give open the cluster on the copy left. Each is written to its bytes and read
--- back; a primary handle's chain of conversions is empty, and the chains of a weakened and of a reduced handle end as
--- the laws of one handle say.
+-- The handles that calls 1, 7, 8, 9 and 11 give open the cluster on the copy left. Each is written to its bytes and read
+-- back; a primary handle's chain of conversions is empty, and the chains of a weakened, of a reduced and of a joined
+-- handle end as the laws of handles say.
 -- Assumes nothing.
 use mathlib.Core.Path.{_≡_, refl, sym, ap, _∙_, subst}
 use mathlib.Core.Logic.{_⊎_, inl, inr}
@@ -12,14 +12,16 @@ use lib.ListN.{length}
 use Rattle.sizes.specs.Sizes.{nodes, clusters, segments, passwordBytes}
 use Rattle.handle.specs.declared.Handle.{Handle}
 use Rattle.handle.specs.Sizes.{handleBytes}
-use Rattle.handle.specs.Selectors.{gapped, flats}
+use Rattle.handle.specs.Selectors.{either, allFlat, gapped, flats, wholeUnion}
 use Rattle.bits.specs.Bytes.{Bytes}
 use Rattle.handle.specs.Handles.{Name, nameOf, encoded, decoded, through, validates}
-use Rattle.handle.specs.Handles.{weakened, reduced}
-use Rattle.handle.specs.Opens.{primaryHandle}
+use Rattle.handle.specs.Handles.{weakened, reduced, joined}
+use Rattle.handle.specs.Opens.{primaryHandle, Opens}
+use Rattle.handle.specs.Joins.{Joins}
 use Rattle.handle.proofs.HandleLaws.{name-weakened, gapped-weakened, valid-weakened, references-weakened}
 use Rattle.handle.proofs.HandleLaws.{name-reduced, gapped-reduced, valid-reduced, references-reduced}
 use Rattle.handle.proofs.OpensLaws.{opens-primary}
+use Rattle.handle.proofs.JoinLaws.{joins}
 use Rattle.handle.proofs.PasswordLaws.{equal-validates, validates-equal}
 use Rattle.handle.proofs.CodecLaws.{decode-encode, holdable-decoded, whole-decoded, holdable-weakened, holdable-reduced}
 use Rattle.store.specs.declared.Cluster.{Cluster}
@@ -27,13 +29,13 @@ use Rattle.store.specs.declared.Store.{Store}
 use Rattle.store.specs.Records.{started, recordOf, clusterAt, tableAt, putRecord, withPassword}
 use Rattle.store.proofs.ChangeLaws.{put-same}
 use Rattle.store.specs.Records.{readMode, writeMode, primaryOf}
-use Rattle.calls.specs.Calls.{Call, call, newCluster, weaken, reduce, newPassword}
+use Rattle.calls.specs.Calls.{Call, call, newCluster, weaken, reduce, newPassword, join}
 use Rattle.calls.specs.Calls.{handleOf, nodeFor, localFor, recordFor, recordNamed}
-use Rattle.calls.specs.Numbers.{gappedHandle, spentHandle, valid}
+use Rattle.calls.specs.Numbers.{gappedHandle, spentHandle, joinWhole, valid}
 use Rattle.calls.specs.Steps.{about, clusterMade, passwordReplaced, left, given}
 use Rattle.isolation.specs.Copies.{SixteenBytes}
 use Rattle.isolation.specs.Effects.{Made, MadeOpens, otherMode, Renewed, RenewedOpens, Reduced, ReducedOpens}
-use Rattle.isolation.specs.Effects.{Weakened, WeakenedOpens, Refers}
+use Rattle.isolation.specs.Effects.{Joined, JoinedOpens, Weakened, WeakenedOpens, Refers}
 use Rattle.calls.proofs.CallLaws.{or-left, InRange}
 use Rattle.calls.proofs.DoneLaws.{NoRow, no-row, done-range, done-mode, done-even, done-active, done-valid}
 use Rattle.calls.proofs.StepLaws.{step-done}
@@ -208,6 +210,46 @@ module _ (f : Name → List ℕ → ℕ → List ℕ) where
       back =
           decode-encode r
           (holdable-reduced segments (f (nameOf h)) (sixteen (nameOf h)) h (holdable-decoded (g .handle) o) p)
+
+  pub joined-opens : JoinedOpens f
+  unfolding left given joined joinWhole
+  joined-opens sixteen g c o e =
+      subst (Joined f x c) (sym (step-done f x c e)) (record {
+        stays = refl;
+        told = refl;
+        opens =
+            ap (λ (k : Handle). valid f (g .mode) k (c .store)) back
+            ∙ renamed-valid h r (g .mode) (c .store) (t .named) (t .valid);
+        handle = back-refers r back (record { named = t .named; ungapped = t .ungapped; refers = t .refers });
+        not-primary = ap (λ (k : Handle). allFlat segments (k .selector)) back ∙ j .never-primary part;
+      })
+    where
+      x : Call
+      x = call join g
+
+      h : Handle
+      h = decoded (g .handle)
+
+      p : List ℕ
+      p = primaryOf (clusterAt (c .store) (recordNamed h)) (g .mode)
+
+      r : Handle
+      r = joined segments (f (nameOf h)) h (decoded (g .other)) p
+
+      j : Joins segments (f (nameOf h)) p h (decoded (g .other))
+      j = joins segments (f (nameOf h)) p h (decoded (g .other))
+
+      part : wholeUnion segments (h .selector) (decoded (g .other) .selector) ≡ false
+      part = no-row f x (c .store) (length (c .memory)) e .joinWhole
+
+      t : Opens segments (f (nameOf h)) (nameOf h) p (either (h .selector) (decoded (g .other) .selector)) r
+      t = j .opens part
+
+      back : decoded (encoded r) ≡ r
+      back =
+          let d = holdable-decoded (g .handle) o in
+          decode-encode r
+          (record { node = d .node; local = d .local; password = sixteen (nameOf h) p _; selector = refl })
 
   pub weakened-opens : WeakenedOpens f
   unfolding left given gappedHandle spentHandle

@@ -23,7 +23,7 @@ use Rattle.store.proofs.SoundLaws.{Sound, sound-out, settled-active, sound-star
 use Rattle.store.proofs.ChangeLaws.{put-other, sound-same, sound-inactive, sound-started, sound-made, sound-removed}
 use Rattle.store.proofs.ChangeLaws.{sound-frozen}
 use Rattle.calls.specs.Calls.{Copy, Call, call, Arguments, Kind, newCluster, deleteCluster, newSegment, deleteSegment}
-use Rattle.calls.specs.Calls.{read, write, weaken, reduce, newPassword, freeze, validate, look, nodeFor, localFor, recordFor}
+use Rattle.calls.specs.Calls.{read, write, weaken, reduce, newPassword, freeze, join, validate, look, nodeFor, localFor, recordFor}
 use Rattle.calls.specs.Calls.{start, uses, placeFor, startFor}
 use Rattle.calls.specs.Numbers.{badSegment, number}
 use Rattle.calls.specs.Steps.{putCluster, about, newBaseFor, newPlace, newStart, effects}
@@ -130,6 +130,7 @@ module _ (f : Name → List ℕ → ℕ → List ℕ) where
         let v = done-range f x (c .store) (length (c .memory)) e in
         sound-frozen (c .store) _ k _ _ (v .node-low) (v .local-low) (g .segment)
         (done-active f x (c .store) (length (c .memory)) e refl) (freeze-present f g c e)
+    left-sound join e = k
     left-sound validate e = k
     left-sound look e = k
 
@@ -169,6 +170,7 @@ module _ (f : Name → List ℕ → ℕ → List ℕ) where
     left-own reduce e = same-own (call reduce g)
     left-own newPassword e = put-own (call newPassword g) _
     left-own freeze e = put-own (call freeze g) _
+    left-own join e = same-own (call join g)
     left-own validate e = same-own (call validate g)
     left-own look e = same-own (call look g)
 
@@ -190,6 +192,7 @@ module _ (f : Name → List ℕ → ℕ → List ℕ) where
       touched-outside reduce e ne p t = absurd t
       touched-outside newPassword e ne p t = absurd t
       touched-outside freeze e ne p t = absurd t
+      touched-outside join e ne p t = absurd t
       touched-outside validate e ne p t = absurd t
       touched-outside look e ne p t = absurd t
 

@@ -1,6 +1,6 @@
--- Both copies give a call the same number, and a look the same part. Rows that see the call alone, or the tables, agree at once. Row 9 agrees: a
--- handle of the cluster set apart validates in neither copy, one of another cluster meets equal records. Row 12 is
--- looked at only where row 9 did not apply, so it is about another cluster.
+-- Both copies give a call the same number, and a look the same part. Rows that see the call alone, or the tables, agree at
+-- once. Row 9 agrees handle by handle: one of the cluster set apart validates in neither copy, one of another cluster meets
+-- equal records. Row 12 is looked at only where row 9 did not apply, so it is about another cluster.
 -- Assumes nothing.
 use mathlib.Core.Path.{_≡_, refl, sym, ap, _∙_, fun-ext}
 use mathlib.Core.Logic.{_≢_, _⊎_, inl, inr}
@@ -9,7 +9,6 @@ use native.Mathlib.Decide.{ℕ-discrete}
 use mathlib.Core.Bool.{Bool, true, false, not, _&&_, true≢false}
 use mathlib.Core.List.{List}
 use lib.ListN.{length}
-use borrow.Author.Tests.{not-false}
 use Rattle.sizes.specs.Sizes.{clusters}
 use Rattle.handle.specs.declared.Handle.{Handle}
 use Rattle.handle.specs.Handles.{Name, nameOf, nodeOf, widthOf, validates}
@@ -18,7 +17,7 @@ use Rattle.store.specs.declared.Store.{Store}
 use Rattle.store.specs.Records.{Tables, tableOf, tableAt, readMode, writeMode, primaryOf}
 use Rattle.store.specs.Sound.{sound}
 use Rattle.calls.specs.Calls.{Copy, Call, call, Arguments, Kind, newCluster, deleteCluster, newSegment, deleteSegment}
-use Rattle.calls.specs.Calls.{read, write, weaken, reduce, newPassword, freeze, validate, look, opens, needed}
+use Rattle.calls.specs.Calls.{read, write, weaken, reduce, newPassword, freeze, join, validate, look, opens, needed}
 use Rattle.calls.specs.Calls.{handleOf, presented, anyOf, recordFor, recordNamed}
 use Rattle.calls.specs.Looks.{lookedBy, looked}
 use Rattle.calls.specs.Numbers.{unsound, noPlace, badField, gappedHandle, inUse, inactiveCluster, valid, violated}
@@ -26,7 +25,7 @@ use Rattle.calls.specs.Numbers.{isOld, oldPassword, clusterFrozen, segmentPrese
 use Rattle.calls.specs.Numbers.{byTables, byRecords, rows, number}
 use Rattle.isolation.specs.Copies.{SoundCopy, setApart, Alike, Shut}
 use Rattle.calls.proofs.FirstLaws.{Agree, _▸_, first-agree}
-use Rattle.calls.proofs.CallLaws.{handle-range, mode-known, record-is, ungapped-is, violated-is}
+use Rattle.calls.proofs.CallLaws.{Presents, any-same, opened, handle-range, mode-known, record-is, ungapped-is, valid-is}
 use Rattle.isolation.proofs.AwayLaws.{named}
 use Rattle.isolation.proofs.AwayLaws.{not-keyed}
 
@@ -53,11 +52,13 @@ module _ (f : Name → List ℕ → ℕ → List ℕ) (x : Call) (a b : Store) (
       refl ▸ λ e2.
       refl ▸ λ e3.
       refl ▸ λ e4.
+      refl ▸ λ e24.
       refl ▸ λ e5.
       tabled 6 inUse ▸ λ e6.
       refl ▸ λ e7.
       tabled 8 inactiveCluster ▸ λ e8.
       told 9 (violated f) (validation e2 e4 e3) ▸ λ e9.
+      refl ▸ λ e23.
       refl ▸ λ e10.
       tabled 22 clusterFrozen ▸ λ e22.
       refl ▸ λ e11.
@@ -86,57 +87,59 @@ alike-tables node local a b al = fun-ext (λ n. go n (ℕ-discrete n (setApart n
 module _ (node local : ℕ) (low : local < clusters) (f : Name → List ℕ → ℕ → List ℕ) (x : Call) (a b : Copy)
     (al : Alike node local a b) (ha : Shut node local f x (a .store)) (hb : Shut node local f x (b .store))
     (place : noPlace x ≡ false) (even : gappedHandle x ≡ false) (fields : badField x ≡ false) where
-  module _ (o : opens (x .kind) ≡ true) where
-    shut-invalid : (s : Store) → Shut node local f x s → nodeOf (handleOf x) ≡ node → handleOf x .local ≡ local
-        → valid f (needed x) (handleOf x) s ≡ false
-    shut-invalid s h p q = go (mode-known x fields)
+  -- of each handle presented
+  module _ (h : Handle) (i : Presents x h) (o : opens (x .kind) ≡ true) where
+    shut-invalid : (s : Store) → Shut node local f x s → nodeOf h ≡ node → h .local ≡ local
+        → valid f (needed x) h s ≡ false
+    shut-invalid s t p q = go (mode-known x fields)
       where
-        go : (needed x ≡ readMode) ⊎ (needed x ≡ writeMode) → valid f (needed x) (handleOf x) s ≡ false
+        go : (needed x ≡ readMode) ⊎ (needed x ≡ writeMode) → valid f (needed x) h s ≡ false
         go (inl e) =
-            ap (λ (m : ℕ). valid f m (handleOf x) s) e
-            ∙ not-keyed f x s o node local readMode (h .0) (ungapped-is x o even) p q
+            ap (λ (m : ℕ). valid f m h s) e
+            ∙ not-keyed f x s h i o node local readMode (t .0) (ungapped-is x h i even) p q
         go (inr e) =
-            ap (λ (m : ℕ). valid f m (handleOf x) s) e
-            ∙ not-keyed f x s o node local writeMode (h .1) (ungapped-is x o even) p q
+            ap (λ (m : ℕ). valid f m h s) e
+            ∙ not-keyed f x s h i o node local writeMode (t .1) (ungapped-is x h i even) p q
 
-    cases : ((nodeOf (handleOf x) ≡ node) × (handleOf x .local ≡ local))
-        ⊎ (recordNamed (handleOf x) ≢ setApart node local)
-    cases = named node local low (nodeOf (handleOf x)) (handleOf x .local) (handle-range x o place)
+    cases : ((nodeOf h ≡ node) × (h .local ≡ local)) ⊎ (recordNamed h ≢ setApart node local)
+    cases = named node local low (nodeOf h) (h .local) (handle-range x h i place)
 
-    same-valid : valid f (needed x) (handleOf x) (a .store) ≡ valid f (needed x) (handleOf x) (b .store)
+    same-valid : valid f (needed x) h (a .store) ≡ valid f (needed x) h (b .store)
     unfolding valid
     same-valid = go cases
       where
-        go : ((nodeOf (handleOf x) ≡ node) × (handleOf x .local ≡ local))
-            ⊎ (recordNamed (handleOf x) ≢ setApart node local)
-            → valid f (needed x) (handleOf x) (a .store) ≡ valid f (needed x) (handleOf x) (b .store)
+        go : ((nodeOf h ≡ node) × (h .local ≡ local)) ⊎ (recordNamed h ≢ setApart node local)
+            → valid f (needed x) h (a .store) ≡ valid f (needed x) h (b .store)
         go (inl n) =
             shut-invalid (a .store) ha (n .0) (n .1) ∙ sym (shut-invalid (b .store) hb (n .0) (n .1))
         go (inr n) =
-            let h : Handle = handleOf x in
             ap (λ (c : Cluster). validates (widthOf h) (f (nameOf h)) (primaryOf c (needed x)) h)
             (al .others (recordNamed h) n)
 
-    another : violated f x (a .store) ≡ false → recordFor x ≢ setApart node local
-    another v = go cases
-      where
-        go : ((nodeOf (handleOf x) ≡ node) × (handleOf x .local ≡ local))
-            ⊎ (recordNamed (handleOf x) ≢ setApart node local) → recordFor x ≢ setApart node local
-        go (inl n) =
-            let w = not-false (valid f (needed x) (handleOf x) (a .store)) (sym (violated-is x o f (a .store)) ∙ v) in
-            absurd (true≢false (sym w ∙ shut-invalid (a .store) ha (n .0) (n .1)))
-        go (inr n) = λ q. n (sym (record-is x o) ∙ q)
-
-  no-violation : (s : Store) → opens (x .kind) ≡ false → violated f x s ≡ false
-  unfolding violated
-  no-violation s o = ap (λ (t : Bool). t && anyOf (λ h. not (valid f (needed x) h s)) (presented x)) o
+  another : opens (x .kind) ≡ true → violated f x (a .store) ≡ false → recordFor x ≢ setApart node local
+  another o v = go (cases (handleOf x) (opened x o .presents) o)
+    where
+      go : ((nodeOf (handleOf x) ≡ node) × (handleOf x .local ≡ local))
+          ⊎ (recordNamed (handleOf x) ≢ setApart node local) → recordFor x ≢ setApart node local
+      go (inl n) =
+          let i = opened x o .presents in
+          absurd (true≢false
+          (sym (valid-is x (handleOf x) i o f (a .store) v)
+          ∙ shut-invalid (handleOf x) i o (a .store) ha (n .0) (n .1)))
+      go (inr n) = λ q. n (sym (record-is x o) ∙ q)
 
   same-violated : violated f x (a .store) ≡ violated f x (b .store)
+  unfolding violated
   same-violated = go (opens (x .kind)) refl
     where
-      go : (t : Bool) → opens (x .kind) ≡ t → violated f x (a .store) ≡ violated f x (b .store)
-      go true o = violated-is x o f (a .store) ∙ ap not (same-valid o) ∙ sym (violated-is x o f (b .store))
-      go false o = no-violation (a .store) o ∙ sym (no-violation (b .store) o)
+      wrong : Store → Handle → Bool
+      wrong s h = not (valid f (needed x) h s)
+
+      go : (t : Bool) → opens (x .kind) ≡ t
+          → (t && anyOf (wrong (a .store)) (presented x)) ≡ (t && anyOf (wrong (b .store)) (presented x))
+      go true o =
+          any-same (wrong (a .store)) (wrong (b .store)) (presented x) (λ h i. ap not (same-valid h i o))
+      go false o = refl
 
 module _ (node local : ℕ) (low : local < clusters) (f : Name → List ℕ → ℕ → List ℕ) (a b : Copy)
     (al : Alike node local a b) where
@@ -157,6 +160,7 @@ module _ (node local : ℕ) (low : local < clusters) (f : Name → List ℕ → 
   same-old weaken g ha hb p e m v = refl
   same-old reduce g ha hb p e m v = refl
   same-old freeze g ha hb p e m v = refl
+  same-old join g ha hb p e m v = refl
   same-old validate g ha hb p e m v = refl
   same-old look g ha hb p e m v = refl
 

@@ -14,7 +14,7 @@ use Rattle.store.specs.declared.Cluster.{Cluster}
 use Rattle.store.specs.declared.Store.{Store}
 use Rattle.store.specs.Records.{Table, tableOf, clusterAt, placeOf, putRecord, readMode, writeMode, withPassword}
 use Rattle.calls.specs.Calls.{Copy, Call, call, Arguments, Kind, newCluster, deleteCluster, newSegment, deleteSegment}
-use Rattle.calls.specs.Calls.{read, write, weaken, reduce, newPassword, freeze, validate, look, opens, needed}
+use Rattle.calls.specs.Calls.{read, write, weaken, reduce, newPassword, freeze, join, validate, look, opens, needed}
 use Rattle.calls.specs.Calls.{recordFor}
 use Rattle.calls.specs.Steps.{putCluster, about, passwordReplaced, left, step, run}
 use Rattle.isolation.specs.Copies.{SoundCopy, Done, InPlace, setApart, Held, Unaltered, keyed, NoWriter}
@@ -104,6 +104,7 @@ module _ (node local : ℕ) (high : node < nodes) (low : local < clusters) (f : 
         go (inl m) = read-password (call newPassword g) c (g .first) (g .mode) m
         go (inr m) = writing newPassword refl m s e
     left-unaltered freeze s e = writing freeze refl refl s e
+    left-unaltered join s e = unaltered-same c
     left-unaltered validate s e = unaltered-same c
     left-unaltered look s e = unaltered-same c
 

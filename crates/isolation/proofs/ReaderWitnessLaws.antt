@@ -1,4 +1,4 @@
--- The list is computed, and that readers alter nothing is applied to it.
+-- The lists are computed, and that readers alter nothing is applied to the first.
 -- Assumes nothing.
 use mathlib.Core.Path.{_≡_, refl, sym, ap, _∙_}
 use Prim.Native.Nat.{ℕ}
@@ -9,13 +9,27 @@ use Rattle.handle.specs.Handles.{Name}
 use Rattle.store.specs.Records.{Table, placeOf, writeMode}
 use Rattle.calls.specs.Numbers.{tests}
 use Rattle.calls.specs.Steps.{Ran, effects, run}
+use Rattle.calls.specs.Cases.{added}
 use Rattle.calls.proofs.Computing.{computing}
 use Rattle.isolation.specs.Copies.{Unaltered, keyed}
 use Rattle.isolation.specs.Witness.{one}
-use Rattle.isolation.specs.ReaderWitness.{readerCalls, readerAnswers, ReadersList, Unharmed}
+use Rattle.isolation.specs.ReaderWitness.{readerCalls, readerAnswers, readerJoins, joinAnswers, ReadersJoin}
+use Rattle.isolation.specs.ReaderWitness.{ReadersList, Unharmed}
 use Rattle.isolation.proofs.RunLaws.{run-below, someBelow, unwritten-below}
 use Rattle.isolation.proofs.ReaderLaws.{readers-alter-nothing}
 use Rattle.isolation.proofs.WitnessLaws.{sound-one, four}
+
+joins-unwritten : someBelow added (keyed 0 2 added writeMode) readerJoins one ≡ false
+unfolding keyed tests effects computing
+joins-unwritten = refl
+
+join-replies : run added readerJoins one .replies ≡ joinAnswers
+unfolding tests effects computing
+join-replies = ap (λ (r : Ran). r .replies) (run-below added readerJoins one sound-one) ∙ refl
+
+pub readers-join : ReadersJoin
+readers-join =
+    record { no-writer = unwritten-below added 0 2 readerJoins one sound-one joins-unwritten; replies = join-replies }
 
 module _ (f : Name → List ℕ → ℕ → List ℕ) where
   unwritten : someBelow f (keyed 0 2 f writeMode) readerCalls one ≡ false

@@ -36,15 +36,15 @@ module _ (f : Name → List ℕ → ℕ → List ℕ) where
       ap (followed (step f x c .reply)) (run-below xs (step f x c .copy) (step-sound f x c k))
       ∙ ap (λ (o : Outcome). followed (o .reply) (runBelow xs (o .copy))) (step-below x c k)
 
-  -- a list and one call more
-  pub last-below : (xs : List Call) (x : Call) (c : Copy)
-      → runBelow (xs ++ (x ∷ [])) c
+  -- a list and then another
+  pub append-below : (xs ys : List Call) (c : Copy)
+      → runBelow (xs ++ ys) c
       ≡ record {
-        replies = runBelow xs c .replies ++ (stepBelow x (runBelow xs c .copy) .reply ∷ []);
-        copy = stepBelow x (runBelow xs c .copy) .copy;
+        replies = runBelow xs c .replies ++ runBelow ys (runBelow xs c .copy) .replies;
+        copy = runBelow ys (runBelow xs c .copy) .copy;
       }
-  last-below [] x c = refl
-  last-below (y ∷ xs) x c = ap (followed (stepBelow y c .reply)) (last-below xs x (stepBelow y c .copy))
+  append-below [] ys c = refl
+  append-below (x ∷ xs) ys c = ap (followed (stepBelow x c .reply)) (append-below xs ys (stepBelow x c .copy))
 
   -- the places that the looks of a list tell
   abbrev pub lookedBelow : Call → Copy → Looked
@@ -68,14 +68,13 @@ module _ (f : Name → List ℕ → ℕ → List ℕ) where
   also-append true l ls ms = refl
   also-append false l ls ms = refl
 
-  -- a list and one call more
-  pub last-place : (xs : List Call) (x : Call) (c : Copy)
-      → placesBelow (xs ++ (x ∷ [])) c
-      ≡ placesBelow xs c ++ also (isLook (x .kind)) (lookedBelow x (runBelow xs c .copy)) []
-  last-place [] x c = refl
-  last-place (y ∷ xs) x c =
-      ap (also (isLook (y .kind)) (lookedBelow y c)) (last-place xs x (stepBelow y c .copy))
-      ∙ also-append (isLook (y .kind)) (lookedBelow y c) (placesBelow xs (stepBelow y c .copy)) _
+  -- a list and then another
+  pub append-places : (xs ys : List Call) (c : Copy)
+      → placesBelow (xs ++ ys) c ≡ placesBelow xs c ++ placesBelow ys (runBelow xs c .copy)
+  append-places [] ys c = refl
+  append-places (x ∷ xs) ys c =
+      ap (also (isLook (x .kind)) (lookedBelow x c)) (append-places xs ys (stepBelow x c .copy))
+      ∙ also-append (isLook (x .kind)) (lookedBelow x c) (placesBelow xs (stepBelow x c .copy)) _
 
   -- some call of the list passes a test, on what the rows below the first make of a copy
   abbrev pub someBelow : (Call → Store → Bool) → List Call → Copy → Bool

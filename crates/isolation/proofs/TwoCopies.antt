@@ -14,7 +14,7 @@ use Rattle.store.specs.declared.Cluster.{Cluster}
 use Rattle.store.specs.Records.{Table, tableOf, placeOf}
 use Rattle.calls.specs.declared.Looked.{Looked}
 use Rattle.calls.specs.Calls.{Copy, Call, call, Arguments, Kind, newCluster, deleteCluster, newSegment, deleteSegment}
-use Rattle.calls.specs.Calls.{read, write, weaken, reduce, newPassword, freeze, validate, look, isLook, opens, buffer}
+use Rattle.calls.specs.Calls.{read, write, weaken, reduce, newPassword, freeze, join, validate, look, isLook, opens, buffer}
 use Rattle.calls.specs.Numbers.{number}
 use Rattle.calls.specs.Steps.{Reply, plain, left, outcome, step, run}
 use Rattle.isolation.specs.Copies.{SoundCopy, Done, InPlace, setApart, Alike, Held, Shut, AllShut, also, places}
@@ -63,6 +63,7 @@ module _ (node local : ℕ) (high : node < nodes) (low : local < clusters) (f : 
     shut-held reduce s e = opening-held reduce refl s e
     shut-held newPassword s e = opening-held newPassword refl s e
     shut-held freeze s e = opening-held freeze refl s e
+    shut-held join s e = opening-held join refl s e
     shut-held validate s e = opening-held validate refl s e
     shut-held look s e = opening-held look refl s e
 

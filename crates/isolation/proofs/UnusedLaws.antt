@@ -7,7 +7,7 @@ use mathlib.Core.List.{List}
 use lib.ListN.{length}
 use Rattle.handle.specs.Handles.{Name}
 use Rattle.calls.specs.Calls.{Copy, Call, call, Arguments, Kind, newCluster, deleteCluster, newSegment, deleteSegment}
-use Rattle.calls.specs.Calls.{read, write, weaken, reduce, newPassword, freeze, validate, look, uses, buffer}
+use Rattle.calls.specs.Calls.{read, write, weaken, reduce, newPassword, freeze, join, validate, look, uses, buffer}
 use Rattle.calls.specs.Numbers.{number, tests}
 use Rattle.calls.specs.Steps.{plain, effects}
 use Rattle.calls.specs.Steps.{left, given, outcome, step}
@@ -32,6 +32,7 @@ module _ (f : Name → List ℕ → ℕ → List ℕ) where
   same reduce g c = record { number = refl; left = refl; given = refl; buffer = refl }
   same newPassword g c = record { number = refl; left = refl; given = refl; buffer = refl }
   same freeze g c = record { number = refl; left = refl; given = refl; buffer = refl }
+  same join g c = record { number = refl; left = refl; given = refl; buffer = refl }
   same validate g c = record { number = refl; left = refl; given = refl; buffer = refl }
   same look g c = record { number = refl; left = refl; given = refl; buffer = refl }
 

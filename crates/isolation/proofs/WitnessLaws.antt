@@ -1,6 +1,6 @@
 -- The hypotheses of condition 3 are met by two differing copies, so the theorem applies to them. All is computed, but for
--- the memory, whose bytes outside the segment are compared place by place, and for the last call: its handle's password is
--- an open conversion's, and equals what the chain gives byte by byte.
+-- the memory, whose bytes outside the segment are compared place by place, and for the last calls: their handles' passwords
+-- are an open conversion's, and equal what the chain gives byte by byte.
 -- Assumes nothing.
 use mathlib.Core.Bool.{Bool, true, false, not, _||_, cond}
 use mathlib.Core.List.{List, [], _∷_, _++_}
@@ -10,11 +10,12 @@ use native.Mathlib.Omega.{arith}
 use lib.Dec.{eqb}
 use lib.ListN.{length, getD}
 use borrow.Author.Tests.{eq-eqb}
+use Rattle.loops.specs.Below.{every}
 use Rattle.loops.specs.Tabulate.{tabulate}
 use Rattle.loops.proofs.BelowLaws.{every-in}
 use Rattle.loops.proofs.TabulateLaws.{getD-tabulate}
 use Rattle.sizes.specs.Sizes.{memory}
-use Rattle.handle.specs.Handles.{Name}
+use Rattle.handle.specs.Handles.{Name, decoded}
 use Rattle.handle.proofs.CodecLaws.{listed}
 use Rattle.store.specs.declared.Place.the-variants.{Present}
 use Rattle.store.specs.declared.Store.{Store}
@@ -22,18 +23,19 @@ use Rattle.store.specs.declared.Cluster.{Cluster}
 use Rattle.store.specs.Records.{startingStore, started, tableAt, placeOn, putRecord, withPlace, withMark}
 use Rattle.store.proofs.ChangeLaws.{put-other}
 use Rattle.calls.specs.declared.Looked.{Looked}
-use Rattle.calls.specs.Calls.{Copy, handleOf}
-use Rattle.calls.specs.Steps.{Ran, Outcome, effects, outcome, run}
+use Rattle.calls.specs.Calls.{Copy, Call}
+use Rattle.calls.specs.Steps.{Reply, Ran, followed, Outcome, effects, outcome, run}
 use Rattle.isolation.specs.Copies.{SixteenBytes, SoundCopy, InPlace, Outside, Alike, Held, keyed, places}
 use Rattle.isolation.specs.Statements.{Agreed}
 use Rattle.calls.specs.Literals.{sixteen, none, told, shows}
 use Rattle.calls.specs.Looks.{lookedBy}
 use Rattle.calls.specs.Written.{telling}
-use Rattle.isolation.specs.Witness.{one, two, weakGiven, weakShown, before, last, lastLook, tries, answersBefore, answers}
-use Rattle.isolation.specs.Witness.{holding, toldPlaces, Still, Witnessed, Concluded, rightRead, rightLook, Bites}
+use Rattle.isolation.specs.Witness.{one, two, weakGiven, weakShown, before, last, lastLook, lastJoin, tries}
+use Rattle.isolation.specs.Witness.{answersBefore, answersAfter, answers, holding, toldPlaces, Still, Witnessed, Concluded}
+use Rattle.isolation.specs.Witness.{rightRead, rightLook, rightJoin, Bites}
 use Rattle.calls.proofs.StepLaws.{numberBelow, number-below}
-use Rattle.isolation.proofs.RunLaws.{stepBelow, step-below, runBelow, run-below, last-below, someBelow, isKeyed, shut-below}
-use Rattle.isolation.proofs.RunLaws.{lookedBelow, placesBelow, places-below, last-place}
+use Rattle.isolation.proofs.RunLaws.{stepBelow, step-below, runBelow, run-below, append-below, someBelow, isKeyed, shut-below}
+use Rattle.isolation.proofs.RunLaws.{lookedBelow, placesBelow, places-below, append-places}
 use Rattle.calls.specs.Numbers.{valid, violated, tests, otherTests}
 use Rattle.calls.proofs.Computing.{computing, sounding}
 use Rattle.isolation.proofs.TwoCopies.{two-copies}
@@ -91,7 +93,7 @@ module _ (f : Name → List ℕ → ℕ → List ℕ) where
   unfolding tests effects computing
   replies-before = refl
 
-  -- the records before the last call: the other node's cluster has its segment, and the one that is frozen stays
+  -- the records before the last calls: the other node's cluster has its segment, and the one that is frozen stays
   abbrev records : Store
   records =
       putRecord (putRecord (one .store) 4 (withMark (withPlace (started (sixteen 3) (sixteen 4)) 6 (Present 4 1)) 6)) 26
@@ -101,68 +103,82 @@ module _ (f : Name → List ℕ → ℕ → List ℕ) where
   unfolding tests effects computing
   records-before = refl
 
-  -- ---- the read with the weakened handle, whose password is what the chain gives, byte by byte
+  -- ---- the calls with weakened handles, whose passwords are what the chain gives, byte by byte
 
-  abbrev weakByte : ℕ → ℕ
-  weakByte k = getD (f other (sixteen 3) 128) k 0
+  abbrev weakByte : ℕ → ℕ → ℕ
+  weakByte c k = getD (f other (sixteen 3) c) k 0
 
-  valid-last : valid f 1 (handleOf (last f)) records ≡ true
-  unfolding valid computing tabulate
-  valid-last =
-      every-in 16 (λ k. eqb (weakByte k) (getD (tabulate 16 weakByte) k 0))
+  same-bytes : (c : ℕ) → every 16 (λ k. eqb (weakByte c k) (getD (tabulate 16 (weakByte c)) k 0)) ≡ true
+  same-bytes c =
+      every-in 16 (λ k. eqb (weakByte c k) (getD (tabulate 16 (weakByte c)) k 0))
       (λ k h.
-      eq-eqb (weakByte k) (getD (tabulate 16 weakByte) k 0) (sym (getD-tabulate 16 weakByte 0 k h)))
+      eq-eqb (weakByte c k) (getD (tabulate 16 (weakByte c)) k 0) (sym (getD-tabulate 16 (weakByte c) 0 k h)))
+
+  valid-first : valid f 1 (decoded (weakShown f 128)) records ≡ true
+  unfolding valid computing tabulate
+  valid-first = same-bytes 128
+
+  valid-second : valid f 1 (decoded (weakShown f 64)) records ≡ true
+  unfolding valid computing tabulate
+  valid-second = same-bytes 64
 
   not-violated : (violated f (last f) records ≡ false) × (violated f (lastLook f) records ≡ false)
   unfolding violated
-  not-violated = (ap (λ (b : Bool). not b || false) valid-last, ap (λ (b : Bool). not b || false) valid-last)
+  not-violated = (ap (λ (b : Bool). not b || false) valid-first, ap (λ (b : Bool). not b || false) valid-first)
+
+  not-violated-join : violated f (lastJoin f) records ≡ false
+  unfolding violated
+  not-violated-join = λ j. not (valid-first j) || (not (valid-second j) || false)
 
   number-last : (size : ℕ) → (numberBelow f (last f) records size ≡ 0) × (numberBelow f (lastLook f) records size ≡ 0)
   unfolding otherTests computing tabulate
   number-last size =
       (ap (λ (b : Bool). cond {A = ℕ} b 9 0) (not-violated .0), ap (λ (b : Bool). cond {A = ℕ} b 9 0) (not-violated .1))
 
+  number-join : (size : ℕ) → numberBelow f (lastJoin f) records size ≡ 0
+  unfolding otherTests computing tabulate
+  number-join size = ap (λ (b : Bool). cond {A = ℕ} b 9 0) not-violated-join
+
+  -- a call done on these records, that leaves the copy alone
+  done-after : (x : Call) (r : Reply) → numberBelow f x records (length (left .memory)) ≡ 0
+      → outcome f 0 x left ≡ record { copy = left; reply = r } → stepBelow f x left ≡ record { copy = left; reply = r }
+  done-after x r e q =
+      ap (λ (s : Store). outcome f (numberBelow f x s (length (left .memory))) x left) records-before
+      ∙ ap (λ (n : ℕ). outcome f n x left) e
+      ∙ q
+
   step-last : stepBelow f (last f) left ≡ record { copy = left; reply = told 0 none none 0 2 (8 ∷ 9 ∷ 3 ∷ []) }
   unfolding tests effects computing tabulate
-  step-last =
-      ap (λ (s : Store). outcome f (numberBelow f (last f) s (length (left .memory))) (last f) left) records-before
-      ∙ ap (λ (n : ℕ). outcome f n (last f) left) (number-last (length (left .memory)) .0)
-      ∙ refl
+  step-last = done-after (last f) _ (number-last (length (left .memory)) .0) refl
 
   step-look : stepBelow f (lastLook f) left ≡ record { copy = left; reply = shows 0 (8 ∷ 9 ∷ []) }
   unfolding tests effects computing tabulate
-  step-look =
-      ap (λ (s : Store). outcome f (numberBelow f (lastLook f) s (length (left .memory))) (lastLook f) left) records-before
-      ∙ ap (λ (n : ℕ). outcome f n (lastLook f) left) (number-last (length (left .memory)) .1)
-      ∙ refl
+  step-look = done-after (lastLook f) _ (number-last (length (left .memory)) .1) refl
 
-  ended-last : runBelow f (before f ++ (last f ∷ [])) one
-      ≡ record { replies = answersBefore f ++ (told 0 none none 0 2 (8 ∷ 9 ∷ 3 ∷ []) ∷ []); copy = left }
-  ended-last =
-      last-below f (before f) (last f) one
-      ∙ (λ j. record { replies = replies-before j ++ (step-last j .reply ∷ []); copy = step-last j .copy })
+  step-join : stepBelow f (lastJoin f) left ≡ record { copy = left; reply = told 0 (weakGiven f 192) none 0 0 [] }
+  unfolding tests effects computing tabulate
+  step-join = done-after (lastJoin f) _ (number-join (length (left .memory))) refl
+
+  ended-after : runBelow f (last f ∷ lastLook f ∷ lastJoin f ∷ []) left ≡ record { replies = answersAfter f; copy = left }
+  ended-after =
+      ap (λ (o : Outcome). followed (o .reply) (runBelow f (lastLook f ∷ lastJoin f ∷ []) (o .copy))) step-last
+      ∙ ap (λ (o : Outcome). followed read (followed (o .reply) (runBelow f (lastJoin f ∷ []) (o .copy)))) step-look
+      ∙ ap (λ (o : Outcome). followed read (followed looked (followed (o .reply) (runBelow f [] (o .copy))))) step-join
+    where
+      read : Reply
+      read = told 0 none none 0 2 (8 ∷ 9 ∷ 3 ∷ [])
+
+      looked : Reply
+      looked = shows 0 (8 ∷ 9 ∷ [])
 
   ended : run f (tries f) one ≡ record { replies = answers f; copy = left }
   ended =
       run-below f (tries f) one sound-one
-      ∙ last-below f (before f ++ (last f ∷ [])) (lastLook f) one
-      ∙ ap
-      (λ (r : Ran).
-      record {
-        replies = r .replies ++ (stepBelow f (lastLook f) (r .copy) .reply ∷ []);
-        copy = stepBelow f (lastLook f) (r .copy) .copy;
-      })
-      ended-last
-      ∙ ap
-      (λ (o : Outcome).
-      record {
-        replies = (answersBefore f ++ (told 0 none none 0 2 (8 ∷ 9 ∷ 3 ∷ []) ∷ [])) ++ (o .reply ∷ []);
-        copy = o .copy;
-      })
-      step-look
+      ∙ append-below f (before f) (last f ∷ lastLook f ∷ lastJoin f ∷ []) one
+      ∙ (λ j. record { replies = replies-before j ++ ended-after j .replies; copy = ended-after j .copy })
 
   -- the places that the looks tell
-  places-before : placesBelow f (before f) one ++ [] ≡ telling 9 0 0 ∷ telling 0 4 6 ∷ telling 0 12288 12290 ∷ telling 5 0 0 ∷ []
+  places-before : placesBelow f (before f) one ≡ telling 9 0 0 ∷ telling 0 4 6 ∷ telling 0 12288 12290 ∷ telling 5 0 0 ∷ []
   unfolding tests effects computing
   places-before = refl
 
@@ -176,12 +192,8 @@ module _ (f : Name → List ℕ → ℕ → List ℕ) where
   placed : places f (tries f) one ≡ toldPlaces
   placed =
       places-below f (tries f) one sound-one
-      ∙ last-place f (before f ++ (last f ∷ [])) (lastLook f) one
-      ∙ ap (λ (ls : List Looked). ls ++ (lookedBelow f (lastLook f) (runBelow f (before f ++ (last f ∷ [])) one .copy) ∷ []))
-      (last-place f (before f) (last f) one)
-      ∙ ap
-      (λ (r : Ran). (placesBelow f (before f) one ++ []) ++ (lookedBelow f (lastLook f) (r .copy) ∷ []))
-      ended-last
+      ∙ append-places f (before f) (last f ∷ lastLook f ∷ lastJoin f ∷ []) one
+      ∙ ap (λ (o : Outcome). placesBelow f (before f) one ++ (lookedBelow f (lastLook f) (o .copy) ∷ [])) step-last
       ∙ (λ j. places-before j ++ (place-look j ∷ []))
 
   -- no call is keyed, on what the rows below the first make of a copy
@@ -193,10 +205,10 @@ module _ (f : Name → List ℕ → ℕ → List ℕ) where
   unfolding keyed tests effects computing tabulate
   unkeyed-two = refl
 
-  weak : SixteenBytes f → weakGiven f ≡ weakShown f
-  weak gives =
-      ap (λ (p : List ℕ). 0 ∷ 3 ∷ 2 ∷ (p ++ (128 ∷ 255 ∷ 255 ∷ 255 ∷ [])))
-      (listed 16 (f other (sixteen 3) 128) (gives other (sixteen 3) 128))
+  weak : SixteenBytes f → (c : ℕ) → weakGiven f c ≡ weakShown f c
+  weak gives c =
+      ap (λ (p : List ℕ). 0 ∷ 3 ∷ 2 ∷ (p ++ (c ∷ 255 ∷ 255 ∷ 255 ∷ [])))
+      (listed 16 (f other (sixteen 3) c) (gives other (sixteen 3) c))
 
   pub witnessed : Witnessed f
   witnessed =
@@ -236,11 +248,14 @@ module _ (f : Name → List ℕ → ℕ → List ℕ) where
       }
 
   pub bites : Bites f
-  unfolding tests effects computing
+  unfolding keyed tests effects computing
   bites =
       record {
         done = number-below f rightRead (one .store) memory sound-one ∙ refl;
         refused = number-below f rightRead (two .store) memory sound-two ∙ refl;
         looked = ap (λ (o : Outcome). o .reply) (step-below f rightLook one sound-one);
         hidden = ap (λ (o : Outcome). o .reply) (step-below f rightLook two sound-two);
+        whole = number-below f rightJoin (one .store) memory sound-one ∙ refl;
+        unjoined = number-below f rightJoin (two .store) memory sound-two ∙ refl;
+        asked-second = refl;
       }

@@ -5,11 +5,13 @@
 --     RefusalChangesNothing    condition 1: a call whose number is not 0 is so refused, with that number
 --     FirstTold            condition 1: the number is that of a row which applies and above which none applies
 --     MustHold k x s       the column "Must hold" for the kind k:
---       Opener m             the handle validates in the mode m, is not gapped, and its cluster is active
---       Primary m            the same, and all its subselectors are flat
+--       Opener m h           the handle h validates in the mode m, is not gapped, and its cluster is active
+--       Primary m            the call's handle is such a one, and all its subselectors are flat
 --       Owner                it is a write primary handle of the current node
 --       Access m             it validates in the mode m and references the segment
 --       Local                it does so for reading, and its node is the current one
+--       Pair m               each of the two handles of a join is such a one, they name one cluster, and some segment is
+--                            referenced by neither
 --       Fresh                the cluster is inactive, and the two passwords differ
 --     DoneHeld             a call done had what must hold
 --     Judgeable g s size   validation by the arguments g gets as far as row 9: the store is sound, the place exists,
@@ -29,16 +31,17 @@ use mathlib.Core.Bool.{Bool, true, false}
 use mathlib.Core.List.{List, [], _∷_, _++_}
 use lib.ListN.{length}
 use Rattle.sizes.specs.Sizes.{passwordBytes}
+use Rattle.handle.specs.declared.Handle.{Handle}
 use Rattle.handle.specs.Sizes.{handleBytes}
-use Rattle.handle.specs.Selectors.{references, allFlat, gapped}
+use Rattle.handle.specs.Selectors.{references, allFlat, gapped, wholeUnion}
 use Rattle.handle.specs.Handles.{Name, nameOf, nodeOf, widthOf, samePassword, noSuchPlace, through}
 use Rattle.handle.specs.Handles.{weakening}
 use Rattle.store.specs.declared.Store.{Store}
 use Rattle.store.specs.Records.{recordOf, clusterAt, tableAt, readMode, writeMode, primaryOf}
 use Rattle.store.specs.Sound.{sound}
 use Rattle.calls.specs.Calls.{Copy, Call, call, Arguments, Kind, newCluster, deleteCluster, newSegment, deleteSegment}
-use Rattle.calls.specs.Calls.{read, write, weaken, reduce, newPassword, freeze, validate, look, Uses, uses}
-use Rattle.calls.specs.Calls.{handleOf, buffer, recordNamed}
+use Rattle.calls.specs.Calls.{read, write, weaken, reduce, newPassword, freeze, join, validate, look, Uses, uses}
+use Rattle.calls.specs.Calls.{handleOf, otherOf, buffer, recordNamed}
 use Rattle.calls.specs.Numbers.{valid, rows, number}
 use Rattle.calls.specs.Clear.{Clear}
 use Rattle.calls.specs.Numbers.{Line, at}
@@ -65,6 +68,7 @@ trimmed u g =
       size = numberIf (u .size) (g .size);
       mask = numberIf (u .mask) (g .mask);
       handle = bytesIf (u .handle) (g .handle);
+      other = bytesIf (u .other) (g .other);
       first = bytesIf (u .first) (g .first);
       second = bytesIf (u .second) (g .second);
       bytes = bytesIf (u .bytes) (g .bytes);
@@ -93,13 +97,13 @@ module _ (f : Name → List ℕ → ℕ → List ℕ) where
 
   -- ---- the column "Must hold"
 
-  pub record Opener (mode : ℕ) (x : Call) (s : Store) : Type 0 where
-    pub valid : valid f mode (handleOf x) s ≡ true
-    pub even : gapped (widthOf (handleOf x)) (handleOf x .selector) ≡ false
-    pub active : tableAt s (recordNamed (handleOf x)) .active ≡ true
+  pub record Opener (mode : ℕ) (h : Handle) (s : Store) : Type 0 where
+    pub valid : valid f mode h s ≡ true
+    pub even : gapped (widthOf h) (h .selector) ≡ false
+    pub active : tableAt s (recordNamed h) .active ≡ true
 
   pub record Primary (mode : ℕ) (x : Call) (s : Store) : Type 0 where
-    pub opener : Opener mode x s
+    pub opener : Opener mode (handleOf x) s
     pub flat : allFlat (widthOf (handleOf x)) (handleOf x .selector) ≡ true
 
   pub record Owner (x : Call) (s : Store) : Type 0 where
@@ -107,12 +111,18 @@ module _ (f : Name → List ℕ → ℕ → List ℕ) where
     pub here : x .args .current ≡ nodeOf (handleOf x)
 
   pub record Access (mode : ℕ) (x : Call) (s : Store) : Type 0 where
-    pub opener : Opener mode x s
+    pub opener : Opener mode (handleOf x) s
     pub refers : references (handleOf x .selector) (x .args .segment) ≡ true
 
   pub record Local (x : Call) (s : Store) : Type 0 where
     pub access : Access readMode x s
     pub here : x .args .current ≡ nodeOf (handleOf x)
+
+  pub record Pair (mode : ℕ) (x : Call) (s : Store) : Type 0 where
+    pub first : Opener mode (handleOf x) s
+    pub second : Opener mode (otherOf x) s
+    pub one : nameOf (handleOf x) ≡ nameOf (otherOf x)
+    pub part : wholeUnion (widthOf (handleOf x)) (handleOf x .selector) (otherOf x .selector) ≡ false
 
   pub record Fresh (x : Call) (s : Store) : Type 0 where
     pub free : tableAt s (recordOf (x .args .current) (x .args .local)) .active ≡ false
@@ -126,10 +136,11 @@ module _ (f : Name → List ℕ → ℕ → List ℕ) where
   MustHold read x s = Access readMode x s
   MustHold write x s = Access writeMode x s
   MustHold weaken x s = Unit {0}
-  MustHold reduce x s = Opener (x .args .mode) x s
+  MustHold reduce x s = Opener (x .args .mode) (handleOf x) s
   MustHold newPassword x s = Primary (x .args .mode) x s
   MustHold freeze x s = Owner x s
-  MustHold validate x s = Opener (x .args .mode) x s
+  MustHold join x s = Pair (x .args .mode) x s
+  MustHold validate x s = Opener (x .args .mode) (handleOf x) s
   MustHold look x s = Local x s
 
   abbrev pub DoneHeld : Type 0

@@ -12,10 +12,10 @@
 --     Held a b          its record and its segments' bytes in b are those in a
 --     Unaltered a b     its table, its write password and its segments' bytes in b are those in a
 -- Over a conversion f:
---     keyed m x s       the call x opens a cluster, and some handle that it presents names this one, is not gapped and
---                       validates in the mode m; a weakening opens none. Gapped handles are refused whatever they hold,
---                       so that leaving them out asks less of a list
---     Shut x s          it is keyed in neither mode
+--     keyed m x s       the call x opens a cluster, and some handle that it presents, of a join the first or the second,
+--                       names this one, is not gapped and validates in the mode m; a weakening opens none. Gapped handles
+--                       are refused whatever they hold, so that leaving them out asks less of a list
+--     Shut x s          it is keyed in neither mode: so is asked of each handle that it presents
 --     AllShut, NoWriter    each call of a list is shut, or not keyed for writing, on the copy that it gets
 -- Of a list, for every conversion f:
 --     also t l ls       l before ls, where t is true

@@ -8,6 +8,8 @@
 --     RenewedOpens       call 9: the new handle names the cluster, references every segment and validates in the mode
 --                        named; the other password stays
 --     ReducedOpens       call 8: the handle validates in the mode named, and references the same segments
+--     JoinedOpens        call 11: the copy stays, and one handle is given, nothing else; it validates in the mode named,
+--                        references exactly the segments that either of the two references, and is not primary
 --     WeakenedOpens      call 7: the handle validates in each mode in which the old one does, and references those
 --                        segments of the old one that the mask keeps
 --     otherMode m        the mode that m is not
@@ -28,14 +30,14 @@ use mathlib.Core.Path.{_≡_}
 use mathlib.Core.Logic.{_≢_}
 use Prim.Native.Nat.{ℕ, _<_}
 use mathlib.Core.Bool.{Bool, true, false, _&&_}
-use mathlib.Core.List.{List, _++_}
+use mathlib.Core.List.{List, [], _++_}
 use lib.Dec.{eqb}
 use lib.ListN.{length, take, drop, replicate}
 use Rattle.bits.specs.Sets.{has}
 use Rattle.sizes.specs.Sizes as N
 use Rattle.handle.specs.declared.Handle.{Handle}
 use Rattle.handle.specs.Sizes.{handleBytes}
-use Rattle.handle.specs.Selectors.{references, gapped}
+use Rattle.handle.specs.Selectors.{references, either, allFlat, gapped}
 use Rattle.bits.specs.Bytes.{Bytes}
 use Rattle.handle.specs.Handles.{Name, nameOf, widthOf, decoded}
 use Rattle.store.specs.declared.Place.the-variants.{Absent}
@@ -44,10 +46,11 @@ use Rattle.store.specs.declared.Store.{Store}
 use Rattle.store.specs.Records.{inactive, tableOf, clusterAt, tableAt, segmentOf, placeOf}
 use Rattle.calls.specs.Calls.{Copy, Call, call, Arguments, Kind, newCluster, deleteCluster, newSegment, deleteSegment}
 use Rattle.store.specs.Records.{readMode, writeMode, lengthOf, primaryOf}
-use Rattle.calls.specs.Calls.{read, write, weaken, reduce, newPassword, freeze, validate, look}
-use Rattle.calls.specs.Calls.{handleOf, nodeFor, localFor, recordFor, placeFor}
+use Rattle.calls.specs.Calls.{read, write, weaken, reduce, newPassword, freeze, join, validate, look}
+use Rattle.calls.specs.Calls.{handleOf, otherOf, nodeFor, localFor, recordFor, placeFor}
 use Rattle.calls.specs.Numbers.{valid}
 use Rattle.calls.specs.Steps.{Outcome, step}
+use Rattle.calls.specs.Literals.{none, told}
 use Rattle.isolation.specs.Copies.{SoundCopy, Done, SixteenBytes}
 
 pub record Shaped (s : Store) : Type 0 where
@@ -106,6 +109,18 @@ module _ (f : Name → List ℕ → ℕ → List ℕ) where
       Bytes handleBytes (g .handle)
       → length (primaryOf (clusterAt (c .store) (recordFor x)) (g .mode)) ≡ N.passwordBytes
       → Done f x c → Reduced x (step f x c)
+
+  pub record Joined (x : Call) (c : Copy) (o : Outcome) : Type 0 where
+    pub stays : o .copy ≡ c
+    pub told : o .reply ≡ told 0 (o .reply .first) none 0 0 []
+    pub opens : valid f (x .args .mode) (decoded (o .reply .first)) (o .copy .store) ≡ true
+    pub handle : Refers (nameFor x) (either (handleOf x .selector) (otherOf x .selector)) (decoded (o .reply .first))
+    pub not-primary : allFlat (widthOf (decoded (o .reply .first))) (decoded (o .reply .first) .selector) ≡ false
+
+  abbrev pub JoinedOpens : Type 0
+  JoinedOpens =
+      SixteenBytes f → (g : Arguments) (c : Copy) → let x = call join g in
+      Bytes handleBytes (g .handle) → Done f x c → Joined x c (step f x c)
 
   pub record Weakened (x : Call) (c : Copy) (o : Outcome) : Type 0 where
     pub opens : (m : ℕ) → length (primaryOf (clusterAt (c .store) (recordFor x)) m) ≡ N.passwordBytes
@@ -176,6 +191,7 @@ Entries weaken x a b = b ≡ a
 Entries reduce x a b = b ≡ a
 Entries newPassword x a b = OtherPassword x a b
 Entries freeze x a b = OtherMarks x a b
+Entries join x a b = b ≡ a
 Entries validate x a b = b ≡ a
 Entries look x a b = b ≡ a
 

@@ -3,8 +3,8 @@
 --     theFreeze          a freeze of the cluster's segment, of four bytes
 --     attempts           it is frozen again; written to, with enough data and with too little; deleted, and made anew;
 --                        its cluster is deleted, and made anew; the same with a new write password; a segment beside it
---                        is made, written and deleted; a weakening, a reduction and a validation; another cluster of the
---                        node with a segment after it; and the frozen one is read and looked at
+--                        is made, written and deleted; a weakening, a reduction, a join and a validation; another cluster
+--                        of the node with a segment after it; and the frozen one is read and looked at
 --     marked             the copy `one` with the segment frozen
 --     attemptAnswers     what is answered to the freeze and to these
 --     otherwise          what the write handle does to the segment and the cluster where nothing is frozen
@@ -24,7 +24,7 @@ use Rattle.handle.specs.Handles.{Name}
 use Rattle.store.specs.declared.Place.the-variants.{Present}
 use Rattle.store.specs.Records.{startingStore, clusterAt, putRecord, withMark}
 use Rattle.calls.specs.Calls.{Copy, Call, makingCluster, deletingCluster, makingSegment, deletingSegment, reading}
-use Rattle.calls.specs.Calls.{writing, weakeningBy, reducing, renewing, freezing, validating, looking}
+use Rattle.calls.specs.Calls.{writing, weakeningBy, reducing, renewing, freezing, joining, validating, looking}
 use Rattle.calls.specs.Steps.{Reply, run}
 use Rattle.calls.specs.Literals.{sixteen, primary, none, told, shows}
 use Rattle.isolation.specs.Copies.{Done, Alike}
@@ -51,6 +51,7 @@ attempts =
     ∷ deletingCluster 0 (primary 0 2 6)
     ∷ weakeningBy 255 (primary 0 2 6)
     ∷ reducing 2 (primary 0 2 6)
+    ∷ joining 2 (primary 0 2 6) (primary 0 2 6)
     ∷ validating 2 (primary 0 2 6)
     ∷ makingCluster 0 3 (sixteen 3) (sixteen 4)
     ∷ makingSegment 0 5 4 (primary 0 3 4)
@@ -79,6 +80,7 @@ attemptAnswers =
     ∷ told 22 none none 0 0 []
     ∷ told 0 (primary 0 2 6) none 8 0 []
     ∷ told 0 (primary 0 2 6) none 0 0 []
+    ∷ told 23 none none 0 0 []
     ∷ told 0 none none 0 0 []
     ∷ told 0 (primary 0 3 3) (primary 0 3 4) 0 0 []
     ∷ told 0 none none 0 0 []

@@ -3,7 +3,8 @@
 --     weak b                    a handle of node 1 and local number 2 that references segment 5 alone: its password is
 --                               sixteen bytes b and 32, the parameter that keeps segment 5
 --     doneCalls, doneReplies    the calls and their whole replies; some take the highest node, local number, segment
---                               and size; a freeze is the last, since what is frozen stays
+--                               and size; a read takes the handle that a join gives; a freeze is the last, since what is
+--                               frozen stays
 --     seen                      what is looked at in the end: the replies, the records, three bytes of the memory
 --     frozenStore               the starting store but for one cluster, whose segment is frozen
 --     EachDone                  they are the replies; the records are those, and the bytes written stay
@@ -20,7 +21,7 @@ use Rattle.calls.specs.Calls.{start, Call}
 use Rattle.calls.specs.Steps.{Reply, Ran, run}
 use Rattle.calls.specs.Cases.{added}
 use Rattle.calls.specs.Calls.{makingCluster, deletingCluster, makingSegment, deletingSegment, reading}
-use Rattle.calls.specs.Calls.{writing, weakeningBy, reducing, renewing, freezing, validating, looking}
+use Rattle.calls.specs.Calls.{writing, weakeningBy, reducing, renewing, freezing, joining, validating, looking}
 use Rattle.calls.specs.Literals.{sixteen, handle, primary, none, told, shows}
 
 abbrev weak : ℕ → List ℕ
@@ -36,6 +37,8 @@ doneCalls =
     ∷ reading 5 (weak 3) (0 ∷ 0 ∷ 0 ∷ 6 ∷ [])
     ∷ looking 1 5 (weak 3)
     ∷ reducing 1 (weak 3)
+    ∷ joining 1 (handle 1 2 19 (16 ∷ 255 ∷ 255 ∷ 255 ∷ [])) (weak 3)
+    ∷ reading 5 (handle 1 2 51 (48 ∷ 255 ∷ 255 ∷ 255 ∷ [])) (6 ∷ 6 ∷ 6 ∷ [])
     ∷ validating 2 (primary 1 2 4)
     ∷ renewing 1 (primary 1 2 3) (sixteen 5)
     ∷ validating 1 (primary 1 2 3)
@@ -60,6 +63,8 @@ doneReplies =
     ∷ told 0 none none 0 3 (7 ∷ 8 ∷ 9 ∷ 6 ∷ [])
     ∷ shows 0 (7 ∷ 8 ∷ 9 ∷ [])
     ∷ told 0 (weak 3) none 0 0 []
+    ∷ told 0 (handle 1 2 51 (48 ∷ 255 ∷ 255 ∷ 255 ∷ [])) none 0 0 []
+    ∷ told 0 none none 0 3 (7 ∷ 8 ∷ 9 ∷ [])
     ∷ told 0 none none 0 0 []
     ∷ told 0 (primary 1 2 5) none 0 0 []
     ∷ told 9 none none 0 0 []

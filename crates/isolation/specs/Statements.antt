@@ -8,9 +8,11 @@
 --       others                  at the end the bytes of every segment of another cluster are equal
 --       held-first, held-second    in each copy the cluster's record and segment bytes are what they were at the start
 --     TwoCopies               condition 3: two sound copies, alike but for the segment bytes and the passwords of one
---                             active cluster, of which no call presents a handle that validates in either copy
---     ReadersAlterNothing     where no call of a list presents a handle of a cluster that validates for writing, its
---                             table, its write password and its segments' bytes are at the end what they were
+--                             active cluster, of which no call presents a handle that validates in either copy, a join
+--                             neither as its first nor as its second
+--     ReadersAlterNothing     where no call of a list presents a handle of a cluster that validates for writing, a join
+--                             neither as its first nor as its second, the cluster's table, its write password and its
+--                             segments' bytes are at the end what they were
 --     Touched k x ts p        address p is a byte of the segment that the call x, of the kind k, makes or writes
 --     OnlyItsOwn x c          the call x on the copy c leaves every record but that of its own cluster as it was, and
 --                             every byte but those of the segment that it makes or writes
@@ -27,7 +29,7 @@ use Rattle.sizes.specs.Sizes.{nodes, clusters, segments}
 use Rattle.handle.specs.Handles.{Name}
 use Rattle.store.specs.Records.{Tables, recordOf, clusterAt, tableAt, placeOn}
 use Rattle.calls.specs.Calls.{Copy, start, Call, Kind, newCluster, deleteCluster, newSegment, deleteSegment}
-use Rattle.calls.specs.Calls.{read, write, weaken, reduce, newPassword, freeze, validate, look, nodeFor, localFor, recordFor}
+use Rattle.calls.specs.Calls.{read, write, weaken, reduce, newPassword, freeze, join, validate, look, nodeFor, localFor, recordFor}
 use Rattle.calls.specs.Calls.{placeFor}
 use Rattle.calls.specs.Steps.{newPlace, step, run}
 use Rattle.isolation.specs.Copies.{SoundCopy, InPlace, setApart, Alike, Held, Unaltered, AllShut, NoWriter, places}
@@ -46,6 +48,7 @@ Touched weaken x ts p = ⊥
 Touched reduce x ts p = ⊥
 Touched newPassword x ts p = ⊥
 Touched freeze x ts p = ⊥
+Touched join x ts p = ⊥
 Touched validate x ts p = ⊥
 Touched look x ts p = ⊥
 

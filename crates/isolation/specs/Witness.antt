@@ -2,26 +2,31 @@
 -- Handles and answers are written out, and no call shown here is left out of condition 3's lists.
 --     holding r w b       a copy in which its passwords are sixteen r and sixteen w, and its four bytes b
 --     one, two            two such copies that differ in all of these
---     rightRead, rightLook    a read and a look with the read primary handle of the copy one
+--     rightRead, rightLook, rightJoin    a read, a look and a join with the read primary handle of the copy one
+--     secondRight         a join whose second handle alone is that one; its first does not validate
 --     toldPlaces          what the looks among the calls below tell in both copies: the number, and from where to where the
 --                         part goes
 -- For every conversion f:
---     weakPassword        what the parameter 128 turns the read password of local number 2 of node 3 into
---     weakGiven           the bytes of the handle with that password, whose subselector 0 is 128
---     weakShown           with the first sixteen bytes of that password; the same, where f gives sixteen bytes
---     before              each of the ten calls, validation and a look with a handle of the cluster that does not
+--     weakPassword c      what the parameter c turns the read password of local number 2 of node 3 into
+--     weakGiven c         the bytes of the handle with that password, whose subselector 0 is c
+--     weakShown c         with the first sixteen bytes of that password; the same, where f gives sixteen bytes
+--     before              each of the eleven calls, validation and a look with a handle of the cluster that does not
 --                         validate, all refused, and a weakening of one that does; each of them done for a cluster of the
---                         same node, a freeze for a second one, which is then not deleted; and some for one with the same
---                         local number, whose read handle is weakened, with looks from its node, one of them with a
---                         handle of the cluster set apart
---     last, lastLook      a read and a look with the weakened handle
+--                         same node, a freeze for a second one, which is then not deleted, and a join refused: because of
+--                         its second handle alone, once one that does not validate and once one of the cluster set apart,
+--                         and because the union is all eight; and some for one with the same local number, whose read
+--                         handle is weakened twice, with looks from its node, one of them with a handle of the cluster set
+--                         apart
+--     last, lastLook      a read and a look with a weakened handle
+--     lastJoin            a join of the two weakened ones
 --     tries, answers      all these calls, and what both copies answer
 --     Witnessed           the copies and the list meet each hypothesis of condition 3, and the answers are computed
 --     Concluded           what condition 3 says of them: the other copy gives these answers and places too; the record
 --                         and a byte of the last cluster, record 26, are equal in the end; and each copy has its
 --                         passwords and bytes still
 --     Bites               the read is done on the copy one and refused with 9 on the other; the look shows the segment's
---                         bytes on the one, and is refused on the other
+--                         bytes on the one, and is refused on the other; the join gets as far as 23 on the one, and 9 on
+--                         the other; and what is asked of a handle is asked of a join's second handle too
 -- Assumes nothing.
 use mathlib.Core.Path.{_≡_}
 use Prim.Native.Nat.{ℕ, _-_, _<_}
@@ -32,15 +37,15 @@ use Rattle.loops.specs.Tabulate.{tabulate}
 use Rattle.sizes.specs.Sizes.{memory}
 use Rattle.handle.specs.Handles.{Name}
 use Rattle.store.specs.declared.Place.the-variants.{Present}
-use Rattle.store.specs.Records.{startingStore, started, recordOf, clusterAt, tableAt, putRecord, withPlace}
+use Rattle.store.specs.Records.{startingStore, started, recordOf, clusterAt, tableAt, putRecord, withPlace, readMode}
 use Rattle.calls.specs.Calls.{Copy, Call, makingCluster, deletingCluster, makingSegment, deletingSegment, reading}
-use Rattle.calls.specs.Calls.{writing, weakeningBy, reducing, renewing, freezing, validating, looking}
+use Rattle.calls.specs.Calls.{writing, weakeningBy, reducing, renewing, freezing, joining, validating, looking}
 use Rattle.calls.specs.Numbers.{number}
 use Rattle.calls.specs.Steps.{Reply, step, run}
 use Rattle.calls.specs.Literals.{sixteen, handle, primary, none, told, shows}
 use Rattle.calls.specs.declared.Looked.{Looked}
 use Rattle.calls.specs.Written.{telling}
-use Rattle.isolation.specs.Copies.{SixteenBytes, SoundCopy, setApart, Alike, AllShut, places}
+use Rattle.isolation.specs.Copies.{SixteenBytes, SoundCopy, setApart, Alike, keyed, AllShut, places}
 
 abbrev pub holding : ℕ → ℕ → ℕ → Copy
 holding r w b =
@@ -61,6 +66,12 @@ rightRead = reading 5 (primary 0 2 17) (replicate 6 9)
 abbrev pub rightLook : Call
 rightLook = looking 0 5 (primary 0 2 17)
 
+abbrev pub rightJoin : Call
+rightJoin = joining 1 (primary 0 2 17) (primary 0 2 17)
+
+abbrev pub secondRight : Call
+secondRight = joining 1 (primary 0 2 5) (primary 0 2 17)
+
 -- what a copy that was holding these passwords and bytes has still
 pub record Still (c : Copy) (r w b : ℕ) : Type 0 where
   pub read : clusterAt (c .store) 2 .read ≡ sixteen r
@@ -77,14 +88,14 @@ toldPlaces =
     ∷ []
 
 module _ (f : Name → List ℕ → ℕ → List ℕ) where
-  abbrev weakPassword : List ℕ
-  weakPassword = f (record { node = 3; local = 2 }) (sixteen 3) 128
+  abbrev weakPassword : ℕ → List ℕ
+  weakPassword c = f (record { node = 3; local = 2 }) (sixteen 3) c
 
-  abbrev pub weakGiven : List ℕ
-  weakGiven = 0 ∷ 3 ∷ 2 ∷ (weakPassword ++ (128 ∷ 255 ∷ 255 ∷ 255 ∷ []))
+  abbrev pub weakGiven : ℕ → List ℕ
+  weakGiven c = 0 ∷ 3 ∷ 2 ∷ (weakPassword c ++ (c ∷ 255 ∷ 255 ∷ 255 ∷ []))
 
-  abbrev pub weakShown : List ℕ
-  weakShown = 0 ∷ 3 ∷ 2 ∷ (tabulate 16 (λ k. getD weakPassword k 0) ++ (128 ∷ 255 ∷ 255 ∷ 255 ∷ []))
+  abbrev pub weakShown : ℕ → List ℕ
+  weakShown c = 0 ∷ 3 ∷ 2 ∷ (tabulate 16 (λ k. getD (weakPassword c) k 0) ++ (c ∷ 255 ∷ 255 ∷ 255 ∷ []))
 
   abbrev pub before : List Call
   before =
@@ -100,6 +111,7 @@ module _ (f : Name → List ℕ → ℕ → List ℕ) where
       ∷ reducing 1 (primary 0 2 5)
       ∷ renewing 1 (primary 0 2 5) (sixteen 6)
       ∷ freezing 0 5 (primary 0 2 5)
+      ∷ joining 1 (primary 0 2 5) (primary 0 2 6)
       ∷ validating 2 (primary 0 2 5)
       ∷ looking 0 5 (primary 0 2 5)
       -- a cluster of the same node
@@ -110,6 +122,9 @@ module _ (f : Name → List ℕ → ℕ → List ℕ) where
       ∷ looking 0 7 (primary 0 3 3)
       ∷ weakeningBy 255 (primary 0 3 3)
       ∷ reducing 2 (primary 0 3 4)
+      ∷ joining 1 (primary 0 3 3) (primary 0 3 5)
+      ∷ joining 1 (primary 0 3 3) (primary 0 2 5)
+      ∷ joining 2 (primary 0 3 4) (primary 0 3 4)
       ∷ renewing 2 (primary 0 3 4) (sixteen 6)
       ∷ validating 2 (primary 0 3 6)
       ∷ deletingSegment 0 7 (primary 0 3 6)
@@ -126,16 +141,20 @@ module _ (f : Name → List ℕ → ℕ → List ℕ) where
       ∷ looking 3 7 (primary 3 2 3)
       ∷ looking 3 5 (primary 0 2 5)
       ∷ weakeningBy 128 (primary 3 2 3)
+      ∷ weakeningBy 64 (primary 3 2 3)
       ∷ []
 
   abbrev pub last : Call
-  last = reading 7 weakShown (1 ∷ 2 ∷ 3 ∷ [])
+  last = reading 7 (weakShown 128) (1 ∷ 2 ∷ 3 ∷ [])
 
   abbrev pub lastLook : Call
-  lastLook = looking 3 7 weakShown
+  lastLook = looking 3 7 (weakShown 128)
+
+  abbrev pub lastJoin : Call
+  lastJoin = joining 1 (weakShown 128) (weakShown 64)
 
   abbrev pub tries : List Call
-  tries = (before ++ (last ∷ [])) ++ (lastLook ∷ [])
+  tries = before ++ (last ∷ lastLook ∷ lastJoin ∷ [])
 
   abbrev pub answersBefore : List Reply
   answersBefore =
@@ -151,6 +170,7 @@ module _ (f : Name → List ℕ → ℕ → List ℕ) where
       ∷ told 9 none none 0 0 []
       ∷ told 9 none none 0 0 []
       ∷ told 9 none none 0 0 []
+      ∷ told 9 none none 0 0 []
       ∷ shows 9 []
       -- a cluster of the same node
       ∷ told 0 (primary 0 3 3) (primary 0 3 4) 0 0 []
@@ -160,6 +180,9 @@ module _ (f : Name → List ℕ → ℕ → List ℕ) where
       ∷ shows 0 (5 ∷ 6 ∷ [])
       ∷ told 0 (primary 0 3 3) none 8 0 []
       ∷ told 0 (primary 0 3 4) none 0 0 []
+      ∷ told 9 none none 0 0 []
+      ∷ told 24 none none 0 0 []
+      ∷ told 23 none none 0 0 []
       ∷ told 0 (primary 0 3 6) none 0 0 []
       ∷ told 0 none none 0 0 []
       ∷ told 0 none none 0 0 []
@@ -175,11 +198,19 @@ module _ (f : Name → List ℕ → ℕ → List ℕ) where
       ∷ told 0 none none 0 0 (8 ∷ 9 ∷ [])
       ∷ shows 0 (8 ∷ 9 ∷ [])
       ∷ shows 5 []
-      ∷ told 0 weakGiven none 1 0 []
+      ∷ told 0 (weakGiven 128) none 1 0 []
+      ∷ told 0 (weakGiven 64) none 1 0 []
+      ∷ []
+
+  abbrev pub answersAfter : List Reply
+  answersAfter =
+      told 0 none none 0 2 (8 ∷ 9 ∷ 3 ∷ [])
+      ∷ shows 0 (8 ∷ 9 ∷ [])
+      ∷ told 0 (weakGiven 192) none 0 0 []
       ∷ []
 
   abbrev pub answers : List Reply
-  answers = (answersBefore ++ (told 0 none none 0 2 (8 ∷ 9 ∷ 3 ∷ []) ∷ [])) ++ (shows 0 (8 ∷ 9 ∷ []) ∷ [])
+  answers = answersBefore ++ answersAfter
 
   pub record Witnessed : Type 0 where
     pub sound-one : SoundCopy one
@@ -190,7 +221,7 @@ module _ (f : Name → List ℕ → ℕ → List ℕ) where
     pub shut-two : AllShut 0 2 f tries two
     pub replies : run f tries one .replies ≡ answers
     pub places : places f tries one ≡ toldPlaces
-    pub weak : SixteenBytes f → weakGiven ≡ weakShown
+    pub weak : SixteenBytes f → (c : ℕ) → weakGiven c ≡ weakShown c
 
   pub record Concluded : Type 0 where
     pub replies : run f tries two .replies ≡ answers
@@ -205,3 +236,6 @@ module _ (f : Name → List ℕ → ℕ → List ℕ) where
     pub refused : number f rightRead (two .store) memory ≡ 9
     pub looked : step f rightLook one .reply ≡ shows 0 (7 ∷ 7 ∷ 7 ∷ 7 ∷ [])
     pub hidden : step f rightLook two .reply ≡ shows 9 []
+    pub whole : number f rightJoin (one .store) memory ≡ 23
+    pub unjoined : number f rightJoin (two .store) memory ≡ 9
+    pub asked-second : keyed 0 2 f readMode secondRight (one .store) ≡ true
