@@ -21,6 +21,9 @@ module _ (r : List ℕ) (e : length r ≡ recordBytes) (b : List ℕ) where
   pub handle-in : b ≡ firstBytes handleBytes (field r 8 handleBytes) → b ≡ field r 8 handleBytes
   handle-in = field-whole r e 8 handleBytes (omega arith) b
 
+  pub other-in : b ≡ firstBytes handleBytes (field r 32 handleBytes) → b ≡ field r 32 handleBytes
+  other-in = field-whole r e 32 handleBytes (omega arith) b
+
   pub first-in : b ≡ firstBytes passwordBytes (field r 32 passwordBytes) → b ≡ field r 32 passwordBytes
   first-in = field-whole r e 32 passwordBytes (omega arith) b
 

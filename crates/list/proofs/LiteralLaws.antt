@@ -20,4 +20,4 @@ fields-at = record { code = refl; reading = λ b. refl; writing = λ b. refl; ki
 pub outputs-printed : OutputsPrinted
 unfolding output badLength checked recordLines performed kindOf way met reached numbered records leastFrom least callLine
     wordLine told gives line spaced decimal decimalIn hexadecimal digit step number tests effects computing sounding
-outputs-printed = record { sample = refl; codes = refl; frozen = refl; full = refl; others = refl }
+outputs-printed = record { sample = refl; codes = refl; frozen = refl; joined = refl; full = refl; others = refl }

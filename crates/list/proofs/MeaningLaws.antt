@@ -16,7 +16,7 @@ use Rattle.handle.specs.Conversion.{product}
 use Rattle.store.specs.declared.Store.{Store}
 use Rattle.store.specs.Sound.{sound}
 use Rattle.calls.specs.Calls.{Copy, Kind, newCluster, deleteCluster, newSegment, deleteSegment, read, write, weaken}
-use Rattle.calls.specs.Calls.{reduce, newPassword, freeze, validate, look, code, isLook, among, Arguments, call, uses, writing}
+use Rattle.calls.specs.Calls.{reduce, newPassword, freeze, join, validate, look, code, isLook, among, Arguments, call, uses, writing}
 use Rattle.calls.specs.Numbers.{unsound, noPlace}
 use Rattle.calls.specs.Steps.{Outcome}
 use Rattle.calls.specs.Answers.{copyOf, leftAlone}
@@ -135,6 +135,7 @@ rows-trimmed weaken g c = refl
 rows-trimmed reduce g c = refl
 rows-trimmed newPassword g c = refl
 rows-trimmed freeze g c = refl
+rows-trimmed join g c = refl
 rows-trimmed validate g c = refl
 rows-trimmed look g c = refl
 
@@ -166,21 +167,23 @@ unused-bytes k r q b e s =
         ap (λ (o : Outcome). afterStep k o b)
         (unused-ignored product k (asked r) (asked q) (b .copy) (s .arguments))
 
--- a code outside 1 to 10 is that of no kind
-outside : (c : ℕ) → (c ≡ 0) ⊎ (10 < c) → kindOf c ≡ none
+-- a code outside 1 to 11 is that of no kind
+outside : (c : ℕ) → (c ≡ 0) ⊎ (11 < c) → kindOf c ≡ none
 unfolding kindOf
 outside c h =
-    among-first ownCalls otherCalls c
-    (out 5 refl refl, (out 6 refl refl, (out 7 refl refl, (out 8 refl refl, (out 9 refl refl, tt)))))
+    among-first ownCalls otherCalls c (
+      out 5 refl refl,
+      (out 6 refl refl, (out 7 refl refl, (out 8 refl refl, (out 9 refl refl, (out 11 refl refl, tt))))),
+    )
     ∙ differ ownCalls c
     (out 1 refl refl, (out 2 refl refl, (out 3 refl refl, (out 4 refl refl, (out 10 refl refl, tt)))))
   where
-    out : (k : ℕ) → leb 1 k ≡ true → leb k 10 ≡ true → c ≡ k → ⊥
+    out : (k : ℕ) → leb 1 k ≡ true → leb k 11 ≡ true → c ≡ k → ⊥
     out k a b e = go h
       where
-        go : (c ≡ 0) ⊎ (10 < c) → ⊥
+        go : (c ≡ 0) ⊎ (11 < c) → ⊥
         go (inl z) = let l = leb-true 1 k a in omega (arith, e)
-        go (inr z) = let l = leb-true k 10 b in omega (arith, e)
+        go (inr z) = let l = leb-true k 11 b in omega (arith, e)
 
 pub bad-code : BadCode
 unfolding performed

@@ -18,14 +18,14 @@ use Rattle.handle.specs.Conversion.{product}
 use Rattle.store.specs.declared.Store.{Store}
 use Rattle.store.specs.Sound.{sound}
 use Rattle.calls.specs.Calls.{Kind, newCluster, deleteCluster, newSegment, deleteSegment, read, write, weaken, reduce}
-use Rattle.calls.specs.Calls.{newPassword, freeze, code, Arguments, call, uses}
+use Rattle.calls.specs.Calls.{newPassword, freeze, join, code, Arguments, call, uses}
 use Rattle.calls.specs.Numbers.{unsound, noPlace}
 use Rattle.calls.specs.Steps.{Outcome, aesStep}
 use Rattle.calls.specs.declared.Answer.{Answer}
 use Rattle.calls.specs.declared.Left.{Left}
 use Rattle.calls.specs.Answers.{copyOf, ended, leftAlone}
 use Rattle.calls.specs.Calls.{makingCluster, deletingCluster, makingSegment, deletingSegment, reading, writing}
-use Rattle.calls.specs.Calls.{weakeningBy, reducing, renewing, freezing}
+use Rattle.calls.specs.Calls.{weakeningBy, reducing, renewing, freezing, joining}
 use Rattle.isolation.specs.Checks.{trimmed}
 use Rattle.isolation.proofs.UnusedLaws.{unused-ignored}
 use Rattle.list.specs.Records.{mostData, byte, field, codeOf, dataLength, ownCalls, otherCalls, kindAmong, kindOf}
@@ -151,7 +151,7 @@ module _ (r : List ℕ) (s : Store) (m : List ℕ) where
         back : 32 + z - 32 ≡ z
         back = omega arith
 
-  -- ---- calls 5 to 9
+  -- ---- calls 5 to 9 and 11
 
   module _ (b : List ℕ) where
     by-code : ℕ → Performed
@@ -174,15 +174,15 @@ module _ (r : List ℕ) (s : Store) (m : List ℕ) where
         ∙ sym (ap by-code e)
 
     pub perform-own : (codeOf r ≡ 5 → ⊥) → (codeOf r ≡ 6 → ⊥) → (codeOf r ≡ 7 → ⊥) → (codeOf r ≡ 8 → ⊥)
-        → (codeOf r ≡ 9 → ⊥) → (n : List ℕ) (d : Left)
+        → (codeOf r ≡ 9 → ⊥) → (codeOf r ≡ 11 → ⊥) → (n : List ℕ) (d : Left)
         → ((l : List ℕ) → ran d n l ≡ performedAs (kindAmong ownCalls (codeOf r)) r (bench s m l))
         → ran d n b ≡ performed r (bench s m b)
     unfolding kindOf performed
-    perform-own t5 t6 t7 t8 t9 n d f =
+    perform-own t5 t6 t7 t8 t9 t11 n d f =
         f b
         ∙ sym
         (ap (λ (k : Option Kind). performedAs k r (bench s m b))
-        (among-first ownCalls otherCalls (codeOf r) (t5, (t6, (t7, (t8, (t9, tt)))))))
+        (among-first ownCalls otherCalls (codeOf r) (t5, (t6, (t7, (t8, (t9, (t11, tt))))))))
 
     module _ (h : List ℕ) (eh : h ≡ field r 8 handleBytes) (a : Answer) where
       abbrev answered : Left
@@ -213,6 +213,15 @@ module _ (r : List ℕ) (s : Store) (m : List ℕ) where
       perform-reduce e w ew ea =
           as-step reduce (reducing w h .args) b refl
           (λ j. reducing (ew j) (eh j) .args) _ ea
+          ∙ sym (ap by-code e)
+
+      pub perform-join : codeOf r ≡ 11 → (k : List ℕ) → k ≡ field r 32 handleBytes → (w : ℕ) → w ≡ byte r 3
+          → ended s m a [] ≡ aesStep (joining w h k) (copyOf s m)
+          → ran answered m b ≡ performed r (bench s m b)
+      unfolding by-code kindOf performed
+      perform-join e k ek w ew ea =
+          as-step join (joining w h k .args) b refl
+          (λ j. joining (ew j) (eh j) (ek j) .args) _ ea
           ∙ sym (ap by-code e)
 
 -- ---- the number of a misfit

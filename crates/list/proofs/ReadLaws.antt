@@ -13,7 +13,7 @@ use Rattle.handle.specs.Handles.{firstOf}
 use Rattle.handle.specs.Conversion.{product}
 use Rattle.store.specs.Records.{tableAt, lengthOf}
 use Rattle.calls.specs.Calls.{Copy, Kind, newCluster, deleteCluster, newSegment, deleteSegment, read, write, weaken}
-use Rattle.calls.specs.Calls.{reduce, newPassword, freeze, validate, look, Call, call, placeFor}
+use Rattle.calls.specs.Calls.{reduce, newPassword, freeze, join, validate, look, Call, call, placeFor}
 use Rattle.calls.specs.Numbers.{short, number}
 use Rattle.calls.specs.Steps.{given, segmentRead, segmentShown, outcome, step, aesStep}
 use Rattle.calls.proofs.DoneLaws.{no-row}
@@ -42,6 +42,7 @@ module _ (r : List ℕ) (b : List ℕ) (c : Copy) where
   done-told reduce e = omega arith
   done-told newPassword e = omega arith
   done-told freeze e = omega arith
+  done-told join e = omega arith
   done-told validate e = omega arith
   done-told look e = omega arith
 

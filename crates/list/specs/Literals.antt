@@ -1,4 +1,4 @@
--- Document 01, "The list of calls", with code 10 of document 02, written out: records by numbers and whole outputs by
+-- Document 01, "The list of calls", with codes 10 and 11 of document 02, written out: records by numbers and whole outputs by
 -- text, with no definition between.
 --     pattern                   a record of 64 bytes, of which no two are equal
 --     patternCall bs            the arguments that it encodes, with the bytes bs
@@ -8,6 +8,9 @@
 --     codesList, codesText      calls of the codes 1 to 9 done, one refused, a bad code, a data length of 33
 --     frozenList, frozenText    a segment frozen, and again; written to, deleted, and its cluster deleted, all refused; a
 --                               freeze of a segment that is absent; and it is read
+--     joinedList, joinedText    joins of primary handles: with 23 in either mode, with 9 because of the second handle alone
+--                               and of the first alone, with 24, with 3, and with 2 because of the second
+--     second l b                what stands from byte 32 on in these: the second handle, and bytes that are not used
 --     fullList, fullText        a segment of the highest node, local number and number, as long as the node's memory, read
 --     handled                   a record with the fields in its first eight bytes, the primary handle of node 1 and local
 --                               number 4 with sixteen bytes b, and what stands where the passwords do
@@ -25,7 +28,7 @@ use mathlib.Core.List.{List, [], _∷_, _++_, map}
 use mathlib.Core.Option.{none, some}
 use lib.ListN.{replicate}
 use Rattle.calls.specs.Calls.{Arguments, newCluster, deleteCluster, newSegment, deleteSegment, read, write, weaken}
-use Rattle.calls.specs.Calls.{reduce, newPassword, freeze}
+use Rattle.calls.specs.Calls.{reduce, newPassword, freeze, join}
 use Rattle.lines.specs.Text.{ascii}
 use Rattle.list.specs.Records.{codeOf, kindOf, argumentsOf}
 use Rattle.list.specs.Texts.{output}
@@ -75,6 +78,31 @@ patternCall bs =
           ∷ 93
           ∷ 94
           ∷ [];
+      other =
+          96
+          ∷ 97
+          ∷ 98
+          ∷ 99
+          ∷ 100
+          ∷ 101
+          ∷ 102
+          ∷ 103
+          ∷ 104
+          ∷ 105
+          ∷ 106
+          ∷ 107
+          ∷ 108
+          ∷ 109
+          ∷ 110
+          ∷ 111
+          ∷ 112
+          ∷ 113
+          ∷ 114
+          ∷ 115
+          ∷ 116
+          ∷ 117
+          ∷ 118
+          ∷ [];
       first = 96 ∷ 97 ∷ 98 ∷ 99 ∷ 100 ∷ 101 ∷ 102 ∷ 103 ∷ 104 ∷ 105 ∷ 106 ∷ 107 ∷ 108 ∷ 109 ∷ 110 ∷ 111 ∷ [];
       second = 112 ∷ 113 ∷ 114 ∷ 115 ∷ 116 ∷ 117 ∷ 118 ∷ 119 ∷ 120 ∷ 121 ∷ 122 ∷ 123 ∷ 124 ∷ 125 ∷ 126 ∷ 127 ∷ [];
       bytes = bs;
@@ -89,7 +117,7 @@ pub record FieldsAt : Type 0 where
   pub code : codeOf pattern ≡ 65
   pub reading : (b : List ℕ) → argumentsOf read pattern b ≡ patternCall b
   pub writing : (b : List ℕ) → argumentsOf write pattern b ≡ patternCall patternData
-  pub kinds : map kindOf (0 ∷ 1 ∷ 2 ∷ 3 ∷ 4 ∷ 5 ∷ 6 ∷ 7 ∷ 8 ∷ 9 ∷ 10 ∷ 11 ∷ [])
+  pub kinds : map kindOf (0 ∷ 1 ∷ 2 ∷ 3 ∷ 4 ∷ 5 ∷ 6 ∷ 7 ∷ 8 ∷ 9 ∷ 10 ∷ 11 ∷ 12 ∷ [])
       ≡ none
       ∷ some newCluster
       ∷ some deleteCluster
@@ -101,6 +129,7 @@ pub record FieldsAt : Type 0 where
       ∷ some reduce
       ∷ some newPassword
       ∷ some freeze
+      ∷ some join
       ∷ none
       ∷ []
 
@@ -151,7 +180,7 @@ codesList =
     ++ handled (9 ∷ 5 ∷ 0 ∷ 0 ∷ 6 ∷ 0 ∷ 0 ∷ 0 ∷ []) 0x11 (replicate 32 0)
     ++ handled (10 ∷ 4 ∷ 1 ∷ 0 ∷ 6 ∷ 0 ∷ 0 ∷ 0 ∷ []) 0x22 (replicate 32 0)
     ++ handled (11 ∷ 2 ∷ 1 ∷ 0 ∷ 0 ∷ 0 ∷ 0 ∷ 0 ∷ []) 0x22 (replicate 32 0)
-    ++ handled (12 ∷ 11 ∷ 0 ∷ 0 ∷ 0 ∷ 0 ∷ 0 ∷ 0 ∷ []) 0x22 (replicate 32 0)
+    ++ handled (12 ∷ 12 ∷ 0 ∷ 0 ∷ 0 ∷ 0 ∷ 0 ∷ 0 ∷ []) 0x22 (replicate 32 0)
     ++ handled (13 ∷ 6 ∷ 0 ∷ 0 ∷ 6 ∷ 33 ∷ 0 ∷ 0 ∷ []) 0x22 (replicate 32 0)
     ++ handled (0 ∷ 7 ∷ 0 ∷ 0 ∷ 0 ∷ 0 ∷ 0 ∷ 0 ∷ []) 0x22 (replicate 32 0)
 
@@ -167,7 +196,7 @@ codesText =
     ++ ascii "8 5 9\n"
     ++ ascii "9 4 0\n"
     ++ ascii "10 2 0\n"
-    ++ ascii "11 11 3\n"
+    ++ ascii "11 12 3\n"
     ++ ascii "12 6 3\n"
     ++ ascii "13 7 21\n"
     ++ ascii "end 13\n"
@@ -201,6 +230,35 @@ frozenText =
     ++ ascii "9 10 14\n"
     ++ ascii "10 5 0 deadbe\n"
     ++ ascii "end 10\n"
+
+abbrev second : ℕ → ℕ → List ℕ
+second l b = (0 ∷ 1 ∷ l ∷ []) ++ replicate 16 b ++ replicate 4 0xff ++ replicate 9 0x77
+
+abbrev pub joinedList : List ℕ
+joinedList =
+    (2 ∷ 1 ∷ 1 ∷ 0 ∷ 4 ∷ 0 ∷ 0 ∷ 0 ∷ [])
+    ++ replicate 24 0
+    ++ replicate 16 0x11
+    ++ replicate 16 0x22
+    ++ handled (3 ∷ 11 ∷ 0 ∷ 1 ∷ 0 ∷ 0 ∷ 0 ∷ 0 ∷ []) 0x11 (second 4 0x11)
+    ++ handled (4 ∷ 11 ∷ 0 ∷ 2 ∷ 0 ∷ 0 ∷ 0 ∷ 0 ∷ []) 0x22 (second 4 0x22)
+    ++ handled (5 ∷ 11 ∷ 0 ∷ 1 ∷ 0 ∷ 0 ∷ 0 ∷ 0 ∷ []) 0x11 (second 4 0x22)
+    ++ handled (6 ∷ 11 ∷ 0 ∷ 1 ∷ 0 ∷ 0 ∷ 0 ∷ 0 ∷ []) 0x22 (second 4 0x11)
+    ++ handled (7 ∷ 11 ∷ 0 ∷ 1 ∷ 0 ∷ 0 ∷ 0 ∷ 0 ∷ []) 0x11 (second 5 0x11)
+    ++ handled (8 ∷ 11 ∷ 0 ∷ 3 ∷ 0 ∷ 0 ∷ 0 ∷ 0 ∷ []) 0x11 (second 4 0x11)
+    ++ handled (0 ∷ 11 ∷ 0 ∷ 1 ∷ 0 ∷ 0 ∷ 0 ∷ 0 ∷ []) 0x11 (second 8 0x11)
+
+abbrev joinedText : List ℕ
+joinedText =
+    ascii "1 1 0 00010411111111111111111111111111111111ffffffff 00010422222222222222222222222222222222ffffffff\n"
+    ++ ascii "2 11 23\n"
+    ++ ascii "3 11 23\n"
+    ++ ascii "4 11 9\n"
+    ++ ascii "5 11 9\n"
+    ++ ascii "6 11 24\n"
+    ++ ascii "7 11 3\n"
+    ++ ascii "8 11 2\n"
+    ++ ascii "end 8\n"
 
 abbrev fullList : List ℕ
 fullList =
@@ -269,5 +327,6 @@ pub record OutputsPrinted : Type 0 where
   pub sample : output sampleList ≡ sampleText
   pub codes : output codesList ≡ codesText
   pub frozen : output frozenList ≡ frozenText
+  pub joined : output joinedList ≡ joinedText
   pub full : output fullList ≡ fullText
   pub others : map (λ (p : Printed). output (p .list)) printed ≡ map (λ (p : Printed). ascii (p .text)) printed

@@ -8,7 +8,7 @@
 --     SameUse k r q b         two records agree in the code, in the arguments that a call of the kind k uses, and, for a
 --                             write, in the data length
 --     UnusedBytes             such records do the same: unused bytes are ignored
---     BadCode                 a code outside 1 to 10 is 3, whatever the other bytes are
+--     BadCode                 a code outside 1 to 11 is 3, whatever the other bytes are
 --     NoLook                  no code is that of a look
 --     MisfitNumbers r b sd h  the record r is refused with 1 where sd, which says that the store is sound, is false; else
 --                             with 2 where the node of h is above 3 or its local number above 7; else with 3
@@ -62,7 +62,7 @@ UnusedBytes =
     → performed r b ≡ performed q b
 
 abbrev pub BadCode : Type 0
-BadCode = (r : List ℕ) (b : Bench) → (byte r 1 ≡ 0) ⊎ (10 < byte r 1) → performed r b ≡ refused 3 b
+BadCode = (r : List ℕ) (b : Bench) → (byte r 1 ≡ 0) ⊎ (11 < byte r 1) → performed r b ≡ refused 3 b
 
 abbrev pub NoLook : Type 0
 NoLook = (c : ℕ) → kindOf c ≢ some look

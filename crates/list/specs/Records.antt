@@ -1,4 +1,5 @@
--- Document 01, "The list of calls": a record of 64 bytes, and the call that it encodes; with code 10 of document 02, §3.
+-- Document 01, "The list of calls": a record of 64 bytes, and the call that it encodes; with codes 10 and 11 of document 02,
+-- §3 and §5.
 --     recordBytes, mostBytes    the bytes of a record; the most bytes that a list has, 255 records
 --     mostData                  the most bytes of data that a record holds
 --     recordIn list k           the 64 bytes of record k, numbered from 1
@@ -6,12 +7,13 @@
 --     field r a n               n bytes of a record, from byte a on
 --     codeOf r                  byte 1: the code
 --     dataLength r              byte 5: the length of a write's data
---     ownCalls, otherCalls      the kinds that a code may name: 1 to 4 and 10, which name a current node, and 5 to 9
+--     ownCalls, otherCalls      the kinds that a code may name: 1 to 4 and 10, which name a current node; 5 to 9 and 11
 --     kindAmong ks c            the kind among ks whose code is c, if there is one
---     kindOf c                  the kind of the code c, none outside 1 to 10
+--     kindOf c                  the kind of the code c, none outside 1 to 11
 --     argumentsOf k r b         the arguments of a call of the kind k: byte 2 the current node, 3 the mode, 4 the segment,
 --                               the mask, or the local number of call 1; 6 and 7 the size, high byte first; 8 to 30 the
---                               handle; 32 to 47 and 48 to 63 the passwords; a write's data, from 32 on, or the buffer b
+--                               handle; 32 to 54 the second handle of a join; 32 to 47 and 48 to 63 the passwords; a
+--                               write's data, from 32 on, or the buffer b
 -- Assumes nothing.
 use Prim.Native.Nat.{ℕ, _+_, _-_, _*_}
 use mathlib.Core.Bool.{true, false}
@@ -22,7 +24,7 @@ use lib.ListN.{getD, take, drop}
 use Rattle.sizes.specs.Sizes.{passwordBytes}
 use Rattle.handle.specs.Sizes.{handleBytes}
 use Rattle.calls.specs.Calls.{Kind, newCluster, deleteCluster, newSegment, deleteSegment, read, write, weaken, reduce}
-use Rattle.calls.specs.Calls.{newPassword, freeze, Arguments, code, among}
+use Rattle.calls.specs.Calls.{newPassword, freeze, join, Arguments, code, among}
 
 abbrev pub recordBytes : ℕ
 recordBytes = 64
@@ -56,7 +58,7 @@ abbrev pub ownCalls : List Kind
 ownCalls = newCluster ∷ deleteCluster ∷ newSegment ∷ deleteSegment ∷ freeze ∷ []
 
 abbrev pub otherCalls : List Kind
-otherCalls = read ∷ write ∷ weaken ∷ reduce ∷ newPassword ∷ []
+otherCalls = read ∷ write ∷ weaken ∷ reduce ∷ newPassword ∷ join ∷ []
 
 abbrev pub kindAmong : List Kind → ℕ → Option Kind
 kindAmong [] c = none
@@ -75,6 +77,7 @@ argumentsOf k r b =
       size = byte r 6 * 256 + byte r 7;
       mask = byte r 4;
       handle = field r 8 handleBytes;
+      other = field r 32 handleBytes;
       first = field r 32 passwordBytes;
       second = field r 48 passwordBytes;
       bytes = elim (among (6 ∷ []) k) [ true ↦ field r 32 (dataLength r) | false ↦ b ];

@@ -11,7 +11,7 @@
 --     refused n b             refused with n: the bench as it was, the number alone
 --     answerOf r              the answer in a reply
 --     stepped k x b           what the step of the call x, of the kind k, leaves and answers; a read alone has the buffer
---     performed r b           what the record r does: a code outside 1 to 10 is 3, and nothing else is looked at; a
+--     performed r b           what the record r does: a code outside 1 to 11 is 3, and nothing else is looked at; a
 --                             misfit is 3, after 1 and 2; else the step of the call that it encodes
 -- Assumes nothing.
 use Prim.Native.Nat.{ℕ}

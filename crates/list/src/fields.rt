@@ -32,6 +32,8 @@ const HANDLE_END: usize = 31;
 
 pub const FIRST: usize = 32;
 
+const OTHER_END: usize = 55;
+
 const SECOND: usize = 48;
 
 // The most bytes of data that a record holds.
@@ -57,6 +59,14 @@ pub fn handle(record: &[u8]) -> HandleBytes
     ensures { λ r. ⌜ r ≡ records.field (now («record» .entry)) 8 handleBytes ⌝ }
 {
     handle::bytes_in(&record[HANDLE..HANDLE_END])
+}
+
+// The second handle of a record, which a join takes.
+pub fn other(record: &[u8]) -> HandleBytes
+    requires { ⌜ length (now «record») ≡ records.recordBytes ⌝ }
+    ensures { λ r. ⌜ r ≡ records.field (now («record» .entry)) 32 handleBytes ⌝ }
+{
+    handle::bytes_in(&record[FIRST..OTHER_END])
 }
 
 // The first password of a record, and the second.

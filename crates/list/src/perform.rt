@@ -10,12 +10,14 @@ use crate::fields::SIZE_HIGH;
 use crate::fields::SIZE_LOW;
 use crate::fields::first;
 use crate::fields::handle;
+use crate::fields::other;
 use crate::fields::pair;
 use crate::fields::second;
 use crate::fields::wide;
 use calls::DELETE_CLUSTER;
 use calls::DELETE_SEGMENT;
 use calls::FREEZE;
+use calls::JOIN;
 use calls::Left;
 use calls::NEW_CLUSTER;
 use calls::NEW_PASSWORD;
@@ -141,7 +143,7 @@ fn perform_write(store: Store, memory: &mut [u8], record: &[u8]) -> Left
     Left { store, answer }
 }
 
-// The call of a record: calls 5 to 9 here, the others above.
+// The call of a record: calls 5 to 9 and 11 here, the others above.
 pub fn perform(store: Store, memory: &mut [u8], buffer: &mut [u8], record: &[u8]) -> Left
     requires { ⌜ length (now «record») ≡ records.recordBytes ⌝ }
     ensures { λ r. ⌜ ran r (now (memory .exit)) (now (buffer .exit)) ≡ performed (now («record» .entry)) (bench store (now (memory .entry)) (now (buffer .entry))) ⌝ }
@@ -169,6 +171,12 @@ pub fn perform(store: Store, memory: &mut [u8], buffer: &mut [u8], record: &[u8]
         let bytes = handle(record);
         let password = first(record);
         return guard::new_password(store, memory, wide(record[MODE]), bytes, password);
+    }
+    if code == JOIN {
+        let bytes = handle(record);
+        let second = other(record);
+        let answer = guard::join(store, memory, wide(record[MODE]), bytes, second);
+        return Left { store, answer };
     }
     perform_own(store, memory, record)
 }

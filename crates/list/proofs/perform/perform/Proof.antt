@@ -1,7 +1,7 @@
--- Each code from 5 to 9 is its call; the others are done above.
+-- Each code from 5 to 9, and 11, is its call; the others are done above.
 -- Assumes nothing.
 use Rattle.list.proofs.PerformLaws.{perform-read, perform-write, perform-weaken, perform-reduce}
-use Rattle.list.proofs.PerformLaws.{perform-new-password, perform-own}
+use Rattle.list.proofs.PerformLaws.{perform-new-password, perform-join, perform-own}
 use borrow.Author.Needs.{needs}
 use Rattle.list.proofs.perform.perform.Statement.{statement}
 use Rattle.list.proofs.perform.perform.Tie as tie
@@ -10,8 +10,10 @@ use Rattle.guard.proofs.read.Reads as read-reads
 use Rattle.guard.proofs.new_password.Reads as new-password-reads
 use Rattle.guard.proofs.weaken.Reads as weaken-reads
 use Rattle.guard.proofs.reduce.Reads as reduce-reads
+use Rattle.guard.proofs.join.Reads as join-reads
 use Rattle.list.proofs.fields.first.Reads as first-reads
 use Rattle.list.proofs.fields.handle.Reads as handle-reads
+use Rattle.list.proofs.fields.other.Reads as other-reads
 use Rattle.list.proofs.fields.wide.Reads as wide-reads
 use Rattle.list.proofs.perform.perform_own.Reads as perform-own-reads
 use Rattle.list.proofs.perform.perform_write.Reads as perform-write-reads
@@ -32,7 +34,10 @@ returns-5 : tie.Need-returns-5
 returns-5 c = search (needs, perform-new-password)
 
 returns-6 : tie.Need-returns-6
-returns-6 c = search (needs, perform-own)
+returns-6 c = search (needs, perform-join)
+
+returns-7 : tie.Need-returns-7
+returns-7 c = search (needs, perform-own)
 
 pub perform-spec : {M : Type 1} → statement M
 perform-spec =
@@ -67,5 +72,12 @@ perform-spec =
     (λ c. search needs)
     returns-5
     (λ c κs. search needs)
+    (λ c κs. search needs)
     (λ c. search needs)
-    returns-6)
+    (λ c κs. search needs)
+    (λ c κs. search needs)
+    (λ c. search needs)
+    returns-6
+    (λ c κs. search needs)
+    (λ c. search needs)
+    returns-7)
