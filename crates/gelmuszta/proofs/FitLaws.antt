@@ -17,7 +17,7 @@ use Rattle.store.specs.Records.{tableAt}
 use Rattle.store.proofs.PlaceLaws.{inside-out}
 use Rattle.store.proofs.PlacementLaws.{newBase-fits}
 use Rattle.calls.specs.Calls.{Copy, Kind, Call, Arguments, call, uses, newCluster, deleteCluster, newSegment, deleteSegment}
-use Rattle.calls.specs.Calls.{read, write, weaken, reduce, newPassword, freeze, validate, look, nodeFor, recordFor}
+use Rattle.calls.specs.Calls.{read, write, weaken, reduce, newPassword, freeze, join, validate, look, nodeFor, recordFor}
 use Rattle.calls.specs.Numbers.{number}
 use Rattle.calls.specs.Steps.{about, newBaseFor, outcome, step, left, effects}
 use Rattle.calls.proofs.DoneLaws.{done-range, new-base}
@@ -62,6 +62,7 @@ module _ (f : Name → List ℕ → ℕ → List ℕ) where
         put-fits (c .store) _ _ k (password-fits _ (g .mode) (g .first) (about-fits (call newPassword g) e) (p .first refl))
     left-fits freeze p e =
         put-fits (c .store) _ _ k (mark-fits _ (g .segment) (about-fits (call freeze g) e))
+    left-fits join p e = k
     left-fits validate p e = k
     left-fits look p e = k
 

@@ -8,7 +8,7 @@ use Rattle.handle.specs.Conversion.{product}
 use Rattle.calls.specs.declared.Answer.{Answer}
 use Rattle.calls.specs.Answers.{replied}
 use Rattle.calls.specs.Calls.{Copy, Call, Arguments, call, newCluster, deleteCluster, newSegment, deleteSegment}
-use Rattle.calls.specs.Calls.{Kind, read, write, weaken, reduce, newPassword, freeze, validate, look, buffer}
+use Rattle.calls.specs.Calls.{Kind, read, write, weaken, reduce, newPassword, freeze, join, validate, look, buffer}
 use Rattle.calls.specs.Numbers.{number}
 use Rattle.calls.specs.Steps.{Reply, plain, handles, readReply, zeroHandle, segmentRead, segmentShown, given, outcome, step, aesStep}
 use Rattle.gelmuszta.specs.Exported.{replyOf}
@@ -96,6 +96,10 @@ module _ (g : Arguments) where
   unfolding given
   reduce-one = record { handle = _; gives = λ c. refl }
 
+  pub join-one : OneHandle (call join g)
+  unfolding given
+  join-one = record { handle = _; gives = λ c. refl }
+
   pub new-password-one : OneHandle (call newPassword g)
   unfolding given
   new-password-one = record { handle = _; gives = λ c. refl }
@@ -121,6 +125,7 @@ done-number weaken x c = refl
 done-number reduce x c = refl
 done-number newPassword x c = refl
 done-number freeze x c = refl
+done-number join x c = refl
 done-number validate x c = refl
 done-number look x c = refl
 

@@ -10,7 +10,7 @@ use mathlib.Core.List.{List, [], _∷_}
 use lib.ListN.{length, replicate}
 use Rattle.sizes.specs.Sizes.{passwordBytes}
 use Rattle.calls.specs.Calls.{Call, uses, makingCluster, deletingCluster, makingSegment, deletingSegment, reading, writing}
-use Rattle.calls.specs.Calls.{weakeningBy, reducing, renewing, freezing, validating, looking}
+use Rattle.calls.specs.Calls.{weakeningBy, reducing, renewing, freezing, joining, validating, looking}
 
 pub record PasswordsFit (x : Call) : Type 0 where
   pub first : uses (x .kind) .first ≡ true → length (x .args .first) ≡ passwordBytes
@@ -32,6 +32,7 @@ fitting =
     ∷ reducing 0 []
     ∷ renewing 0 [] (replicate 16 0)
     ∷ freezing 0 0 []
+    ∷ joining 0 [] []
     ∷ validating 0 []
     ∷ looking 0 0 []
     ∷ []

@@ -1,6 +1,7 @@
-// Conversion, weakening and reduction: new passwords and handles from old ones.
+// Conversion, weakening, reduction and joining: new passwords and handles from old ones.
 use crate::look_up;
 use handle::HANDLE_BYTES;
+use handle::Handle;
 use handle::HandleBytes;
 use image::IMAGE;
 use numbers::UNSOUND;
@@ -62,6 +63,34 @@ pub extern "C" fn gelmuszta_reduce(
         return UNSOUND;
     }
     let answer = cluster::reduce(true, o.handle, o.cluster, mode);
+    let g = answer.first;
+    *given = g;
+    answer.number
+}
+
+// Call 11: two handles of one cluster joined in the mode named.
+#[no_mangle]
+pub extern "C" fn gelmuszta_join(
+    image: &[u8; IMAGE],
+    memory: &[u8],
+    mode: usize,
+    handle: &HandleBytes,
+    other: &HandleBytes,
+    given: &mut HandleBytes,
+) -> u8
+    ensures { λ r. ⌜ returned r (now (given .exit)) zeroHandle 0 0 [] (now (image .entry)) (now (memory .entry))
+        ≡ exported (calls.joining mode (now (handle .entry)) (now (other .entry))) (now (image .entry)) (now (memory .entry)) ⌝ }
+{
+    let h = *handle;
+    let k = *other;
+    let o = look_up(image, memory.len(), h);
+    let sound = o.sound;
+    if !sound {
+        *given = [0; HANDLE_BYTES];
+        return UNSOUND;
+    }
+    let second = Handle::decode(k);
+    let answer = cluster::join(true, o.handle, second, o.cluster, mode);
     let g = answer.first;
     *given = g;
     answer.number

@@ -1,4 +1,4 @@
-// The guard for callers in C or Rust: the calls of document 01, and the look of document 02, over bytes alone. The store is
+// The guard for callers in C or Rust: the calls of documents 01 and 02, and the look, over bytes alone. The store is
 // its image of 2,336 bytes, the memory a lent slice; a handle is 23 bytes, a password sixteen. Each function returns the
 // number of the table, and gives zero handles, counts, lengths and places with a refusal. An image that holds no store is
 // refused with 1. A call judges soundness on the image's bytes, reads the record of its cluster, has the core (`cluster`) do
@@ -11,7 +11,7 @@ use store::Cluster;
 ghost use Rattle.gelmuszta.specs.inner.Opened as opened;
 
 mod bytes; // bytes.rt: calls 3, 5 and 6, which use the memory's bytes, and the look, which tells where they lie
-mod handles; // handles.rt: conversion, calls 7 and 8
+mod handles; // handles.rt: conversion, calls 7, 8 and 11
 mod records; // records.rt: calls 1, 2, 4, 9 and 10, which change a record
 mod stores; // stores.rt: the starting store, soundness
 mod validation; // validation.rt: validation of one handle and of many
@@ -21,6 +21,7 @@ pub use bytes::gelmuszta_new_segment;
 pub use bytes::gelmuszta_read;
 pub use bytes::gelmuszta_write;
 pub use handles::gelmuszta_convert;
+pub use handles::gelmuszta_join;
 pub use handles::gelmuszta_reduce;
 pub use handles::gelmuszta_weaken;
 pub use records::gelmuszta_delete_cluster;

@@ -1,4 +1,4 @@
-// The calls of document 01, and the look of document 02, on a store and the memory that goes with it. Each entry point takes
+// The calls of documents 01 and 02, and the look, on a store and the memory that goes with it. Each entry point takes
 // the records by value and the memory lent, and gives what `step` gives: a refused call leaves all as it was. It looks up the
 // record of the cluster that the call is about, has the core (`cluster`) do the call on it, and puts the record back where
 // the call may change it.
