@@ -143,7 +143,7 @@ static void joined_handles(const uint8_t low[GELMUSZTA_HANDLE], const uint8_t hi
     expect("write joined", gelmuszta_write(image, memory, all, 4, both, buffer, sizeof buffer) == GELMUSZTA_VIOLATED);
 }
 
-/* Every number that a join is refused with, in the order in which they are judged. */
+/* Every number that a join is refused with, and some that come before others which apply too. */
 static void handles_not_joined(const uint8_t low[GELMUSZTA_HANDLE], const uint8_t reader[GELMUSZTA_HANDLE],
                                const uint8_t writer[GELMUSZTA_HANDLE]) {
     uint8_t wrong_one[GELMUSZTA_HANDLE], rest[GELMUSZTA_HANDLE], none[GELMUSZTA_HANDLE] = {0}, count;
@@ -156,15 +156,18 @@ static void handles_not_joined(const uint8_t low[GELMUSZTA_HANDLE], const uint8_
     not_joined("join, no such node", low, wrong_one, GELMUSZTA_NO_SUCH_PLACE);
     wrong_one[0] = 0;
     wrong_one[2] = 8;
-    not_joined("join, no such cluster", low, wrong_one, GELMUSZTA_NO_SUCH_PLACE);
-    join("join, no such mode", 0, low, reader, GELMUSZTA_FIELD, none);
-    join("join, no such mode", 3, low, reader, GELMUSZTA_FIELD, none);
+    join("join, no such cluster", 3, low, wrong_one, GELMUSZTA_NO_SUCH_PLACE, none);
     wrong_one[2] = (uint8_t)(low[2] + 1);
     wrong_one[22] = 0;
+    join("join, no such mode", 0, low, reader, GELMUSZTA_FIELD, none);
+    join("join, no such mode", 3, low, wrong_one, GELMUSZTA_FIELD, none);
     not_joined("join gapped", low, wrong_one, GELMUSZTA_GAPPED);
     wrong_one[22] = 255;
-    not_joined("join apart", low, wrong_one, GELMUSZTA_APART);
+    not_joined("join apart, in one node", low, wrong_one, GELMUSZTA_APART);
     not_joined("join inactive", wrong_one, wrong_one, GELMUSZTA_INACTIVE);
+    memcpy(wrong_one, reader, sizeof wrong_one);
+    wrong_one[1] = 0;
+    not_joined("join apart, in two nodes", low, wrong_one, GELMUSZTA_APART);
     not_joined("join for another mode", low, writer, GELMUSZTA_VIOLATED);
     join("join for another mode", GELMUSZTA_MODE_WRITE, low, writer, GELMUSZTA_VIOLATED, none);
     gelmuszta_weaken(reader, 0xf8, rest, &count);
