@@ -29,7 +29,7 @@
 static uint8_t memory[GELMUSZTA_MEMORY] __attribute__((aligned(NODE_MEMORY)));
 static uint8_t image[GELMUSZTA_IMAGE], typical[GELMUSZTA_IMAGE], large[GELMUSZTA_IMAGE], damaged[GELMUSZTA_IMAGE];
 static uint8_t reader[GELMUSZTA_HANDLE], writer[GELMUSZTA_HANDLE], weak_reader[GELMUSZTA_HANDLE], weak_writer[GELMUSZTA_HANDLE];
-static uint8_t given[GELMUSZTA_HANDLE], other[GELMUSZTA_HANDLE], count, numbers[3], number;
+static uint8_t other_reader[GELMUSZTA_HANDLE], given[GELMUSZTA_HANDLE], other[GELMUSZTA_HANDLE], count, numbers[3], number;
 static uint8_t buffer[LENGTH], large_buffer[NODE_MEMORY], three[3 * GELMUSZTA_HANDLE];
 static const uint8_t first_password[GELMUSZTA_PASSWORD] = {1}, second_password[GELMUSZTA_PASSWORD] = {2};
 static size_t from, length;
@@ -94,6 +94,9 @@ static void new_password(void) {
     number = gelmuszta_new_password(image, memory, all, GELMUSZTA_MODE_READ, reader, first_password, given);
 }
 static void freeze(void) { number = gelmuszta_freeze(image, memory, all, node, segment, writer); }
+static void join(void) {
+    number = gelmuszta_join(image, memory, all, GELMUSZTA_MODE_READ, weak_reader, other_reader, given);
+}
 static void validate(void) {
     number = gelmuszta_validate(image, memory, all, GELMUSZTA_MODE_READ, weak_reader);
 }
@@ -128,6 +131,7 @@ static const struct {
     {"reduce", typical, false, {reduce, 0}},
     {"new password", typical, false, {new_password, 0}},
     {"freeze", typical, false, {freeze, 0}},
+    {"join", typical, false, {join, 0}},
     {"validate", typical, false, {validate, 0}},
     {"validate all", typical, false, {validate_all, 0}},
     {"convert", typical, false, {convert, 0}},
@@ -186,9 +190,10 @@ static bool reaches_memory(void (*call)(void), const uint8_t on[GELMUSZTA_IMAGE]
 
 /* ---- the stores: on each node five clusters with two segments of 400 bytes; the same, and one node filled by one segment */
 
-static void weakest(const uint8_t handle[GELMUSZTA_HANDLE], uint8_t weak[GELMUSZTA_HANDLE]) {
+/* Four segments, from `first` on, are taken away one by one. */
+static void weakest(const uint8_t handle[GELMUSZTA_HANDLE], unsigned first, uint8_t weak[GELMUSZTA_HANDLE]) {
     memcpy(weak, handle, GELMUSZTA_HANDLE);
-    for (unsigned bit = 4; bit < 8; bit++) {
+    for (unsigned bit = first; bit < first + 4; bit++) {
         number |= gelmuszta_weaken(weak, (uint8_t)~(1u << bit), given, &count);
         memcpy(weak, given, GELMUSZTA_HANDLE);
     }
@@ -216,8 +221,9 @@ static void make_store(uint8_t made[GELMUSZTA_IMAGE], bool whole) {
 }
 
 static void make_handles(void) {
-    weakest(reader, weak_reader);
-    weakest(writer, weak_writer);
+    weakest(reader, 4, weak_reader);
+    weakest(reader, 3, other_reader);
+    weakest(writer, 4, weak_writer);
     for (size_t i = 0; i < 3; i++) memcpy(three + i * GELMUSZTA_HANDLE, weak_reader, GELMUSZTA_HANDLE);
 }
 

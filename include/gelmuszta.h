@@ -29,14 +29,14 @@
  * A handle is valid in a mode, GELMUSZTA_MODE_READ or GELMUSZTA_MODE_WRITE, if converting that mode's primary
  * password by its subselectors gives its password. A read and a look need a handle that is valid for reading, and one that
  * is valid for writing alone is refused; everything else that opens a cluster needs one that is valid for writing, or in
- * the mode that the call names.
+ * the mode that the call names. Call 11 takes two handles, and needs each of them to be valid in the mode that it names.
  *
  * Call 10 freezes a segment, and no call thaws it. From then on its base, length and bytes stay the same after any calls at
  * all, and its cluster stays active: calls 4 and 6 on the segment and call 2 on the cluster are refused, with
  * GELMUSZTA_FROZEN where nothing before it applies. Everything else treats it as any other segment.
  *
- * The ten calls, gelmuszta_look and gelmuszta_validate return a number, 0 for done. When several refusals apply, the first
- * of them in the order below is given. On a refusal the handles given are 23 zero bytes, counts and lengths are zero, a
+ * The eleven calls, gelmuszta_look and gelmuszta_validate return a number, 0 for done. When several refusals apply, the
+ * first of them in the order below is given. On a refusal the handles given are 23 zero bytes, counts and lengths are zero, a
  * look's part begins at 0, and image, memory and buffer stay as they were, byte for byte. Arguments of type size_t are
  * judged whole: a node, local number, mode, segment or size out of its range is refused, however large; as a mode 257 gets
  * GELMUSZTA_FIELD. Masks and parameters are bytes, and C cuts a larger value to a byte without telling.
@@ -49,7 +49,8 @@
  *   - every pointer is valid for as many bytes as its type or the length beside it says, writable where it is not const,
  *     aligned where it points to a size_t, and not NULL even where the length is 0; bytes that are only written need not
  *     be initialised, those of a read's buffer are kept where the segment does not reach;
- *   - bytes that a call may write overlap with nothing else that the call is given: a handle is not weakened in place;
+ *   - bytes that a call may write overlap with nothing else that the call is given: a handle is not weakened in place, and
+ *     two are not joined into one of them. Bytes that it only reads may: the two handles of a join may be the same bytes;
  *   - nobody else writes to the image, the memory or the arguments, or reads what is written, while the call runs. Calls
  *     that write nothing in common, as reads, looks and validations on one store, may run at the same time;
  *   - nobody writes to the part that a look has shown while it is being read, and its reader keeps to it;
@@ -81,19 +82,22 @@ extern "C" {
 #define GELMUSZTA_MODE_WRITE 2
 
 /* The numbers that a call may give, in the order in which they are judged, and which calls may give them, by their codes; a
- * look, which has no code, is named. GELMUSZTA_FROZEN has two places and stands at the first. 18 to 20 belong to lists of
- * calls; no function here gives them. */
+ * look, which has no code, is named. What is said of the handle holds, for call 11, if it holds of either of its two.
+ * GELMUSZTA_FROZEN has two places and stands at the first. 18 to 20 belong to lists of calls; no function here gives
+ * them. */
 enum gelmuszta_number {
     GELMUSZTA_DONE = 0,
     GELMUSZTA_UNSOUND = 1,         /* unsound, look and all but 7: the image is damaged, or the store is not sound */
     GELMUSZTA_NO_SUCH_PLACE = 2,   /* no such place: node above 3 or local number above 7, in the handle or the call */
     GELMUSZTA_FIELD = 3,           /* field: mode not 1 or 2; segment above 7; size 0 or above 4,096 */
     GELMUSZTA_GAPPED = 4,          /* gapped: the handle's selector is gapped */
+    GELMUSZTA_APART = 24,          /* apart, 11: the two handles name two clusters, their nodes or local numbers differ */
     GELMUSZTA_ELSEWHERE = 5,       /* elsewhere, 2, 3, 4, 10, look: the current node is not the handle's */
     GELMUSZTA_IN_USE = 6,          /* in use, 1: the cluster is active */
     GELMUSZTA_TWINS = 7,           /* twins, 1: the two passwords are equal */
-    GELMUSZTA_INACTIVE = 8,        /* inactive, 2 to 6, 8 to 10, look: the handle's cluster is inactive */
-    GELMUSZTA_VIOLATED = 9,        /* violated protection, 2 to 6, 8 to 10, look: handle not valid in the mode needed */
+    GELMUSZTA_INACTIVE = 8,        /* inactive, 2 to 6, 8 to 11, look: the handle's cluster is inactive */
+    GELMUSZTA_VIOLATED = 9,        /* violated protection, 2 to 6, 8 to 11, look: handle not valid in the mode needed */
+    GELMUSZTA_WHOLE = 23,          /* whole, 11: the two handles together reference all eight segments */
     GELMUSZTA_NOT_PRIMARY = 10,    /* not primary, 2, 3, 4, 9, 10: some subselector is not flat */
     GELMUSZTA_FROZEN = 22,         /* frozen, 2: some segment of the cluster is frozen; 4, 6, where it is judged after
                                     * GELMUSZTA_ABSENT and before GELMUSZTA_SHORT: the segment is frozen */
@@ -115,7 +119,7 @@ void gelmuszta_start(uint8_t image[GELMUSZTA_IMAGE]);
 /* Whether the image is not damaged and its store is sound with a memory of size bytes. */
 bool gelmuszta_sound(const uint8_t image[GELMUSZTA_IMAGE], size_t size);
 
-/* ---- the ten calls, by their codes */
+/* ---- the eleven calls, by their codes */
 
 /* 1, new cluster: at the current node and local number, with its two passwords. Gives its read and its write primary
  * handle. */
@@ -169,6 +173,16 @@ uint8_t gelmuszta_new_password(uint8_t image[GELMUSZTA_IMAGE], const uint8_t *me
  * without GELMUSZTA_FROZEN: freezing twice is done and alters nothing. */
 uint8_t gelmuszta_freeze(uint8_t image[GELMUSZTA_IMAGE], const uint8_t *memory, size_t memory_length, size_t current,
                          size_t segment, const uint8_t handle[GELMUSZTA_HANDLE]);
+
+/* 11, join: of two handles of one cluster, each valid in the mode named, gives one handle that references exactly the
+ * segments that either of the two references. It has the form of a reduced handle: it references them with subselector 0
+ * alone. The order of the two does not matter, and `handle` and `other` may be the same bytes: a handle that is not primary,
+ * joined with itself, gives what call 8 gives for it. Where the two together reference all eight segments, as they do if
+ * one of them is primary, the call gets GELMUSZTA_WHOLE; so a handle given is never primary. Two that reference nothing give
+ * one that references nothing. */
+uint8_t gelmuszta_join(const uint8_t image[GELMUSZTA_IMAGE], const uint8_t *memory, size_t memory_length, size_t mode,
+                       const uint8_t handle[GELMUSZTA_HANDLE], const uint8_t other[GELMUSZTA_HANDLE],
+                       uint8_t given[GELMUSZTA_HANDLE]);
 
 /* ---- a look, which has no code */
 

@@ -25,6 +25,8 @@ static void wide_mode(size_t mode, const uint8_t handle[GELMUSZTA_HANDLE]) {
                                  && memcmp(given, none, sizeof given) == 0);
     expect("mode of new password", gelmuszta_new_password(image, memory, sizeof memory, mode, handle, password, given)
                                        == GELMUSZTA_FIELD && memcmp(given, none, sizeof given) == 0);
+    expect("mode of join", gelmuszta_join(image, memory, sizeof memory, mode, handle, handle, given) == GELMUSZTA_FIELD
+                               && memcmp(given, none, sizeof given) == 0);
 }
 
 /* How many bytes of a segment are odd, counted where they lie, as a spin counter passes over its strip. A refused look shows
@@ -96,6 +98,104 @@ static void freezing(size_t node, size_t local, size_t segment) {
                                && gelmuszta_delete_segment(image, memory, all, node, segment, writer) == GELMUSZTA_FROZEN);
 }
 
+/* Joins two handles, in both orders: number and handle are the same. */
+static void join(const char *what, size_t mode, const uint8_t handle[GELMUSZTA_HANDLE],
+                 const uint8_t other[GELMUSZTA_HANDLE], uint8_t number, const uint8_t joined[GELMUSZTA_HANDLE]) {
+    uint8_t first[GELMUSZTA_HANDLE], second[GELMUSZTA_HANDLE];
+
+    memset(first, 99, sizeof first);
+    memset(second, 99, sizeof second);
+    expect(what, gelmuszta_join(image, memory, sizeof memory, mode, handle, other, first) == number
+                     && gelmuszta_join(image, memory, sizeof memory, mode, other, handle, second) == number
+                     && memcmp(first, joined, sizeof first) == 0 && memcmp(second, joined, sizeof second) == 0);
+}
+
+/* A join for reading that is refused, whichever of the two handles stands first. */
+static void not_joined(const char *what, const uint8_t handle[GELMUSZTA_HANDLE], const uint8_t other[GELMUSZTA_HANDLE],
+                       uint8_t number) {
+    const uint8_t none[GELMUSZTA_HANDLE] = {0};
+
+    join(what, GELMUSZTA_MODE_READ, handle, other, number, none);
+}
+
+/* Segments 0 to 2 from one maker and 3 to 4 from another: one handle reads them all, no other, and writes none. */
+static void joined_handles(const uint8_t low[GELMUSZTA_HANDLE], const uint8_t high[GELMUSZTA_HANDLE],
+                           const uint8_t password[GELMUSZTA_PASSWORD]) {
+    const size_t all = sizeof memory, read = GELMUSZTA_MODE_READ;
+    uint8_t both[GELMUSZTA_HANDLE], narrow[GELMUSZTA_HANDLE], reduced[GELMUSZTA_HANDLE], buffer[4], count;
+    size_t length;
+
+    memcpy(both, low, sizeof both);
+    gelmuszta_convert(password, 0x1f, both + 3);
+    both[19] = 0x1f;
+    join("join", read, low, high, GELMUSZTA_DONE, both);
+    join("join one within the other", read, both, high, GELMUSZTA_DONE, both);
+    gelmuszta_weaken(high, 0x08, narrow, &count);
+    gelmuszta_reduce(image, memory, all, read, narrow, reduced);
+    join("join with itself", read, narrow, narrow, GELMUSZTA_DONE, reduced);
+    expect("reduced", narrow[20] == 0xef && reduced[19] == 0x08 && reduced[20] == 255);
+    expect("read joined", gelmuszta_read(image, memory, all, 0, both, buffer, sizeof buffer, &length) == GELMUSZTA_DONE
+                              && memcmp(buffer, "zero", 4) == 0);
+    expect("read joined", gelmuszta_read(image, memory, all, 4, both, buffer, sizeof buffer, &length) == GELMUSZTA_DONE
+                              && memcmp(buffer, "four", 4) == 0);
+    expect("read beside", gelmuszta_read(image, memory, all, 5, both, buffer, sizeof buffer, &length)
+                              == GELMUSZTA_NOT_REFERENCED);
+    expect("write joined", gelmuszta_write(image, memory, all, 4, both, buffer, sizeof buffer) == GELMUSZTA_VIOLATED);
+}
+
+/* Every number that a join is refused with, and some that come before others which apply too. */
+static void handles_not_joined(const uint8_t low[GELMUSZTA_HANDLE], const uint8_t reader[GELMUSZTA_HANDLE],
+                               const uint8_t writer[GELMUSZTA_HANDLE]) {
+    uint8_t wrong_one[GELMUSZTA_HANDLE], rest[GELMUSZTA_HANDLE], none[GELMUSZTA_HANDLE] = {0}, count;
+
+    image[0] = 2;
+    not_joined("join on a damaged image", low, reader, GELMUSZTA_UNSOUND);
+    image[0] = 0;
+    memcpy(wrong_one, reader, sizeof wrong_one);
+    wrong_one[0] = 1;
+    not_joined("join, no such node", low, wrong_one, GELMUSZTA_NO_SUCH_PLACE);
+    wrong_one[0] = 0;
+    wrong_one[2] = 8;
+    join("join, no such cluster", 3, low, wrong_one, GELMUSZTA_NO_SUCH_PLACE, none);
+    wrong_one[2] = (uint8_t)(low[2] + 1);
+    wrong_one[22] = 0;
+    join("join, no such mode", 0, low, reader, GELMUSZTA_FIELD, none);
+    join("join, no such mode", 3, low, wrong_one, GELMUSZTA_FIELD, none);
+    not_joined("join gapped", low, wrong_one, GELMUSZTA_GAPPED);
+    wrong_one[22] = 255;
+    not_joined("join apart, in one node", low, wrong_one, GELMUSZTA_APART);
+    not_joined("join inactive", wrong_one, wrong_one, GELMUSZTA_INACTIVE);
+    memcpy(wrong_one, reader, sizeof wrong_one);
+    wrong_one[1] = 0;
+    not_joined("join apart, in two nodes", low, wrong_one, GELMUSZTA_APART);
+    not_joined("join for another mode", low, writer, GELMUSZTA_VIOLATED);
+    join("join for another mode", GELMUSZTA_MODE_WRITE, low, writer, GELMUSZTA_VIOLATED, none);
+    gelmuszta_weaken(reader, 0xf8, rest, &count);
+    not_joined("join to all eight", low, rest, GELMUSZTA_WHOLE);
+    not_joined("join with a primary handle", low, reader, GELMUSZTA_WHOLE);
+    not_joined("join a primary handle with itself", reader, reader, GELMUSZTA_WHOLE);
+}
+
+static void joining(size_t node, size_t local) {
+    const uint8_t first_password[GELMUSZTA_PASSWORD] = {9}, second_password[GELMUSZTA_PASSWORD] = {10};
+    uint8_t reader[GELMUSZTA_HANDLE], writer[GELMUSZTA_HANDLE], low[GELMUSZTA_HANDLE], high[GELMUSZTA_HANDLE], count;
+    uint8_t before[GELMUSZTA_IMAGE], bytes[GELMUSZTA_MEMORY];
+    const size_t all = sizeof memory;
+
+    gelmuszta_new_cluster(image, memory, all, node, local, first_password, second_password, reader, writer);
+    gelmuszta_new_segment(image, memory, all, node, 0, 4, writer);
+    gelmuszta_new_segment(image, memory, all, node, 4, 4, writer);
+    gelmuszta_write(image, memory, all, 0, writer, (const uint8_t *)"zero", 4);
+    gelmuszta_write(image, memory, all, 4, writer, (const uint8_t *)"four", 4);
+    gelmuszta_weaken(reader, 0x07, low, &count);
+    gelmuszta_weaken(reader, 0x18, high, &count);
+    memcpy(before, image, sizeof before);
+    memcpy(bytes, memory, sizeof bytes);
+    joined_handles(low, high, first_password);
+    handles_not_joined(low, reader, writer);
+    expect("a join changes nothing", memcmp(image, before, sizeof image) == 0 && memcmp(memory, bytes, sizeof memory) == 0);
+}
+
 int main(void) {
     const size_t all = sizeof memory, node = 1, local = 2, segment = 5, size = 6;
     const uint8_t first_password[GELMUSZTA_PASSWORD] = {3}, second_password[GELMUSZTA_PASSWORD] = {4};
@@ -150,6 +250,7 @@ int main(void) {
     expect("delete cluster", gelmuszta_delete_cluster(image, memory, all, node, writer) == GELMUSZTA_DONE);
     expect("as at the start", memcmp(image, none, sizeof image) == 0 && memcmp(memory + 4096, "guards", 6) == 0);
     freezing(3, 1, 4);
+    joining(2, 6);
     printf("%d wrong\n", wrong);
     return wrong != 0;
 }

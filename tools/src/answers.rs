@@ -105,7 +105,7 @@ fn given(code: u8, words: &[&str]) -> Option<Given> {
             read: handle(read)?,
             write: handle(write)?,
         }),
-        (call::REDUCE | call::NEW_PASSWORD, [word]) => handle(word).map(Given::Handle),
+        (call::REDUCE | call::NEW_PASSWORD | call::JOIN, [word]) => handle(word).map(Given::Handle),
         (call::WEAKEN, [word, count]) => Some(Given::Counted {
             handle: handle(word)?,
             count: count.parse().ok()?,

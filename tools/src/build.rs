@@ -8,7 +8,7 @@ use crate::tokens::Mistake;
 use crate::values::HandleText;
 use model::call::Reply;
 use model::handle::{Handle, HandleBytes};
-use model::list::{Record, Session, HANDLE_AT, NEXT_AT};
+use model::list::{Record, Session, NEXT_AT};
 use model::sizes::HANDLE_BYTES;
 use model::table::word;
 use std::collections::HashMap;
@@ -48,7 +48,7 @@ impl<'a> Builder<'a> {
         let mut at = 0;
         while at < self.records.len() && !self.met[at] {
             self.met[at] = true;
-            self.put_handle(at)?;
+            self.put_handles(at)?;
             let reply = self.session.run(&self.records[at]);
             check(&self.text.entries[at], &reply)?;
             self.name_given(at, &reply);
@@ -69,17 +69,17 @@ impl<'a> Builder<'a> {
                     let what = "the chain does not come to this record, so it gives nothing";
                     return Err(mistake(entry, what));
                 }
-                self.put_handle(at)?;
+                self.put_handles(at)?;
             }
         }
         Ok(())
     }
 
-    fn put_handle(&mut self, at: usize) -> Result<(), Mistake> {
+    fn put_handles(&mut self, at: usize) -> Result<(), Mistake> {
         let entry = &self.text.entries[at];
-        if let Some(handle) = &entry.handle {
+        for (place, handle) in &entry.handles {
             let bytes = self.find(handle).ok_or_else(|| unknown(entry, handle))?;
-            self.records[at][HANDLE_AT..HANDLE_AT + HANDLE_BYTES].copy_from_slice(&bytes);
+            self.records[at][*place..*place + HANDLE_BYTES].copy_from_slice(&bytes);
         }
         Ok(())
     }

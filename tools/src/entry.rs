@@ -12,9 +12,10 @@ use model::sizes::PASSWORD_BYTES;
 #[derive(Clone, Debug)]
 pub struct Entry {
     pub line: usize,
-    /// All bytes but those of the link and of a handle that has a name.
+    /// All bytes but those of the link and of the handles.
     pub bytes: Record,
-    pub handle: Option<HandleText>,
+    /// Where each handle goes, and which it is.
+    pub handles: Vec<(usize, HandleText)>,
     pub next: Option<u8>,
     /// The number that the line says the call comes to.
     pub expect: Option<u8>,
@@ -38,7 +39,7 @@ impl Draft {
         let entry = Entry {
             line,
             bytes: [0; RECORD_BYTES],
-            handle: None,
+            handles: Vec::new(),
             next: None,
             expect: None,
             gives: Vec::new(),
@@ -78,7 +79,10 @@ impl Draft {
                 let size = values::number(tokens, word, u16::MAX.into())? as u16;
                 self.put(SIZE_AT, &size.to_be_bytes());
             }
-            Field::Handle => self.entry.handle = Some(values::handle(tokens)?),
+            Field::Handle(at) => {
+                let handle = values::handle(tokens, word)?;
+                self.entry.handles.push((at, handle));
+            }
             Field::Password(at) => {
                 self.put(at, &values::exactly::<PASSWORD_BYTES>(tokens, word)?);
             }
@@ -147,7 +151,7 @@ pub fn raw(mut tokens: Tokens) -> Result<Entry, Mistake> {
     Ok(Entry {
         line: tokens.line(),
         bytes,
-        handle: None,
+        handles: Vec::new(),
         next: Some(next),
         expect,
         gives: Vec::new(),

@@ -159,6 +159,9 @@ fn call_in_words(call: &Call, data_length: u8, known: &Known) -> String {
         Call::Reduce { mode, .. } => format!("reduce {with} {}", for_mode(mode)),
         Call::NewPassword { mode, .. } => format!("new password {} with {with}", for_mode(mode)),
         Call::Freeze { node, segment, .. } => from_node("freeze", node, segment),
+        Call::Join { mode, other, .. } => {
+            format!("join {with} and {} {}", known.words(&other), for_mode(mode))
+        }
         // No list has these two: they have no code.
         Call::Look { node, segment, .. } => from_node("look at", node, segment),
         Call::Validate { mode, .. } => format!("validate {with} {}", for_mode(mode)),

@@ -146,9 +146,9 @@ pub fn handle_text(word: &str) -> Option<HandleText> {
     }
 }
 
-pub fn handle(tokens: &mut Tokens) -> Result<HandleText, Mistake> {
+pub fn handle(tokens: &mut Tokens, after: &str) -> Result<HandleText, Mistake> {
     let digits = 2 * HANDLE_BYTES;
-    let expected = format!("a handle's name or {digits} hexadecimal digits after 'handle'");
+    let expected = format!("a handle's name or {digits} hexadecimal digits after '{after}'");
     let word = tokens.expect(&expected)?;
     handle_text(&word).ok_or_else(|| tokens.unexpected(&expected, &word))
 }

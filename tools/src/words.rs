@@ -1,7 +1,10 @@
 //! The words that a text uses for calls and fields, and where in a record a field lies.
 
 use model::call;
-use model::list::{DATA_LENGTH_AT, FIRST_PASSWORD_AT, NODE_AT, SECOND_PASSWORD_AT, SEGMENT_AT};
+use model::list::{
+    DATA_LENGTH_AT, FIRST_PASSWORD_AT, HANDLE_AT, NODE_AT, OTHER_HANDLE_AT, SECOND_PASSWORD_AT,
+    SEGMENT_AT,
+};
 
 /// What a field's value is and where it goes.
 #[derive(Clone, Copy, Debug, PartialEq, Eq)]
@@ -9,7 +12,7 @@ pub enum Field {
     Byte(usize),
     Mode,
     Size,
-    Handle,
+    Handle(usize),
     Password(usize),
     /// Bytes from 32 on; they set the data length too, unless `length` does.
     Data,
@@ -17,7 +20,7 @@ pub enum Field {
 
 pub const LENGTH: &str = "length";
 
-const FIELDS: [(&str, Field); 12] = [
+const FIELDS: [(&str, Field); 13] = [
     ("node", Field::Byte(NODE_AT)),
     ("mode", Field::Mode),
     ("local", Field::Byte(SEGMENT_AT)),
@@ -25,7 +28,8 @@ const FIELDS: [(&str, Field); 12] = [
     ("mask", Field::Byte(SEGMENT_AT)),
     (LENGTH, Field::Byte(DATA_LENGTH_AT)),
     ("size", Field::Size),
-    ("handle", Field::Handle),
+    ("handle", Field::Handle(HANDLE_AT)),
+    ("other", Field::Handle(OTHER_HANDLE_AT)),
     ("read", Field::Password(FIRST_PASSWORD_AT)),
     ("password", Field::Password(FIRST_PASSWORD_AT)),
     ("write", Field::Password(SECOND_PASSWORD_AT)),
@@ -70,7 +74,7 @@ const fn plain(
     }
 }
 
-const CALLS: [CallWord; 10] = [
+const CALLS: [CallWord; 11] = [
     plain(
         "new-cluster",
         call::NEW_CLUSTER,
@@ -109,6 +113,7 @@ const CALLS: [CallWord; 10] = [
         1,
     ),
     plain("freeze", call::FREEZE, &["node", "segment", "handle"], 0),
+    plain("join", call::JOIN, &["mode", "handle", "other"], 1),
 ];
 
 /// A record with any code, to which every field can be given.

@@ -98,6 +98,39 @@ fn a_frozen_segment_in_words() {
 }
 
 #[test]
+fn joined_handles_in_words() {
+    let answers = fs::read_to_string(examples().join("laboratory.out")).unwrap();
+    let shown = shown("laboratory.list", &answers);
+    let line = |record: &str| shown.lines().find(|line| line.starts_with(record)).unwrap();
+    let join = line("28 ");
+    assert!(join.contains("  join the handle of record 26 and the handle of record 27 to read  "));
+    assert!(join.contains("  0 done  "), "{join}");
+    assert!(join.ends_with("a0ffffff"), "{join}");
+    assert!(line("30 ").contains("read segment 7 with the handle of record 28"));
+    let ended = line("32 ");
+    assert!(ended.contains("join the handle of record 28 and the handle of record 6 to read"));
+    assert!(ended.ends_with("9 violated protection"), "{ended}");
+}
+
+#[test]
+fn refused_joins_in_words() {
+    let answers = fs::read_to_string(examples().join("lists/join.out")).unwrap();
+    let shown = shown("lists/join.list", &answers);
+    let line = |record: &str| {
+        let mut lines = shown.lines().map(str::trim_start);
+        lines.find(|line| line.starts_with(record)).unwrap()
+    };
+    let whole = line("68 ");
+    assert!(whole
+        .contains("join the write handle of record 1 and the write handle of record 1 to write"));
+    assert!(whole.ends_with("23 whole"), "{whole}");
+    let apart = line("93 ");
+    assert!(apart.contains("join the handle of record 8 and handle 000103"));
+    assert!(apart.ends_with("24 apart"), "{apart}");
+    assert!(line("78 ").contains(" for mode 3 "), "{}", line("78 "));
+}
+
+#[test]
 fn answers_that_do_not_belong() {
     assert_eq!(shown("sample.list", "list 19\n"), "list refused: 19 link\n");
     assert_eq!(
@@ -115,6 +148,10 @@ fn answers_that_do_not_belong() {
     assert_eq!(
         shown("lists/freeze.list", "6 10 0 00\nend 1\n"),
         "1: expected a record's answer, found '6 10 0 00'"
+    );
+    assert_eq!(
+        shown("lists/join.list", "10 11 0\nend 1\n"),
+        "1: expected a record's answer, found '10 11 0'"
     );
     assert_eq!(
         shown("lists/length.list", "end 0\n"),

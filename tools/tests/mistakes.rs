@@ -22,6 +22,14 @@ fn words_and_fields() {
     assert_eq!(mistake("read segment 5"), "1: 'read' needs 'handle'");
     assert_eq!(mistake("freeze segment 5"), "1: 'freeze' needs 'node'");
     assert_eq!(
+        mistake("let a = node 0\njoin mode read handle a"),
+        "2: 'join' needs 'other'"
+    );
+    assert_eq!(
+        mistake("reduce mode read other a"),
+        "1: expected one of mode, handle, next, fill, expect, ->, found 'other'"
+    );
+    assert_eq!(
         mistake("read segment 1 segment 1"),
         "1: 'segment' stands twice"
     );
@@ -87,6 +95,26 @@ fn names() {
         "1: expected a handle that an earlier call gives, found 'lab'"
     );
     assert!(mistake("let 5 = node 0").ends_with("found '5'"));
+    let join = |handle: &str, other: &str| {
+        let join = format!("join mode read handle {handle} other {other}");
+        mistake(&format!("{CLUSTER} -> reader writer\n{join}"))
+    };
+    assert_eq!(
+        join("reader", "lab"),
+        "2: expected a handle that an earlier call gives, found 'lab'"
+    );
+    assert_eq!(
+        join("lab", "writer"),
+        "2: expected a handle that an earlier call gives, found 'lab'"
+    );
+    assert_eq!(
+        join("reader", "0002"),
+        "2: expected a handle's name or 46 hexadecimal digits after 'other', found '0002'"
+    );
+    assert_eq!(
+        join("reader", "writer other reader"),
+        "2: 'other' stands twice"
+    );
 }
 
 #[test]
@@ -110,6 +138,24 @@ fn numbers_that_calls_come_to() {
     assert_eq!(
         mistake(&format!("{CLUSTER} -> reader writer\n{frozen}")),
         "4: expected 0 (done), found 22 (frozen)"
+    );
+    let join = |handle: &str, other: &str| {
+        let join = format!("join mode read handle {handle} other {other} -> both");
+        mistake(&format!(
+            "{CLUSTER} -> reader writer\nlet apart = reader local 3\n{join}"
+        ))
+    };
+    assert_eq!(
+        join("reader", "reader"),
+        "3: expected a call that is done, found 23 (whole)"
+    );
+    assert_eq!(
+        join("apart", "reader"),
+        "3: expected a call that is done, found 24 (apart)"
+    );
+    assert_eq!(
+        join("reader", "writer"),
+        "3: expected a call that is done, found 9 (violated protection)"
     );
 }
 
