@@ -7,7 +7,7 @@
 //! - [`handle`]: selectors, the 23 bytes, conversion, weakening, reduction.
 //! - [`store`]: records, soundness, placement.
 //! - [`table`]: the numbers of refusal, their words, and the test behind each of them.
-//! - [`call`]: the ten calls, looks and validation with their arguments, and replies.
+//! - [`call`]: the eleven calls, looks and validation with their arguments, and replies.
 //! - [`model`]: the calls carried out.
 //! - [`list`]: records of 64 bytes, the chain, and the text that a list comes out as.
 //! - [`vectors`]: the published handles.

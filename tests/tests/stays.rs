@@ -174,7 +174,7 @@ fn freezes(unused: u8) -> Vec<Record> {
         by(0, 5, writer().weaken(0x20).unwrap()),
         by(0, 6, writer()),
         record(5, 0, 5, &reader(), unused),
-        record(11, 0, 5, &writer(), unused),
+        record(12, 0, 5, &writer(), unused),
     ]
 }
 
@@ -183,7 +183,7 @@ fn code_10_and_a_line_that_stops_at_the_number() {
     #[rustfmt::skip]
     let expected = [
         "2 3 0", "3 10 0", "4 10 0", "5 6 22", "6 4 22", "7 2 22", "8 10 2", "9 10 3", "10 10 5",
-        "11 10 8", "12 10 9", "13 10 10", "14 10 14", "15 5 0 00000000", "16 11 3", "end 16",
+        "11 10 8", "12 10 9", "13 10 10", "14 10 14", "15 5 0 00000000", "16 12 3", "end 16",
     ];
     for unused in [0, 1, 0xff] {
         assert_eq!(lines(freezes(unused))[1..], expected);
