@@ -24,11 +24,12 @@ fn valid_call(random: &mut Random, bench: &Bench) -> Call {
     let primary = |mode| Handle::primary(0, local, *cluster.primary(mode));
     let (reader, handle) = (primary(Mode::Read), primary(Mode::Write));
     let weaker = handle.weaken(random.byte() | 1).expect("all are flat");
+    let other = handle.weaken(random.byte() | 2).expect("all are flat");
     let (node, segment, mode) = (0, random.below(4) as u32, WRITE_MODE);
     let password: Password = random.bytes();
     let size = 1 + random.below(40) as u32;
     #[rustfmt::skip]
-    let call = match random.below(40) {
+    let call = match random.below(41) {
         0..=3 => Call::NewCluster { node, local: local.into(), read: random.bytes(), write: password },
         4..=7 => Call::DeleteCluster { node, handle },
         8..=17 => Call::NewSegment { node, segment, size, handle },
@@ -41,6 +42,7 @@ fn valid_call(random: &mut Random, bench: &Bench) -> Call {
         35 => Call::Read { segment, handle: reader },
         36 => Call::Look { node, segment, handle: reader },
         37 => Call::Validate { mode, handle },
+        38 => Call::Join { mode, handle: weaker, other },
         _ => Call::Freeze { node, segment, handle },
     };
     call
