@@ -8,7 +8,7 @@
 //! - [`single`], [`runs`], [`edges`], [`batch`], [`copies`], [`published`]: what is compared.
 //! - [`stays`]: whether what is frozen stays, judged by the library's side alone.
 //! - [`tally`], [`damages`], [`sights`]: which answers, fills, selectors, modes, damages, ways to nothing,
-//!   frozen segments, looks and freezes were met.
+//!   frozen segments, looks, freezes and joins were met.
 
 pub mod batch;
 pub mod chance;

@@ -89,6 +89,8 @@ fn edges(seed: u64) -> Result<(), String> {
     println!("looks at the edges: {looks}, {done} of them done");
     let (freezes, done) = edges::freezes(guard::ask, seed).map_err(named("edges of freezes"))?;
     println!("freezes at the edges: {freezes}, {done} of them done");
+    let (joins, done) = edges::joins(guard::ask, seed).map_err(named("edges of joins"))?;
+    println!("joins at the edges: {joins}, {done} of them done");
     Ok(())
 }
 
@@ -99,14 +101,20 @@ fn two_copies(task: &Task) -> Result<Vec<String>, String> {
         "two copies: {pairs} pairs, with {} calls, {} of them done, {} naming the cluster set apart",
         count.calls, count.done, count.naming
     );
-    for (what, done, apart) in [
-        ("looks", count.looks, count.looks_apart),
-        ("freezes", count.freezes, count.freezes_apart),
+    for (what, kept) in [
+        ("looks", count.looks),
+        ("freezes", count.freezes),
+        ("joins", count.joins),
     ] {
         println!(
-            "{what} in two copies: {done} done, {apart} kept from the cluster set apart by the password alone"
+            "{what} in two copies: {} done, {} kept from the cluster set apart by passwords alone",
+            kept.done, kept.apart
         );
     }
+    println!(
+        "joins in two copies: in {} the first handle alone names the cluster set apart, in {} the second",
+        count.by_the_first, count.by_the_second
+    );
     println!(
         "frozen in two copies: {} calls refused with 22, {} clusters set apart with some",
         count.frozen, count.frozen_apart
