@@ -30,7 +30,7 @@ struct Both {
     handles: [Handle; 2],
 }
 
-/// What a join is asked with besides, and whether it is done.
+/// What one join is asked with.
 struct Arguments {
     memory_bytes: usize,
     mode: usize,
@@ -80,9 +80,8 @@ impl Both {
         let mut store = stores::store(random, Fill::Partial);
         let local = below(random, CLUSTERS);
         let cluster = &mut store.clusters[node][local];
-        if !cluster.active {
-            *cluster = stores::active(random);
-        }
+        // Passwords that no other cluster has.
+        (cluster.active, cluster.read, cluster.write) = (true, random.bytes(), random.bytes());
         let primary = *cluster.primary(Mode::from_number(mode).expect("it is a mode"));
         let handle = |segments| {
             let selector = Selector([segments, 255, 255, 255]);
