@@ -2,7 +2,7 @@
 //! of one cluster, each of them valid: none, one or two things are made wrong in them.
 
 use super::handles::{gapped, is_inactive, place};
-use crate::handle::{Handle, Password, Selector, FLAT};
+use crate::handle::{Handle, Selector, FLAT};
 use crate::random::Random;
 use crate::sizes::{CLUSTERS, NODES, PASSWORD_BYTES, SEGMENTS, SUBSELECTORS};
 use crate::store::{Mode, Store};
@@ -166,7 +166,7 @@ impl Join {
                 for handle in chosen {
                     match fault {
                         Fault::Gapped => *handle = with_a_gap(random, store, handle, mode),
-                        Fault::NotValid => forge(random, &mut handle.password),
+                        Fault::NotValid => *handle = not_valid(random, store, handle, mode),
                         _ => to_no_place(nowhere, handle),
                     }
                 }
@@ -211,8 +211,17 @@ fn with_a_gap(random: &mut Random, store: &Store, handle: &Handle, mode: Mode) -
     }
 }
 
-fn forge(random: &mut Random, password: &mut Password) {
-    password[random.below(PASSWORD_BYTES as u64) as usize] ^= 1 << random.below(8);
+/// The handle as if it were given for the other mode, or with another password.
+fn not_valid(random: &mut Random, store: &Store, handle: &Handle, mode: Mode) -> Handle {
+    if random.one_in(2) {
+        return match mode {
+            Mode::Read => moved(store, handle, handle.name(), Mode::Write),
+            Mode::Write => moved(store, handle, handle.name(), Mode::Read),
+        };
+    }
+    let mut forged = *handle;
+    forged.password[random.below(PASSWORD_BYTES as u64) as usize] ^= 1 << random.below(8);
+    forged
 }
 
 /// A node or a local number that there is not, often one that is right in its lowest bits alone. Equal choices take
