@@ -24,8 +24,9 @@ fn lines(records: &[Record]) -> Vec<String> {
     new_cluster[32..48].fill(0x11);
     new_cluster[48..].fill(0x22);
     let mut list = [&[new_cluster], records].concat();
-    for at in 0..records.len() {
-        list[at][0] = at as u8 + 2;
+    let (_, all_but_the_last) = list.split_last_mut().expect("one at least");
+    for (at, record) in all_but_the_last.iter_mut().enumerate() {
+        record[0] = at as u8 + 2;
     }
     let text = String::from_utf8(output(&list.concat())).unwrap();
     text.lines().skip(1).map(str::to_string).collect()
