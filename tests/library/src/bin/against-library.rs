@@ -4,6 +4,7 @@ use library::batch;
 use library::copies;
 use library::edges;
 use library::guard;
+use library::laws;
 use library::published;
 use library::runs::{self, RUN_CALLS};
 use library::single;
@@ -15,7 +16,8 @@ const USAGE: &str = "usage: against-library [SEED] [CALLS]";
 const BAD_USAGE: u8 = 2;
 const USUAL_SEED: u64 = 1;
 const USUAL_CALLS: u64 = 100_000;
-/// There is one batch of validations for so many calls, and one pair of copies.
+/// There is one join of which laws are judged for so many calls, one batch of validations, and one pair of copies.
+const CALLS_PER_JOIN: u64 = 10;
 const CALLS_PER_BATCH: u64 = 100;
 const CALLS_PER_PAIR: u64 = 250;
 
@@ -53,6 +55,10 @@ fn compare(task: &Task, tally: &mut Tally) -> Result<Vec<String>, String> {
     let not_frozen = what_is_frozen(task)?;
 
     edges(seed)?;
+
+    let joins = calls.div_ceil(CALLS_PER_JOIN);
+    let done = laws::compare(guard::ask, seed, joins).map_err(named("laws of joins"))?;
+    println!("laws of joins: {joins} joins, {done} of them done");
 
     let count = calls.div_ceil(CALLS_PER_BATCH);
     let validations =

@@ -138,7 +138,7 @@ another_handle!(a_handle_comes_back_from_a_join_with_itself, |asked| {
 // All eight.
 
 /// The library, if it gave this where the union is all eight.
-fn for_all_eight(held: &mut Held, question: &Question, given: Given) -> Answer {
+pub fn for_all_eight(held: &mut Held, question: &Question, given: Given) -> Answer {
     let (_, but_the_last): (&Row, &[Row]) = RIGHT.split_last().expect("there are rows");
     joined(held, question, but_the_last, given)
 }

@@ -5,6 +5,7 @@
 mod copies;
 mod edges;
 mod given;
+mod laws;
 mod numbers;
 mod orders;
 
