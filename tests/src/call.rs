@@ -18,9 +18,10 @@ pub const WEAKEN: u8 = 7;
 pub const REDUCE: u8 = 8;
 pub const NEW_PASSWORD: u8 = 9;
 pub const FREEZE: u8 = 10;
+pub const JOIN: u8 = 11;
 
 /// The codes with the calls' names, in order.
-pub const CALLS: [(u8, &str); 10] = [
+pub const CALLS: [(u8, &str); 11] = [
     (NEW_CLUSTER, "new cluster"),
     (DELETE_CLUSTER, "delete cluster"),
     (NEW_SEGMENT, "new segment"),
@@ -31,6 +32,7 @@ pub const CALLS: [(u8, &str); 10] = [
     (REDUCE, "reduce"),
     (NEW_PASSWORD, "new password"),
     (FREEZE, "freeze"),
+    (JOIN, "join"),
 ];
 
 /// One call, a look, or validation asked for by itself. Numbers are as the caller gave them, right
@@ -85,6 +87,11 @@ pub enum Call {
         segment: u32,
         handle: Handle,
     },
+    Join {
+        mode: u32,
+        handle: Handle,
+        other: Handle,
+    },
     Look {
         node: u32,
         segment: u32,
@@ -97,6 +104,7 @@ pub enum Call {
 }
 
 impl Call {
+    /// The handle that the call presents; the first, where it presents two.
     pub fn handle(&self) -> Option<&Handle> {
         match self {
             Call::NewCluster { .. } => None,
@@ -109,9 +117,19 @@ impl Call {
             | Call::Reduce { handle, .. }
             | Call::NewPassword { handle, .. }
             | Call::Freeze { handle, .. }
+            | Call::Join { handle, .. }
             | Call::Look { handle, .. }
             | Call::Validate { handle, .. } => Some(handle),
         }
+    }
+
+    /// Every handle that the call presents: none, one, or the two of a join.
+    pub fn presented(&self) -> impl Iterator<Item = &Handle> {
+        let other = match self {
+            Call::Join { other, .. } => Some(other),
+            _ => None,
+        };
+        self.handle().into_iter().chain(other)
     }
 
     pub fn current_node(&self) -> Option<u32> {
@@ -143,12 +161,13 @@ impl Call {
         match *self {
             Call::Reduce { mode, .. }
             | Call::NewPassword { mode, .. }
+            | Call::Join { mode, .. }
             | Call::Validate { mode, .. } => Some(mode),
             _ => None,
         }
     }
 
-    /// The mode in which the call's handle has to validate; none where nothing is validated.
+    /// The mode in which each handle of the call has to validate; none where nothing is validated.
     pub fn needed_mode(&self) -> Option<Mode> {
         match self {
             Call::NewCluster { .. } | Call::Weaken { .. } => None,
@@ -160,6 +179,7 @@ impl Call {
             Call::Read { .. } | Call::Look { .. } => Some(Mode::Read),
             Call::Reduce { mode, .. }
             | Call::NewPassword { mode, .. }
+            | Call::Join { mode, .. }
             | Call::Validate { mode, .. } => Mode::from_number(*mode),
         }
     }

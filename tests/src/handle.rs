@@ -122,6 +122,11 @@ impl Handle {
         bytes
     }
 
+    /// Node and local number of the cluster that the handle names.
+    pub fn name(&self) -> (u16, u8) {
+        (self.node, self.local)
+    }
+
     /// Whether the password is the one that the selector and `primary` define.
     pub fn validates(&self, primary: &Password) -> bool {
         derive(primary, &self.selector) == self.password
@@ -159,11 +164,26 @@ impl Handle {
         if self.selector.is_primary() {
             return self;
         }
-        let common = self.selector.referenced();
+        self.noting(self.selector.referenced(), primary)
+    }
+
+    /// The segments that either handle references.
+    pub fn union(&self, other: &Handle) -> u8 {
+        self.selector.referenced() | other.selector.referenced()
+    }
+
+    /// The handle for the segments that this one or another of the same cluster references, in the
+    /// form of a reduced one; asked where they are not all.
+    pub fn join(self, other: &Handle, primary: &Password) -> Handle {
+        self.noting(self.union(other), primary)
+    }
+
+    /// The cluster's handle that has these segments in subselector 0, and the others flat.
+    fn noting(self, segments: u8, primary: &Password) -> Handle {
         let mut selector = Selector::PRIMARY;
-        selector.0[0] = common;
+        selector.0[0] = segments;
         Handle {
-            password: convert(primary, common),
+            password: convert(primary, segments),
             selector,
             ..self
         }

@@ -7,12 +7,13 @@
 //! - [`handle`]: selectors, the 23 bytes, conversion, weakening, reduction.
 //! - [`store`]: records, soundness, placement.
 //! - [`table`]: the numbers of refusal, their words, and the test behind each of them.
-//! - [`call`]: the ten calls, looks and validation with their arguments, and replies.
+//! - [`call`]: the eleven calls, looks and validation with their arguments, and replies.
 //! - [`model`]: the calls carried out.
 //! - [`list`]: records of 64 bytes, the chain, and the text that a list comes out as.
 //! - [`vectors`]: the published handles.
 //! - [`nothing`]: the ways to a handle that would reference nothing, for those who count what was met.
 //! - [`frozen`]: whether what is frozen stays, and what calls come to there, for those who watch them.
+//! - [`joins`]: how the two handles of a join meet, for those who count what was met.
 //! - [`random`], [`generate`]: lists made by chance from a seed.
 //! - [`program`], [`streams`]: a program run, with its input and output in every way that they can come.
 
@@ -22,6 +23,7 @@ pub mod frozen;
 pub mod generate;
 pub mod handle;
 pub mod hexadecimal;
+pub mod joins;
 pub mod list;
 pub mod model;
 pub mod nothing;

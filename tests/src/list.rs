@@ -26,21 +26,23 @@ pub const HANDLE_AT: usize = 8;
 pub const FIRST_PASSWORD_AT: usize = 32;
 pub const SECOND_PASSWORD_AT: usize = 48;
 pub const DATA_AT: usize = 32;
+/// The second handle of a join.
+pub const OTHER_HANDLE_AT: usize = 32;
 
 pub type Record = [u8; RECORD_BYTES];
 
 /// For each number, the calls that a list can bring to it. A list starts from a sound store and has
 /// a buffer that any segment fits in, so 1 is not among them, nor 15 for a read.
-const REACHABLE: [(u8, &[u8]); 19] = [
-    (0, &[1, 2, 3, 4, 5, 6, 7, 8, 9, 10]),
-    (2, &[1, 2, 3, 4, 5, 6, 7, 8, 9, 10]),
-    (3, &[3, 4, 5, 6, 8, 9, 10]),
-    (4, &[2, 3, 4, 5, 6, 7, 8, 9, 10]),
+const REACHABLE: [(u8, &[u8]); 21] = [
+    (0, &[1, 2, 3, 4, 5, 6, 7, 8, 9, 10, 11]),
+    (2, &[1, 2, 3, 4, 5, 6, 7, 8, 9, 10, 11]),
+    (3, &[3, 4, 5, 6, 8, 9, 10, 11]),
+    (4, &[2, 3, 4, 5, 6, 7, 8, 9, 10, 11]),
     (5, &[2, 3, 4, 10]),
     (6, &[1]),
     (7, &[1]),
-    (8, &[2, 3, 4, 5, 6, 8, 9, 10]),
-    (9, &[2, 3, 4, 5, 6, 8, 9, 10]),
+    (8, &[2, 3, 4, 5, 6, 8, 9, 10, 11]),
+    (9, &[2, 3, 4, 5, 6, 8, 9, 10, 11]),
     (10, &[2, 3, 4, 9, 10]),
     (11, &[5, 6]),
     (12, &[9]),
@@ -51,6 +53,8 @@ const REACHABLE: [(u8, &[u8]); 19] = [
     (17, &[7]),
     (21, &[7]),
     (22, &[2, 4, 6]),
+    (23, &[11]),
+    (24, &[11]),
 ];
 
 /// The pairs that a list can reach: the code of a call and a number.
@@ -76,15 +80,15 @@ fn password_at(record: &Record, at: usize) -> Password {
     password
 }
 
-fn handle_of(record: &Record) -> Handle {
+fn handle_at(record: &Record, at: usize) -> Handle {
     let mut bytes = [0; HANDLE_BYTES];
-    bytes.copy_from_slice(&record[HANDLE_AT..HANDLE_AT + HANDLE_BYTES]);
+    bytes.copy_from_slice(&record[at..at + HANDLE_BYTES]);
     Handle::from_bytes(&bytes)
 }
 
 /// The call that a record's code stands for; bytes that it does not use are not looked at.
 fn call_of(record: &Record) -> Option<Call> {
-    let handle = handle_of(record);
+    let [handle, other] = [HANDLE_AT, OTHER_HANDLE_AT].map(|at| handle_at(record, at));
     let [node, mode, segment] = [NODE_AT, MODE_AT, SEGMENT_AT].map(|at| u32::from(record[at]));
     let size = u32::from(u16::from_be_bytes([record[SIZE_AT], record[SIZE_AT + 1]]));
     let [first, second] = [FIRST_PASSWORD_AT, SECOND_PASSWORD_AT].map(|at| password_at(record, at));
@@ -100,6 +104,7 @@ fn call_of(record: &Record) -> Option<Call> {
         call::REDUCE => Call::Reduce { mode, handle },
         call::NEW_PASSWORD => Call::NewPassword { mode, handle, password: first },
         call::FREEZE => Call::Freeze { node, segment, handle },
+        call::JOIN => Call::Join { mode, handle, other },
         _ => return None,
     };
     Some(call)
@@ -227,7 +232,9 @@ impl Session {
                 text.push(b' ');
                 push_decimal(text, reply.count);
             }
-            call::REDUCE | call::NEW_PASSWORD => push_hexadecimal(text, &reply.first),
+            call::REDUCE | call::NEW_PASSWORD | call::JOIN => {
+                push_hexadecimal(text, &reply.first);
+            }
             _ => {}
         }
     }

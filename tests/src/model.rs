@@ -1,4 +1,4 @@
-//! The ten calls, looks and validation, carried out on a store, a memory and a buffer that are lent.
+//! The eleven calls, looks and validation, carried out on a store, a memory and a buffer that are lent.
 
 use crate::call::{Call, Reply};
 use crate::handle::{Handle, Password};
@@ -51,6 +51,7 @@ fn carry_out(store: &mut Store, memory: &mut [u8], buffer: &mut [u8], call: &Cal
         Call::Freeze {
             segment, handle, ..
         } => freeze(store, &handle, segment),
+        Call::Join { handle, other, .. } => join(store, call, handle, &other),
         Call::Look {
             segment, handle, ..
         } => look(part(store, &handle, segment)),
@@ -169,6 +170,11 @@ fn weaken(handle: Handle, mask: u8) -> Reply {
 fn reduce(store: &mut Store, call: &Call, handle: Handle) -> Reply {
     let primary = *cluster_mut(store, &handle).primary(mode_of(call));
     Reply::with_handle(&handle.reduce(&primary))
+}
+
+fn join(store: &mut Store, call: &Call, handle: Handle, other: &Handle) -> Reply {
+    let primary = *cluster_mut(store, &handle).primary(mode_of(call));
+    Reply::with_handle(&handle.join(other, &primary))
 }
 
 fn new_password(store: &mut Store, call: &Call, handle: Handle, password: Password) -> Reply {

@@ -2,6 +2,7 @@
 
 use model::frozen::{Case, Watch};
 use model::generate;
+use model::joins::Meeting;
 use model::list::{chain, output, reachable, records, request, run, Request, Session, CODE_AT};
 use model::nothing::Way;
 use model::random::Random;
@@ -26,6 +27,7 @@ fn lists_reach_what_can_be_reached() {
     let mut pairs = BTreeSet::new();
     let mut ways = BTreeSet::new();
     let mut cases = BTreeSet::new();
+    let mut meetings = BTreeSet::new();
     let mut refused = BTreeSet::new();
     for list in lists(1) {
         let text = run(&list, |found, record, reply| match request(record) {
@@ -34,6 +36,7 @@ fn lists_reach_what_can_be_reached() {
                 pairs.insert((record[CODE_AT], reply.number));
                 ways.extend(Way::of(&call, reply.number));
                 cases.extend(Case::of(found, &call, reply.number));
+                meetings.extend(Meeting::of(found, &call, reply.number));
             }
         });
         refused.extend(text.strip_prefix(b"list ").map(<[u8]>::to_vec));
@@ -41,6 +44,7 @@ fn lists_reach_what_can_be_reached() {
     assert_eq!(pairs, reachable().collect());
     assert_eq!(ways, Way::in_lists().collect());
     assert_eq!(cases, Case::in_lists().collect());
+    assert!(meetings.is_superset(&Meeting::all().collect()));
     assert_eq!(refused.len(), 3);
 }
 

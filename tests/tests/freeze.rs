@@ -37,9 +37,9 @@ fn freeze_by(node: u32, segment: u32, handle: Handle) -> Call {
 
 #[test]
 fn its_word_and_its_places() {
-    assert_eq!((word(22), word(23)), (Some("frozen"), None));
+    assert_eq!(word(22), Some("frozen"));
     let places = [
-        1, 2, 3, 4, 5, 6, 7, 8, 9, 10, 22, 11, 12, 13, 14, 22, 15, 16, 21, 17,
+        1, 2, 3, 4, 24, 5, 6, 7, 8, 9, 23, 10, 22, 11, 12, 13, 14, 22, 15, 16, 21, 17,
     ];
     assert!(numbers_of_calls().eq(places));
 }

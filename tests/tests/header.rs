@@ -29,7 +29,8 @@ fn expected() -> Vec<u8> {
 fn numbers_in_the_table_s_order() {
     let numbers: Vec<u8> = lines().map(|(_, number, _)| number).collect();
     assert_eq!(numbers, expected());
-    assert_eq!(numbers[10..13], [10, 22, 11]);
+    assert_eq!(numbers[4..6], [4, 24]);
+    assert_eq!(numbers[10..14], [9, 23, 10, 22]);
     assert_eq!(numbers[numbers.len() - 3..], [16, 21, 17]);
 }
 
@@ -48,6 +49,8 @@ fn words_and_names() {
     for (name, number, said) in [
         ("GELMUSZTA_EMPTY", 21, "empty, 7: "),
         ("GELMUSZTA_FROZEN", 22, "frozen, "),
+        ("GELMUSZTA_WHOLE", 23, "whole, 11: "),
+        ("GELMUSZTA_APART", 24, "apart, 11: "),
     ] {
         let line = lines().find(|line| line.0 == name);
         assert!(line.is_some_and(|(_, found, comment)| {

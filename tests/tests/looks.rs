@@ -260,6 +260,6 @@ fn no_code_stands_for_it() {
         let mut record = [0; RECORD_BYTES];
         record[CODE_AT] = code;
         let is_call = request(&record) != Request::BadCode;
-        assert_eq!(is_call, (1..=10).contains(&code));
+        assert_eq!(is_call, (1..=11).contains(&code));
     }
 }

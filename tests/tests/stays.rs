@@ -24,11 +24,12 @@ fn valid_call(random: &mut Random, bench: &Bench) -> Call {
     let primary = |mode| Handle::primary(0, local, *cluster.primary(mode));
     let (reader, handle) = (primary(Mode::Read), primary(Mode::Write));
     let weaker = handle.weaken(random.byte() | 1).expect("all are flat");
+    let other = handle.weaken(random.byte() | 2).expect("all are flat");
     let (node, segment, mode) = (0, random.below(4) as u32, WRITE_MODE);
     let password: Password = random.bytes();
     let size = 1 + random.below(40) as u32;
     #[rustfmt::skip]
-    let call = match random.below(40) {
+    let call = match random.below(41) {
         0..=3 => Call::NewCluster { node, local: local.into(), read: random.bytes(), write: password },
         4..=7 => Call::DeleteCluster { node, handle },
         8..=17 => Call::NewSegment { node, segment, size, handle },
@@ -41,6 +42,7 @@ fn valid_call(random: &mut Random, bench: &Bench) -> Call {
         35 => Call::Read { segment, handle: reader },
         36 => Call::Look { node, segment, handle: reader },
         37 => Call::Validate { mode, handle },
+        38 => Call::Join { mode, handle: weaker, other },
         _ => Call::Freeze { node, segment, handle },
     };
     call
@@ -174,7 +176,7 @@ fn freezes(unused: u8) -> Vec<Record> {
         by(0, 5, writer().weaken(0x20).unwrap()),
         by(0, 6, writer()),
         record(5, 0, 5, &reader(), unused),
-        record(11, 0, 5, &writer(), unused),
+        record(12, 0, 5, &writer(), unused),
     ]
 }
 
@@ -183,7 +185,7 @@ fn code_10_and_a_line_that_stops_at_the_number() {
     #[rustfmt::skip]
     let expected = [
         "2 3 0", "3 10 0", "4 10 0", "5 6 22", "6 4 22", "7 2 22", "8 10 2", "9 10 3", "10 10 5",
-        "11 10 8", "12 10 9", "13 10 10", "14 10 14", "15 5 0 00000000", "16 11 3", "end 16",
+        "11 10 8", "12 10 9", "13 10 10", "14 10 14", "15 5 0 00000000", "16 12 3", "end 16",
     ];
     for unused in [0, 1, 0xff] {
         assert_eq!(lines(freezes(unused))[1..], expected);

@@ -1,6 +1,6 @@
 //! The published handles are those of the model, and are what the calls give.
 
-use model::handle::{Handle, HandleBytes};
+use model::handle::{Handle, HandleBytes, Password};
 use model::hexadecimal::decode;
 use model::vectors::text;
 use std::collections::HashMap;
@@ -37,6 +37,42 @@ fn weakening(old: &Handle, mask: u8) -> (&'static str, Option<&'static str>) {
     }
 }
 
+/// The segments that either of two handles references, one by one.
+fn either(one: &Handle, two: &Handle) -> Vec<usize> {
+    let references =
+        |&segment: &usize| one.selector.references(segment) || two.selector.references(segment);
+    (0..8).filter(references).collect()
+}
+
+/// What a line about a join has to say; both handles have to validate where they are.
+fn joining(one: &Handle, two: &Handle, primary: &Password) -> (&'static str, Option<&'static str>) {
+    assert!(one.validates(primary) && two.validates(primary));
+    match (one.node, one.local) == (two.node, two.local) {
+        false => ("apart", Some("24")),
+        true if either(one, two).len() == 8 => ("whole", Some("23")),
+        true => ("joined", None),
+    }
+}
+
+#[test]
+fn joined_in_the_form_of_a_reduced_handle() {
+    let lines = PUBLISHED.lines().filter(|line| line.starts_with("joined "));
+    let mut with_itself = 0;
+    for (_, values) in lines.map(read) {
+        let [one, two, new] = ["one", "two", "new"].map(|key| handle(values[key]));
+        assert_eq!((new.node, new.local), (one.node, one.local));
+        assert_eq!(new.selector.0[1..], [255; 3]);
+        assert_ne!(new.selector.0[0], 255);
+        assert_eq!(either(&new, &new), either(&one, &two));
+        if one == two {
+            let reduced = format!("old={} new={} ", values["one"], values["new"]);
+            assert!(PUBLISHED.contains(&reduced), "{reduced}");
+            with_itself += 1;
+        }
+    }
+    assert_eq!(with_itself, 8);
+}
+
 #[test]
 fn every_handle_validates_and_every_count_is_right() {
     let lines = PUBLISHED
@@ -57,12 +93,21 @@ fn every_handle_validates_and_every_count_is_right() {
             let number = values.get("number").copied();
             assert_eq!((kind, number), weakening(&handle(old), mask));
         }
+        if let (Some(one), Some(two)) = (values.get("one"), values.get("two")) {
+            let primary = decode(values["primary"]).unwrap().try_into().unwrap();
+            let number = values.get("number").copied();
+            let due = joining(&handle(one), &handle(two), &primary);
+            assert_eq!((kind, number), due);
+        }
     }
     let expected = [
         ("conversion", 32),
         ("primary", 8),
         ("weakened", 160),
         ("reduced", 160),
+        ("joined", 72),
+        ("whole", 40),
+        ("apart", 6),
         ("empty", 24),
         ("spent", 8),
         ("validation", 24),

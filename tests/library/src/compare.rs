@@ -87,7 +87,7 @@ fn same_held(expected: &Held, found: &Held) -> Result<(), String> {
     same_bytes("the memories", &expected.memory, &found.memory)
 }
 
-/// What holds of refusals, and of looks whatever comes of them. Judged on the library's side alone,
+/// What holds of refusals, and of looks and joins whatever comes of them. Judged on the library's side alone,
 /// so that it does not hang on the model.
 fn changes_nothing_where_due(
     before: &Held,
@@ -98,6 +98,7 @@ fn changes_nothing_where_due(
     let kind = match (found.reply.is_done(), question.call) {
         (false, _) => "a refusal",
         (true, Call::Look { .. }) => "a look",
+        (true, Call::Join { .. }) => "a join",
         _ => return Ok(()),
     };
     if !found.reply.is_done() && found.reply != Reply::refused(found.reply.number) {

@@ -103,6 +103,16 @@ extern "C" {
         handle: *const HandleBytes,
     ) -> u8;
 
+    pub fn gelmuszta_join(
+        image: *const Image,
+        memory: *const u8,
+        memory_length: usize,
+        mode: usize,
+        handle: *const HandleBytes,
+        other: *const HandleBytes,
+        given: *mut HandleBytes,
+    ) -> u8;
+
     pub fn gelmuszta_look(
         image: *const Image,
         memory: *const u8,

@@ -6,9 +6,10 @@
 //! - [`compare`]: one question put to both, and everything that has to be equal afterwards.
 //! - [`chance`]: stores, damage, handles and questions made by chance from a seed.
 //! - [`single`], [`runs`], [`edges`], [`batch`], [`copies`], [`published`]: what is compared.
-//! - [`stays`]: whether what is frozen stays, judged by the library's side alone.
+//! - [`stays`], [`laws`]: whether what is frozen stays, and what holds of joins, judged by the library's side
+//!   alone.
 //! - [`tally`], [`damages`], [`sights`]: which answers, fills, selectors, modes, damages, ways to nothing,
-//!   frozen segments, looks and freezes were met.
+//!   frozen segments, looks, freezes and joins were met.
 
 pub mod batch;
 pub mod chance;
@@ -19,6 +20,7 @@ pub mod edges;
 pub mod ffi;
 pub mod guard;
 pub mod image;
+pub mod laws;
 pub mod published;
 pub mod question;
 pub mod runs;

@@ -8,7 +8,7 @@ use model::handle::{Handle, HandleBytes, Password, FLAT};
 use model::hexadecimal::decode;
 use model::sizes::MEMORY_BYTES;
 use model::store::{Cluster, Store};
-use model::table::{DONE, EMPTY, SPENT};
+use model::table::{APART, DONE, EMPTY, SPENT, WHOLE};
 use std::collections::HashMap;
 
 /// What `docs/vectors/README.md` explains.
@@ -51,6 +51,9 @@ impl<'a> Line<'a> {
             "primary" => self.primary(),
             "weakened" => self.weakened(),
             "reduced" => self.reduced(),
+            "joined" => self.joined(),
+            "whole" => self.not_joined(WHOLE),
+            "apart" => self.not_joined(APART),
             "empty" => self.refused(EMPTY),
             "spent" => self.refused(SPENT),
             "validation" => self.validation(),
@@ -111,6 +114,36 @@ impl<'a> Line<'a> {
             ask(&mut held(&self.store(&old)?), call) == Reply::with_handle(&new)
                 && self.counts(&new)?
                 && self.validates(new)? == DONE,
+        )
+    }
+
+    /// In either order, and what is given validates, as do the two.
+    fn joined(&self) -> Option<bool> {
+        let new = self.handle("new")?;
+        let given = Reply::with_handle(&new);
+        Some(self.joining(given)? && self.counts(&new)? && self.validates(new)? == DONE)
+    }
+
+    /// A join that is refused, with the number that goes with the line's kind.
+    fn not_joined(&self, number: u8) -> Option<bool> {
+        Some(self.joining(Reply::refused(number))? && self.number("number")? == number)
+    }
+
+    /// Whether joining the two is replied to in this way, where each of them validates.
+    fn joining(&self, reply: Reply) -> Option<bool> {
+        let (mode, one, two) = (self.mode()?, self.handle("one")?, self.handle("two")?);
+        let mut store = self.store(&one)?;
+        store.clusters[usize::from(two.node)][usize::from(two.local)] = self.cluster()?;
+        let join = |handle, other| Call::Join {
+            mode,
+            handle,
+            other,
+        };
+        Some(
+            ask(&mut held(&store), join(one, two)) == reply
+                && ask(&mut held(&store), join(two, one)) == reply
+                && self.validates(one)? == DONE
+                && self.validates(two)? == DONE,
         )
     }
 

@@ -10,12 +10,12 @@ pub const BEYOND: u32 = u32::MAX;
 /// The modes as callers name them.
 pub const READ_MODE: u32 = 1;
 pub const WRITE_MODE: u32 = 2;
-/// Validation has no code, nor has that of many, nor a look; in tables they stand below the ten calls.
+/// Validation has no code, nor has that of many, nor a look; in tables they stand below the eleven calls.
 pub const VALIDATION: u8 = 101;
 pub const BATCH: u8 = 102;
 pub const LOOK: u8 = 103;
 /// The rows of tables.
-pub const CODES: [u8; 13] = [1, 2, 3, 4, 5, 6, 7, 8, 9, 10, VALIDATION, BATCH, LOOK];
+pub const CODES: [u8; 14] = [1, 2, 3, 4, 5, 6, 7, 8, 9, 10, 11, VALIDATION, BATCH, LOOK];
 
 pub fn name(code: u8) -> &'static str {
     let call = CALLS.iter().find(|call| call.0 == code);
@@ -23,7 +23,7 @@ pub fn name(code: u8) -> &'static str {
         VALIDATION => "validation",
         BATCH => "batch",
         LOOK => "look",
-        _ => call.expect("the ten calls have names").1,
+        _ => call.expect("the eleven calls have names").1,
     }
 }
 
@@ -67,12 +67,13 @@ impl Question {
             Call::Reduce { .. } => call::REDUCE,
             Call::NewPassword { .. } => call::NEW_PASSWORD,
             Call::Freeze { .. } => call::FREEZE,
+            Call::Join { .. } => call::JOIN,
             Call::Look { .. } => LOOK,
             Call::Validate { .. } => VALIDATION,
         }
     }
 
-    /// The handle that the call presents.
+    /// The handle that the call presents; the first, where it presents two.
     pub fn handle_mut(&mut self) -> Option<&mut Handle> {
         match &mut self.call {
             Call::NewCluster { .. } => None,
@@ -85,8 +86,21 @@ impl Question {
             | Call::Reduce { handle, .. }
             | Call::NewPassword { handle, .. }
             | Call::Freeze { handle, .. }
+            | Call::Join { handle, .. }
             | Call::Look { handle, .. }
             | Call::Validate { handle, .. } => Some(handle),
+        }
+    }
+
+    /// Every handle that the call presents.
+    pub fn presented_mut(&mut self) -> Vec<&mut Handle> {
+        match self.call {
+            Call::Join {
+                ref mut handle,
+                ref mut other,
+                ..
+            } => vec![handle, other],
+            _ => self.handle_mut().into_iter().collect(),
         }
     }
 }
@@ -122,7 +136,7 @@ impl Answer {
         let count = match question.code() {
             _ if !self.reply.is_done() => 0,
             call::NEW_CLUSTER => 2,
-            call::WEAKEN | call::REDUCE | call::NEW_PASSWORD => 1,
+            call::WEAKEN | call::REDUCE | call::NEW_PASSWORD | call::JOIN => 1,
             _ => 0,
         };
         let handles = [self.reply.first, self.reply.second];

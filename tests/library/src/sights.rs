@@ -1,15 +1,15 @@
 //! Which looks and freezes were met: what they came to, and what stood against those that were refused. Beside
-//! them, where 22 met its neighbours.
+//! them, where 22 met its neighbours, and each number of a join the next one.
 
 use crate::compare::by_model;
 use crate::image::decode;
 use crate::question::{name, Answer, Held, Question, BEYOND, LOOK};
-use model::call::{Call, Reply, DELETE_CLUSTER, DELETE_SEGMENT, FREEZE, WRITE};
+use model::call::{Call, Reply, DELETE_CLUSTER, DELETE_SEGMENT, FREEZE, JOIN, WRITE};
 use model::handle::Handle;
 use model::sizes::{MEMORY_BYTES, NODES, NODE_BYTES};
 use model::table::{
-    refusal_below, Found, ABSENT, ELSEWHERE, FIELD, FROZEN, GAPPED, INACTIVE, NOT_PRIMARY,
-    NOT_REFERENCED, NO_SUCH_PLACE, SHORT, UNSOUND, VIOLATED_PROTECTION,
+    refusal_below, Found, ABSENT, APART, ELSEWHERE, FIELD, FROZEN, GAPPED, INACTIVE, NOT_PRIMARY,
+    NOT_REFERENCED, NO_SUCH_PLACE, SHORT, UNSOUND, VIOLATED_PROTECTION, WHOLE,
 };
 use std::collections::BTreeMap;
 use std::fmt;
@@ -54,7 +54,7 @@ const WRONG_NODES: [Sight; 5] = [
 
 /// Numbers of which each has to meet the next.
 #[rustfmt::skip]
-const NEIGHBOURS: [(u8, &[u8]); 7] = [
+const NEIGHBOURS: [(u8, &[u8]); 8] = [
     (LOOK, &[
         UNSOUND, NO_SUCH_PLACE, FIELD, GAPPED, ELSEWHERE, INACTIVE, VIOLATED_PROTECTION,
         NOT_REFERENCED, ABSENT,
@@ -62,6 +62,9 @@ const NEIGHBOURS: [(u8, &[u8]); 7] = [
     (FREEZE, &[
         UNSOUND, NO_SUCH_PLACE, FIELD, GAPPED, ELSEWHERE, INACTIVE, VIOLATED_PROTECTION,
         NOT_PRIMARY, ABSENT,
+    ]),
+    (JOIN, &[
+        UNSOUND, NO_SUCH_PLACE, FIELD, GAPPED, APART, INACTIVE, VIOLATED_PROTECTION, WHOLE,
     ]),
     (DELETE_CLUSTER, &[VIOLATED_PROTECTION, NOT_PRIMARY, FROZEN]),
     (DELETE_SEGMENT, &[VIOLATED_PROTECTION, NOT_PRIMARY, FROZEN]),

@@ -1,5 +1,5 @@
-//! Which answers, fills, damages, selectors, ways to nothing, frozen segments, looks and freezes were met, and
-//! which still have to be.
+//! Which answers, fills, damages, selectors, ways to nothing, frozen segments, looks, freezes and joins were met,
+//! and which still have to be.
 
 use crate::chance::damage::Damage;
 use crate::chance::stores::Fill;
@@ -10,19 +10,20 @@ use crate::sights::Sights;
 use model::call::{self, Call};
 use model::frozen::Case;
 use model::handle::FLAT;
+use model::joins::Meeting;
 use model::nothing::Way;
 use model::sizes::SUBSELECTORS;
 use model::table::{
-    word, Found, ABSENT, DONE, ELSEWHERE, EMPTY, FIELD, FROZEN, GAPPED, INACTIVE, IN_USE,
+    word, Found, ABSENT, APART, DONE, ELSEWHERE, EMPTY, FIELD, FROZEN, GAPPED, INACTIVE, IN_USE,
     NOT_PRIMARY, NOT_REFERENCED, NO_ROOM, NO_SUCH_PLACE, OLD_PASSWORD, PRESENT, SHORT, SPENT,
-    TWINS, UNSOUND, VIOLATED_PROTECTION,
+    TWINS, UNSOUND, VIOLATED_PROTECTION, WHOLE,
 };
 use std::collections::{BTreeMap, BTreeSet};
 use std::fmt;
 
 /// The numbers that the table of refusals allows each call, 0 for done among them.
 #[rustfmt::skip]
-const ALLOWED: [(u8, &[u8]); 12] = [
+const ALLOWED: [(u8, &[u8]); 13] = [
     (call::NEW_CLUSTER, &[DONE, UNSOUND, NO_SUCH_PLACE, IN_USE, TWINS]),
     (call::DELETE_CLUSTER, &[
         DONE, UNSOUND, NO_SUCH_PLACE, GAPPED, ELSEWHERE, INACTIVE, VIOLATED_PROTECTION, NOT_PRIMARY,
@@ -54,6 +55,9 @@ const ALLOWED: [(u8, &[u8]); 12] = [
         DONE, UNSOUND, NO_SUCH_PLACE, FIELD, GAPPED, ELSEWHERE, INACTIVE, VIOLATED_PROTECTION,
         NOT_PRIMARY, ABSENT,
     ]),
+    (call::JOIN, &[
+        DONE, UNSOUND, NO_SUCH_PLACE, FIELD, GAPPED, APART, INACTIVE, VIOLATED_PROTECTION, WHOLE,
+    ]),
     (VALIDATION, VALIDATING),
     (LOOK, &[
         DONE, UNSOUND, NO_SUCH_PLACE, FIELD, GAPPED, ELSEWHERE, INACTIVE, VIOLATED_PROTECTION,
@@ -72,7 +76,13 @@ const VALIDATING: &[u8] = &[
 /// Modes above a byte: right in the lowest byte, in the lowest two, or perhaps in the lowest four.
 const WIDE_MODES: [u32; 5] = [257, 258, 65_537, 65_538, BEYOND];
 /// What takes a mode.
-const NAMING_A_MODE: [u8; 4] = [call::REDUCE, call::NEW_PASSWORD, VALIDATION, BATCH];
+const NAMING_A_MODE: [u8; 5] = [
+    call::REDUCE,
+    call::NEW_PASSWORD,
+    call::JOIN,
+    VALIDATION,
+    BATCH,
+];
 
 #[derive(Default)]
 pub struct Tally {
@@ -81,11 +91,12 @@ pub struct Tally {
     damages: Damages,
     /// Wide modes, with the codes of what they were given to.
     modes: BTreeSet<(u8, u32)>,
-    /// Calls done, by how many subselectors of their handle are not flat.
+    /// Calls done, by how many subselectors of a handle that they present are not flat.
     weakened: [u64; SUBSELECTORS + 1],
     masks: BTreeSet<u8>,
     ways: BTreeMap<Way, u64>,
     cases: BTreeMap<Case, u64>,
+    meetings: BTreeMap<Meeting, u64>,
     sights: Sights,
     /// The numbers of weakenings beside a damaged store.
     beside_damage: BTreeMap<u8, u64>,
@@ -95,10 +106,10 @@ impl Tally {
     pub fn note(&mut self, question: &Question, answer: &Answer) {
         let pair = (question.code(), answer.reply.number);
         *self.pairs.entry(pair).or_default() += 1;
-        if let (true, Some(handle)) = (answer.reply.is_done(), question.call.handle()) {
+        for handle in question.call.presented() {
             let subselectors = handle.selector.0.iter();
             let converting = subselectors.filter(|&&subselector| subselector != FLAT);
-            self.weakened[converting.count()] += 1;
+            self.weakened[converting.count()] += u64::from(answer.reply.is_done());
         }
         if let Call::Weaken { mask, .. } = question.call {
             self.masks.insert(mask);
@@ -124,6 +135,9 @@ impl Tally {
         };
         if let Some(case) = Case::of(&found, &question.call, answer.reply.number) {
             *self.cases.entry(case).or_default() += 1;
+        }
+        for meeting in Meeting::of(&found, &question.call, answer.reply.number) {
+            *self.meetings.entry(meeting).or_default() += 1;
         }
     }
 
@@ -191,6 +205,9 @@ impl Tally {
             .into_iter()
             .filter(|case| !self.cases.contains_key(case))
             .map(|case| format!("not tried: something frozen, {case:?}"));
+        let meetings = Meeting::all()
+            .filter(|meeting| !self.meetings.contains_key(meeting))
+            .map(|meeting| format!("not tried: a join, {meeting:?}"));
         let beside_damage = WEAKENING
             .iter()
             .filter(|number| !self.beside_damage.contains_key(number))
@@ -203,6 +220,7 @@ impl Tally {
             .chain(ways)
             .chain(beside_damage)
             .chain(cases)
+            .chain(meetings)
             .chain(self.sights.missing())
     }
 }
@@ -214,7 +232,7 @@ fn in_words(&(code, number): &(u8, u8)) -> String {
 
 impl fmt::Display for Tally {
     fn fmt(&self, to: &mut fmt::Formatter) -> fmt::Result {
-        let numbers = || (0..=SPENT).chain([EMPTY, FROZEN]);
+        let numbers = || (0..=SPENT).chain(EMPTY..=APART);
         let heads: String = numbers().map(|number| format!("{number:>7}")).collect();
         writeln!(to, "{:<15}{heads}", "call \\ number")?;
         for (code, _) in ALLOWED {
@@ -232,6 +250,7 @@ impl fmt::Display for Tally {
         writeln!(to, "masks: {}", self.masks.len())?;
         writeln!(to, "ways to nothing: {:?}", self.ways)?;
         writeln!(to, "something frozen: {:?}", self.cases)?;
+        writeln!(to, "joins: {:?}", self.meetings)?;
         writeln!(to, "{}", self.sights)?;
         let beside = &self.beside_damage;
         writeln!(

@@ -5,7 +5,7 @@ use library::chance::damage::{inflict, Damage, LAST_PLACE};
 use library::chance::stores::{extents, gaps, held, store, Fill};
 use library::chance::words::WORD;
 use library::compare::is_sound;
-use library::copies::Count;
+use library::copies::{Count, Kept};
 use library::image::{decode, encode, IMAGE_BYTES};
 use library::question::LOOK;
 use library::stays;
@@ -111,7 +111,7 @@ fn what_is_not_reached_is_told() {
             .iter()
             .filter(|fault| fault.starts_with("not reached"))
             .count(),
-        105
+        114
     );
     for fault in [
         "not reached: new segment with 16 (no room)",
@@ -139,6 +139,15 @@ fn what_is_not_reached_is_told() {
         "not tried: freeze, Both(9, 10)",
         "not tried: delete cluster, Both(10, 22)",
         "not tried: write, Both(22, 15)",
+        "not reached: join with 23 (whole)",
+        "not reached: join with 24 (apart)",
+        "not tried: join with mode 65537",
+        "not tried: damage MarkTwo, join",
+        "not tried: join, Both(24, 8)",
+        "not tried: join, Both(9, 23)",
+        "not tried: a join, Overlapping",
+        "not tried: a join, Given(9, Second)",
+        "not tried: a join, Before((2, Second), (4, First))",
     ] {
         assert!(faults.contains(&fault.to_string()), "{fault}");
     }
@@ -151,6 +160,10 @@ fn what_is_not_reached_is_told() {
     assert!(tally
         .faults()
         .contains(&"not allowed: freeze with 22 (frozen)".to_string()));
+    tally.pairs.insert((11, 10), 1);
+    assert!(tally
+        .faults()
+        .contains(&"not allowed: join with 10 (not primary)".to_string()));
     tally.pairs.insert((LOOK, 15), 1);
     assert!(tally
         .faults()
@@ -160,14 +173,21 @@ fn what_is_not_reached_is_told() {
 #[test]
 fn what_two_copies_do_not_come_to_is_told() {
     let mut count = Count::default();
-    assert_eq!(count.faults().len(), 8);
-    (count.calls, count.done, count.naming, count.looks) = (4, 2, 1, 1);
-    (count.freezes, count.frozen, count.frozen_apart) = (1, 1, 1);
-    let apart = |what| {
-        format!("not tried: two copies, a {what} that the password alone keeps from the cluster set apart")
-    };
-    assert_eq!(count.faults(), [apart("look"), apart("freeze")]);
-    (count.looks_apart, count.freezes_apart) = (1, 1);
+    assert_eq!(count.faults().len(), 12);
+    (count.calls, count.done, count.naming) = (4, 2, 1);
+    (count.frozen, count.frozen_apart, count.by_the_first) = (1, 1, 1);
+    let kept = |apart| Kept { done: 1, apart };
+    (count.looks, count.freezes, count.joins) = (kept(0), kept(0), kept(0));
+    let told = |what| format!("not tried: two copies, a {what} the cluster set apart");
+    let expected = [
+        told("look that the password alone keeps from"),
+        told("freeze that the password alone keeps from"),
+        told("join that the two passwords alone keep from"),
+        told("join of which the second handle alone names"),
+    ];
+    assert_eq!(count.faults(), expected);
+    (count.looks, count.freezes, count.joins) = (kept(1), kept(1), kept(1));
+    count.by_the_second = 1;
     assert!(count.faults().is_empty());
 }
 

@@ -4,11 +4,12 @@
 use model::call::CALLS;
 use model::frozen::Case;
 use model::generate;
+use model::joins::Meeting;
 use model::list::{reachable, request, run, Request, CODE_AT};
 use model::nothing::Way;
 use model::program::{Outcome, Program};
 use model::random::Random;
-use model::table::{word, EMPTY, FROZEN, LIST_LENGTH, LOOP, SPENT};
+use model::table::{word, APART, EMPTY, LIST_LENGTH, LOOP, SPENT};
 use std::collections::BTreeMap;
 use std::ffi::OsString;
 use std::io;
@@ -29,13 +30,14 @@ struct Task {
 }
 
 /// How often each call came to each number, how often one went each way to nothing or met something frozen,
-/// and each number that lists were refused with.
+/// how the two handles of joins met, and each number that lists were refused with.
 #[derive(Default)]
 struct Tally {
     calls: u64,
     pairs: BTreeMap<(u8, u8), u64>,
     ways: BTreeMap<Way, u64>,
     cases: BTreeMap<Case, u64>,
+    meetings: BTreeMap<Meeting, u64>,
     refused: BTreeMap<u8, u64>,
 }
 
@@ -51,10 +53,18 @@ impl Tally {
         let cases = Case::in_lists()
             .filter(|case| !self.cases.contains_key(case))
             .map(|case| format!("something frozen, {case:?}"));
+        let meetings = Meeting::all()
+            .filter(|meeting| !self.meetings.contains_key(meeting))
+            .map(|meeting| format!("a join, {meeting:?}"));
         let refused = (LIST_LENGTH..=LOOP)
             .filter(|number| !self.refused.contains_key(number))
             .map(|number| format!("a list refused with {}", in_words(number)));
-        pairs.chain(ways).chain(cases).chain(refused).collect()
+        pairs
+            .chain(ways)
+            .chain(cases)
+            .chain(meetings)
+            .chain(refused)
+            .collect()
     }
 }
 
@@ -88,6 +98,9 @@ fn expected(list: &[u8], tally: &mut Tally) -> Vec<u8> {
                 }
                 if let Some(case) = Case::of(found, &call, reply.number) {
                     *tally.cases.entry(case).or_default() += 1;
+                }
+                for meeting in Meeting::of(found, &call, reply.number) {
+                    *tally.meetings.entry(meeting).or_default() += 1;
                 }
                 record[CODE_AT]
             }
@@ -136,7 +149,7 @@ fn compare(task: &Task, tally: &mut Tally) -> io::Result<bool> {
 }
 
 fn print_tally(tally: &Tally) {
-    let numbers: Vec<u8> = (0..=SPENT).chain([EMPTY, FROZEN]).collect();
+    let numbers: Vec<u8> = (0..=SPENT).chain(EMPTY..=APART).collect();
     let row = |name: &str, code: u8| {
         let count = |number: &u8| tally.pairs.get(&(code, *number)).copied();
         let cells = numbers.iter().map(|number| match count(number) {
@@ -153,6 +166,7 @@ fn print_tally(tally: &Tally) {
     row("no call", NO_CALL);
     println!("ways to nothing: {:?}", tally.ways);
     println!("something frozen: {:?}", tally.cases);
+    println!("joins: {:?}", tally.meetings);
     for (number, count) in &tally.refused {
         println!("lists refused with {}: {count}", in_words(*number));
     }

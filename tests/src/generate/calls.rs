@@ -1,11 +1,13 @@
 //! Records by chance, each made in knowledge of what those before it have left.
 
 use super::handles::{self, is_inactive, Wish};
+use super::joins;
 use crate::call::{self, Reply};
 use crate::handle::{Handle, Password, FLAT};
 use crate::list::{
     Record, Session, CODE_AT, DATA_AT, DATA_LENGTH_AT, FIRST_PASSWORD_AT, HANDLE_AT, MODE_AT,
-    MOST_DATA_BYTES, NODE_AT, RECORD_BYTES, SECOND_PASSWORD_AT, SEGMENT_AT, SIZE_AT,
+    MOST_DATA_BYTES, NODE_AT, OTHER_HANDLE_AT, RECORD_BYTES, SECOND_PASSWORD_AT, SEGMENT_AT,
+    SIZE_AT,
 };
 use crate::random::Random;
 use crate::sizes::{CLUSTERS, HANDLE_BYTES, NODES, NODE_BYTES, PASSWORD_BYTES, SEGMENTS};
@@ -13,9 +15,12 @@ use crate::store::Mode;
 
 /// Few passwords, so that equal ones meet.
 const PASSWORDS: u64 = 5;
+/// Node and local number in a handle.
+const NAME_BYTES: usize = 3;
 /// Codes as often as they are wanted: what fills the store comes more often than what empties it.
-const CODES: [u8; 28] = [
-    1, 1, 1, 2, 2, 3, 3, 3, 3, 3, 4, 4, 5, 5, 5, 5, 6, 6, 6, 6, 7, 7, 8, 8, 9, 9, 10, 10,
+const CODES: [u8; 31] = [
+    1, 1, 1, 2, 2, 3, 3, 3, 3, 3, 4, 4, 5, 5, 5, 5, 6, 6, 6, 6, 7, 7, 8, 8, 9, 9, 10, 10, 11, 11,
+    11,
 ];
 
 pub struct Maker {
@@ -51,6 +56,7 @@ impl Maker {
             call::READ => self.move_bytes(&mut record, Mode::Read),
             call::WRITE => self.move_bytes(&mut record, Mode::Write),
             call::WEAKEN => self.weaken(&mut record),
+            call::JOIN => self.join(&mut record),
             _ => self.call_with_mode(&mut record),
         }
         let reply = self.session.run(&record);
@@ -81,7 +87,7 @@ impl Maker {
         if reply.is_done() {
             let count = match code {
                 call::NEW_CLUSTER => 2,
-                call::WEAKEN | call::REDUCE | call::NEW_PASSWORD => 1,
+                call::WEAKEN | call::REDUCE | call::NEW_PASSWORD | call::JOIN => 1,
                 _ => 0,
             };
             let handles = [reply.first, reply.second];
@@ -110,7 +116,7 @@ impl Maker {
     fn put_handle(&mut self, record: &mut Record, wish: Wish) -> Handle {
         let store = &self.session.store;
         let handle = handles::handle(&mut self.random, store, &self.given, wish);
-        record[HANDLE_AT..HANDLE_AT + HANDLE_BYTES].copy_from_slice(&handle.to_bytes());
+        put(record, HANDLE_AT, &handle);
         handle
     }
 
@@ -225,9 +231,51 @@ impl Maker {
             segments,
         };
         self.put_handle(record, wish);
-        let number = if mode == Mode::Read { 1 } else { 2 };
-        record[MODE_AT] = self.near(number, 2);
+        record[MODE_AT] = self.near(number_of(mode), 2);
         let password = self.password();
         record[FIRST_PASSWORD_AT..SECOND_PASSWORD_AT].copy_from_slice(&password);
+    }
+
+    /// Call 11. One in four has handles as other calls have them, the second mostly one that was given for the
+    /// cluster of the first.
+    fn join(&mut self, record: &mut Record) {
+        let aimed = match self.random.one_in(4) {
+            true => None,
+            false => joins::join(&mut self.random, &self.session.store),
+        };
+        let Some(join) = aimed else {
+            self.call_with_mode(record);
+            return self.put_other(record);
+        };
+        put(record, HANDLE_AT, &join.handles[0]);
+        put(record, OTHER_HANDLE_AT, &join.handles[1]);
+        record[MODE_AT] = match join.is_a_mode {
+            true => number_of(join.mode),
+            false => *self.random.pick(&[0, 3, 255]).expect("there are bytes"),
+        };
+    }
+
+    fn put_other(&mut self, record: &mut Record) {
+        let name = record[HANDLE_AT..HANDLE_AT + NAME_BYTES].to_vec();
+        let given = self.given.iter().copied();
+        let given: Vec<Handle> = given
+            .filter(|handle| handle.to_bytes().starts_with(&name))
+            .collect();
+        let handle = match self.random.pick(&given) {
+            Some(handle) => *handle,
+            None => Handle::from_bytes(&self.random.bytes()),
+        };
+        put(record, OTHER_HANDLE_AT, &handle);
+    }
+}
+
+fn put(record: &mut Record, at: usize, handle: &Handle) {
+    record[at..at + HANDLE_BYTES].copy_from_slice(&handle.to_bytes());
+}
+
+fn number_of(mode: Mode) -> u8 {
+    match mode {
+        Mode::Read => 1,
+        Mode::Write => 2,
     }
 }

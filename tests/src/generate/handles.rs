@@ -121,7 +121,7 @@ pub fn to_nothing(random: &mut Random) -> Selector {
     Selector(selector)
 }
 
-fn gapped(random: &mut Random) -> Selector {
+pub fn gapped(random: &mut Random) -> Selector {
     let mut selector = [FLAT; SUBSELECTORS];
     let at = 1 + random.below(SUBSELECTORS as u64 - 1) as usize;
     selector[at] = random.byte() & 0xfe;

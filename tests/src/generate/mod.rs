@@ -2,6 +2,7 @@
 
 mod calls;
 mod handles;
+pub mod joins;
 
 use crate::list::{Record, MOST_LIST_BYTES, MOST_RECORDS, NEXT_AT, RECORD_BYTES};
 use crate::random::Random;

@@ -8,6 +8,7 @@ use model::sizes::{MEMORY_BYTES, NODE_BYTES};
 use model::store::Store;
 
 pub mod faults;
+pub mod joint;
 pub mod naive;
 
 pub const READ_SECRET: Password = [0x11; 16];
@@ -145,5 +146,13 @@ pub fn freeze(segment: u32) -> Call {
         node: 0,
         segment,
         handle: writer(),
+    }
+}
+
+pub fn join(mode: u32, handle: Handle, other: Handle) -> Call {
+    Call::Join {
+        mode,
+        handle,
+        other,
     }
 }

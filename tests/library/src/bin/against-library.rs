@@ -4,6 +4,7 @@ use library::batch;
 use library::copies;
 use library::edges;
 use library::guard;
+use library::laws;
 use library::published;
 use library::runs::{self, RUN_CALLS};
 use library::single;
@@ -15,7 +16,8 @@ const USAGE: &str = "usage: against-library [SEED] [CALLS]";
 const BAD_USAGE: u8 = 2;
 const USUAL_SEED: u64 = 1;
 const USUAL_CALLS: u64 = 100_000;
-/// There is one batch of validations for so many calls, and one pair of copies.
+/// There is one join of which laws are judged for so many calls, one batch of validations, and one pair of copies.
+const CALLS_PER_JOIN: u64 = 10;
 const CALLS_PER_BATCH: u64 = 100;
 const CALLS_PER_PAIR: u64 = 250;
 
@@ -54,6 +56,10 @@ fn compare(task: &Task, tally: &mut Tally) -> Result<Vec<String>, String> {
 
     edges(seed)?;
 
+    let joins = calls.div_ceil(CALLS_PER_JOIN);
+    let done = laws::compare(guard::ask, seed, joins).map_err(named("laws of joins"))?;
+    println!("laws of joins: {joins} joins, {done} of them done");
+
     let count = calls.div_ceil(CALLS_PER_BATCH);
     let validations =
         batch::compare(guard::validate_all, seed, count, tally).map_err(named("batches"))?;
@@ -89,6 +95,8 @@ fn edges(seed: u64) -> Result<(), String> {
     println!("looks at the edges: {looks}, {done} of them done");
     let (freezes, done) = edges::freezes(guard::ask, seed).map_err(named("edges of freezes"))?;
     println!("freezes at the edges: {freezes}, {done} of them done");
+    let (joins, done) = edges::joins(guard::ask, seed).map_err(named("edges of joins"))?;
+    println!("joins at the edges: {joins}, {done} of them done");
     Ok(())
 }
 
@@ -99,14 +107,20 @@ fn two_copies(task: &Task) -> Result<Vec<String>, String> {
         "two copies: {pairs} pairs, with {} calls, {} of them done, {} naming the cluster set apart",
         count.calls, count.done, count.naming
     );
-    for (what, done, apart) in [
-        ("looks", count.looks, count.looks_apart),
-        ("freezes", count.freezes, count.freezes_apart),
+    for (what, kept) in [
+        ("looks", count.looks),
+        ("freezes", count.freezes),
+        ("joins", count.joins),
     ] {
         println!(
-            "{what} in two copies: {done} done, {apart} kept from the cluster set apart by the password alone"
+            "{what} in two copies: {} done, {} kept from the cluster set apart by passwords alone",
+            kept.done, kept.apart
         );
     }
+    println!(
+        "joins in two copies: in {} the first handle alone names the cluster set apart, in {} the second",
+        count.by_the_first, count.by_the_second
+    );
     println!(
         "frozen in two copies: {} calls refused with 22, {} clusters set apart with some",
         count.frozen, count.frozen_apart

@@ -4,6 +4,7 @@ mod aimed;
 pub mod damage;
 mod faults;
 pub mod handles;
+mod joins;
 pub mod questions;
 pub mod stores;
 pub mod words;

@@ -11,11 +11,11 @@ use model::sizes::{CLUSTERS, NODES, NODE_BYTES, SEGMENTS};
 use model::store::{Cluster, Mode, Segment, Store};
 
 /// Codes for single calls: all alike.
-pub const EVENLY: [u8; 12] = [1, 2, 3, 4, 5, 6, 7, 8, 9, 10, VALIDATION, LOOK];
+pub const EVENLY: [u8; 13] = [1, 2, 3, 4, 5, 6, 7, 8, 9, 10, 11, VALIDATION, LOOK];
 /// Codes for rows of calls: what fills the store comes more often than what empties it.
-pub const FILLING: [u8; 31] = [
-    1, 1, 1, 2, 3, 3, 3, 3, 3, 4, 5, 5, 5, 5, 6, 6, 6, 6, 7, 7, 8, 8, 9, 9, 10, 10, VALIDATION,
-    LOOK, LOOK, LOOK, LOOK,
+pub const FILLING: [u8; 34] = [
+    1, 1, 1, 2, 3, 3, 3, 3, 3, 4, 5, 5, 5, 5, 6, 6, 6, 6, 7, 7, 8, 8, 9, 9, 10, 10, 11, 11, 11,
+    VALIDATION, LOOK, LOOK, LOOK, LOOK,
 ];
 
 /// Modes are numbered from 1.
@@ -45,6 +45,7 @@ impl Maker<'_> {
             call::REDUCE => self.reduce(),
             call::NEW_PASSWORD => self.new_password(),
             call::FREEZE => self.freeze(),
+            call::JOIN => self.join(),
             LOOK => self.look(),
             _ => self.validate(),
         };
@@ -81,7 +82,7 @@ impl Maker<'_> {
     }
 
     /// A mode, and mostly its number.
-    fn mode(&mut self) -> (Mode, u32) {
+    pub(super) fn mode(&mut self) -> (Mode, u32) {
         let (mode, number) = match self.random.one_in(2) {
             true => (Mode::Read, READ_MODE),
             false => (Mode::Write, WRITE_MODE),

@@ -4,6 +4,7 @@ mod calls;
 mod copies;
 mod damage;
 mod freezes;
+mod joins;
 mod looks;
 mod modes;
 mod nothing;

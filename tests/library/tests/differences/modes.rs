@@ -6,7 +6,7 @@ use library::compare::Guard;
 use library::question::{Answer, Held, Question, BEYOND, VALIDATION};
 use library::tally::Tally;
 use library::{batch, guard, runs, single};
-use model::call::{Call, NEW_PASSWORD, REDUCE};
+use model::call::{Call, JOIN, NEW_PASSWORD, REDUCE};
 
 const SEED: u64 = 7;
 const CALLS: u64 = 20_000;
@@ -30,6 +30,7 @@ fn name(code: u8) -> &'static str {
     match code {
         REDUCE => "asked:   Reduce",
         NEW_PASSWORD => "asked:   NewPassword",
+        JOIN => "asked:   Join",
         _ => "asked:   Validate",
     }
 }
@@ -40,6 +41,7 @@ fn in_one_byte<const CODE: u8>(held: &mut Held, question: &Question) -> Answer {
     match &mut cut.call {
         Call::Reduce { mode, .. }
         | Call::NewPassword { mode, .. }
+        | Call::Join { mode, .. }
         | Call::Validate { mode, .. }
             if question.code() == CODE && *mode != BEYOND =>
         {
@@ -69,6 +71,12 @@ fn of_a_reduction() {
 fn of_a_new_password() {
     found_out(in_one_byte::<NEW_PASSWORD>, NEW_PASSWORD);
     found_out(in_four_bytes::<NEW_PASSWORD>, NEW_PASSWORD);
+}
+
+#[test]
+fn of_a_join() {
+    found_out(in_one_byte::<JOIN>, JOIN);
+    found_out(in_four_bytes::<JOIN>, JOIN);
 }
 
 #[test]

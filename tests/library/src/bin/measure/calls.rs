@@ -125,6 +125,7 @@ fn on_what_is_there(store: &Store) -> impl Iterator<Item = Row> + '_ {
     let reader = primary(store, PLACE, Mode::Read);
     let handle = primary(store, PLACE, Mode::Write);
     let (weak, password) = (weakest(reader), [3; 16]);
+    let other = reader.weaken(MASKS[0]).expect("all are flat");
     #[rustfmt::skip]
     let calls = [
         ("2 delete cluster", Call::DeleteCluster { node, handle }),
@@ -137,6 +138,7 @@ fn on_what_is_there(store: &Store) -> impl Iterator<Item = Row> + '_ {
         ("validation, primary", Call::Validate { mode, handle: reader }),
         ("validation, 4 not flat", Call::Validate { mode, handle: weak }),
         ("8 reduce, 4 not flat", Call::Reduce { mode, handle: weak }),
+        ("11 join, 4 and 1 not flat", Call::Join { mode, handle: weak, other }),
     ];
     calls.into_iter().map(|named| row(store, named))
 }

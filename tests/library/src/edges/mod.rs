@@ -1,6 +1,9 @@
 //! Soundness where it changes: every byte of an image with every value, and two segments of one node
 //! that begin and end about the borders of words. Looks and freezes where their segment or their arguments come
-//! to an end: the first and the last byte of a node, the whole of it, and numbers just out of range.
+//! to an end: the first and the last byte of a node, the whole of it, and numbers just out of range. Joins with
+//! modes and names just out of range.
+
+mod joins;
 
 use crate::chance::stores::{self, active, present, Fill};
 use crate::chance::words::{Beside, LENGTHS};
@@ -8,6 +11,7 @@ use crate::chance::{below, cases};
 use crate::compare::{ask, is_sound, Guard, Sides};
 use crate::image::{encode, Image};
 use crate::question::{Held, Question, BEYOND};
+pub use joins::joins;
 use model::call::Call;
 use model::handle::Handle;
 use model::random::Random;

@@ -1,14 +1,16 @@
 //! The published handles: a text that a laboratory can check with a program of its own.
 //! `docs/vectors/README.md` explains the lines.
 
+mod joins;
+
 use crate::handle::{convert, Handle, Password, Selector, FLAT};
 use crate::hexadecimal::encode;
 use crate::sizes::{PASSWORD_BYTES, SUBSELECTORS};
 use crate::table::{word, DONE, EMPTY, GAPPED, SPENT, VIOLATED_PROTECTION};
 
 const HEADER: &str = "\
-# Handles for checking a program that weakens, reduces or validates them. README.md beside this
-# file explains the lines. Counts and numbers are decimal, the rest is hexadecimal.
+# Handles for checking a program that weakens, reduces, joins or validates them. README.md beside
+# this file explains the lines. Counts and numbers are decimal, the rest is hexadecimal.
 ";
 
 struct Cluster {
@@ -72,6 +74,7 @@ pub fn text() -> String {
         text.push_str(&family(cluster, "read", &cluster.read));
         text.push_str(&family(cluster, "write", &cluster.write));
     }
+    text.push_str(&joins::apart(&CLUSTERS[0]));
     text.push_str(&validations(&CLUSTERS[0]));
     text
 }
@@ -103,6 +106,7 @@ fn family(cluster: &Cluster, mode: &'static str, primary: &Password) -> String {
     for masks in PATHS {
         text.push_str(&family.weakenings(handle, masks));
     }
+    text.push_str(&joins::of(&family, handle));
     text
 }
 

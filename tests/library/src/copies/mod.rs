@@ -1,17 +1,20 @@
 //! Two copies of a store that differ in the secrets of one cluster: whoever has no handle of that
 //! cluster gets the same from both.
 
+mod count;
+
 use crate::chance::questions::{Maker, FILLING};
 use crate::chance::stores::{self, Fill};
 use crate::chance::{below, cases, fill, handles, password};
 use crate::compare::{by_model, same_answer, same_bytes, same_shown, Guard};
 use crate::image::{decode, encode, passwords_at, record_at};
 use crate::question::{Answer, Held, Question, READ_MODE, WRITE_MODE};
+pub use count::{Count, Kept};
 use model::call::Call;
 use model::handle::{derive, Handle, Password};
 use model::random::Random;
 use model::store::{Segment, Store};
-use model::table::{FROZEN, VIOLATED_PROTECTION};
+use model::table::VIOLATED_PROTECTION;
 use std::ops::Range;
 
 /// Calls of one list.
@@ -23,67 +26,6 @@ struct Pair {
     apart: (usize, usize),
     /// The parts of the memory that are the segments of the cluster set apart.
     own: Vec<Range<usize>>,
-}
-
-/// How many calls there were, how many were done, and how many named the cluster set apart; how many
-/// looks showed something, how many freezes were done, and how many of both nothing but the password kept from
-/// the cluster set apart; how many calls were refused for something frozen, and in how many pairs the cluster
-/// set apart had a frozen segment.
-#[derive(Debug, Default)]
-pub struct Count {
-    pub calls: u64,
-    pub done: u64,
-    pub naming: u64,
-    pub looks: u64,
-    pub looks_apart: u64,
-    pub freezes: u64,
-    pub freezes_apart: u64,
-    pub frozen: u64,
-    pub frozen_apart: u64,
-}
-
-impl Count {
-    fn note(&mut self, pair: &Pair, question: &Question, answer: &Answer) {
-        let (naming, done) = (pair.names_apart(question), answer.reply.is_done());
-        self.calls += 1;
-        self.naming += u64::from(naming);
-        self.done += u64::from(done);
-        self.frozen += u64::from(answer.reply.number == FROZEN);
-        let (here, apart) = match question.call {
-            Call::Look { .. } => (&mut self.looks, &mut self.looks_apart),
-            Call::Freeze { .. } => (&mut self.freezes, &mut self.freezes_apart),
-            _ => return,
-        };
-        *here += u64::from(done);
-        *apart += u64::from(naming && pair.kept_by_the_password(question, answer));
-    }
-
-    /// What lists have to come to, and these did not.
-    pub fn faults(&self) -> Vec<String> {
-        let due = [
-            (self.done, "a call done"),
-            (self.naming, "a call that names the cluster set apart"),
-            (self.looks, "a look that shows something"),
-            (
-                self.looks_apart,
-                "a look that the password alone keeps from the cluster set apart",
-            ),
-            (self.freezes, "a freeze done"),
-            (
-                self.freezes_apart,
-                "a freeze that the password alone keeps from the cluster set apart",
-            ),
-            (self.frozen, "a call refused with 22 (frozen)"),
-            (
-                self.frozen_apart,
-                "a cluster set apart with a frozen segment",
-            ),
-        ];
-        let missing = due.iter().filter(|(count, _)| *count == 0);
-        missing
-            .map(|(_, what)| format!("not tried: two copies, {what}"))
-            .collect()
-    }
 }
 
 pub fn compare(guard: Guard, seed: u64, pairs: u64) -> Result<Count, String> {
@@ -143,7 +85,7 @@ fn parts_of(store: &Store, (node, local): (usize, usize)) -> Vec<Range<usize>> {
 }
 
 impl Pair {
-    /// A question that a list of calls may have: whatever handle of the cluster set apart it
+    /// A question that a list of calls may have: each handle of the cluster set apart that it
     /// presents validates in neither mode and in neither copy. Weakening may present any.
     fn question(&self, random: &mut Random, given: &[Handle]) -> Result<Question, String> {
         let stores = self.copies.each_ref().map(|copy| decode(&copy.image));
@@ -163,32 +105,36 @@ impl Pair {
                 self.aim(random, store, &mut question);
             }
             let weakening = matches!(question.call, Call::Weaken { .. });
-            if weakening || !self.names_apart(&question) || !self.opens(&question) {
+            let opens = |handle: &Handle| self.is_apart(handle) && self.opens(handle);
+            if weakening || !question.call.presented().any(opens) {
                 return Ok(question);
             }
         }
     }
 
-    /// Makes the question name the cluster set apart, mostly with a password that does not open it.
+    /// Makes the question name the cluster set apart, mostly with a password that does not open it. Of two
+    /// handles mostly both name it, and else one of them.
     fn aim(&self, random: &mut Random, store: &Store, question: &mut Question) {
-        let secret = password(random);
         let cluster = &store.clusters[self.apart.0][self.apart.1];
         let near = |mut password: Password| {
             password[0] ^= 1;
             password
         };
-        let choices = [
-            secret,
-            near(cluster.read),
-            near(cluster.write),
-            cluster.read,
-        ];
-        let chosen = choices[below(random, choices.len())];
-        if let Some(handle) = question.handle_mut() {
+        let mut aimed = question.presented_mut();
+        if aimed.len() > 1 && random.one_in(3) {
+            aimed.remove(below(random, 2));
+        }
+        for handle in aimed {
+            let choices = [
+                password(random),
+                near(cluster.read),
+                near(cluster.write),
+                cluster.read,
+            ];
             handle.node = self.apart.0 as u16;
             handle.local = self.apart.1 as u8;
             if random.one_in(2) {
-                handle.password = chosen;
+                handle.password = choices[below(random, choices.len())];
             }
         }
         let local = (&mut question.call, random.one_in(4));
@@ -202,16 +148,19 @@ impl Pair {
         store.is_some_and(|store| store.clusters[self.apart.0][self.apart.1].has_frozen())
     }
 
-    fn names_apart(&self, question: &Question) -> bool {
-        let place = |handle: &Handle| (usize::from(handle.node), usize::from(handle.local));
-        question.call.handle().map(place) == Some(self.apart)
+    /// Whether the handle names the cluster set apart.
+    fn is_apart(&self, handle: &Handle) -> bool {
+        (usize::from(handle.node), usize::from(handle.local)) == self.apart
     }
 
-    /// Whether the question's handle validates in some mode in some copy, as the model judges.
-    fn opens(&self, question: &Question) -> bool {
-        let Some(&handle) = question.call.handle() else {
-            return false;
-        };
+    /// Whether some handle of the question does.
+    fn names_apart(&self, question: &Question) -> bool {
+        let mut presented = question.call.presented();
+        presented.any(|handle| self.is_apart(handle))
+    }
+
+    /// Whether the handle validates in some mode in some copy, as the model judges.
+    fn opens(&self, &handle: &Handle) -> bool {
         let validates = |copy: &Held, mode: u32| {
             let question = Question::of(Call::Validate { mode, handle });
             by_model(&mut copy.clone(), &question).reply.is_done()
@@ -220,18 +169,23 @@ impl Pair {
         copies.any(|copy| validates(copy, READ_MODE) || validates(copy, WRITE_MODE))
     }
 
-    /// Whether the call is refused with 9, and would be done by a handle that opens the cluster.
-    fn kept_by_the_password(&self, question: &Question, answer: &Answer) -> bool {
+    /// Whether the call names the cluster set apart and is refused with 9, and would be done by handles that open the
+    /// cluster.
+    fn kept_by_the_passwords(&self, question: &Question, answer: &Answer) -> bool {
         let [copy, _] = &self.copies;
         let (Some(store), VIOLATED_PROTECTION) = (decode(&copy.image), answer.reply.number) else {
             return false;
         };
-        let Some(mode) = question.call.needed_mode() else {
+        let Some(mode) = question
+            .call
+            .needed_mode()
+            .filter(|_| self.names_apart(question))
+        else {
             return false;
         };
         let primary = *store.clusters[self.apart.0][self.apart.1].primary(mode);
         let mut opening = question.clone();
-        if let Some(handle) = opening.handle_mut() {
+        for handle in opening.presented_mut() {
             handle.password = derive(&primary, &handle.selector);
         }
         by_model(&mut copy.clone(), &opening).reply.is_done()

@@ -1,0 +1,66 @@
+//! Joins by chance: most are made as in lists, with modes that a list cannot name besides.
+
+use super::questions::Maker;
+use crate::question::{BEYOND, READ_MODE, WRITE_MODE};
+use model::call::Call;
+use model::generate::joins;
+use model::handle::Handle;
+use model::random::Random;
+use model::store::Mode;
+
+impl Maker<'_> {
+    pub(super) fn join(&mut self) -> Call {
+        let aimed = match self.random.one_in(4) {
+            true => None,
+            false => joins::join(self.random, self.store),
+        };
+        let Some(join) = aimed else {
+            return self.as_other_calls();
+        };
+        let [handle, other] = join.handles;
+        let right = match join.mode {
+            Mode::Read => READ_MODE,
+            Mode::Write => WRITE_MODE,
+        };
+        let mode = match join.is_a_mode {
+            true => right,
+            false => no_mode(self.random, right),
+        };
+        Call::Join {
+            mode,
+            handle,
+            other,
+        }
+    }
+
+    /// The second handle is mostly one that was given for the cluster of the first.
+    fn as_other_calls(&mut self) -> Call {
+        let (mode, number) = self.mode();
+        let handle = self.handle(mode, false, true);
+        let given = self.given.iter().copied();
+        let same: Vec<Handle> = given
+            .filter(|given| given.name() == handle.name())
+            .collect();
+        let other = match self.random.pick(&same) {
+            Some(other) => *other,
+            None => self.handle(mode, false, true),
+        };
+        Call::Join {
+            mode: number,
+            handle,
+            other,
+        }
+    }
+}
+
+/// A number that is no mode, often one that is right in its lowest bytes alone.
+fn no_mode(random: &mut Random, right: u32) -> u32 {
+    match random.below(6) {
+        0 => 0,
+        1 => WRITE_MODE + 1,
+        2 => right + (1 << 8),
+        3 => right + (1 << 16),
+        4 => 1 << random.below(32) | 1 << 3,
+        _ => BEYOND,
+    }
+}

@@ -1,0 +1,136 @@
+//! Joins where an argument comes to an end: lengths of the memory, modes, and the node and the local number of either
+//! handle.
+
+use super::{around, narrow, MEMORIES};
+use crate::chance::stores::{self, Fill};
+use crate::chance::{below, cases};
+use crate::compare::{ask, Guard, Sides};
+use crate::question::{Held, Question, READ_MODE, WRITE_MODE};
+use model::call::Call;
+use model::handle::{Handle, Selector};
+use model::random::Random;
+use model::sizes::{CLUSTERS, MEMORY_BYTES, NODES};
+use model::store::Mode;
+
+/// Modes are numbered from 1.
+const MODES: usize = WRITE_MODE as usize + 1;
+/// What the two handles reference: some each, the same, nothing, and all but one.
+const SEGMENTS: [(u8, u8); 5] = [
+    (0x07, 0x18),
+    (0x3c, 0x0f),
+    (0x20, 0x20),
+    (0x00, 0x00),
+    (0x7e, 0x01),
+];
+
+/// Two valid handles of one cluster.
+struct Both {
+    held: Held,
+    mode: usize,
+    handles: [Handle; 2],
+}
+
+/// What one join is asked with.
+struct Arguments {
+    memory_bytes: usize,
+    mode: usize,
+    handles: [Handle; 2],
+}
+
+/// Each node and each mode, with every argument where it changes. Gives how many joins there were, and how many of them
+/// were done.
+pub fn joins(guard: Guard, seed: u64) -> Result<(u64, u64), String> {
+    let (mut asked, mut done) = (0, 0);
+    let places = (0..NODES).flat_map(|node| [READ_MODE, WRITE_MODE].map(|mode| (node, mode)));
+    let all = places.flat_map(|place| SEGMENTS.map(|segments| (place, segments)));
+    let mut all = all.collect::<Vec<_>>().into_iter();
+    cases(seed, all.len() as u64, |random| {
+        let ((node, mode), segments) = all.next().expect("there are as many cases");
+        let both = Both::by_chance(random, node, mode, segments);
+        for arguments in both.arguments() {
+            let mut sides = Sides::both(both.held.clone());
+            for side in [&mut sides.guard, &mut sides.model] {
+                side.memory.resize(arguments.memory_bytes, 0);
+            }
+            let answer = ask(guard, &mut sides, &arguments.question())?;
+            asked += 1;
+            done += u64::from(answer.reply.is_done());
+        }
+        Ok(())
+    })?;
+    Ok((asked, done))
+}
+
+impl Arguments {
+    fn question(&self) -> Question {
+        let [handle, other] = self.handles;
+        Question {
+            beyond: self.mode,
+            ..Question::of(Call::Join {
+                mode: narrow(self.mode),
+                handle,
+                other,
+            })
+        }
+    }
+}
+
+impl Both {
+    fn by_chance(random: &mut Random, node: usize, mode: u32, segments: (u8, u8)) -> Both {
+        let mut store = stores::store(random, Fill::Partial);
+        let local = below(random, CLUSTERS);
+        let cluster = &mut store.clusters[node][local];
+        // Passwords that no other cluster has.
+        (cluster.active, cluster.read, cluster.write) = (true, random.bytes(), random.bytes());
+        let primary = *cluster.primary(Mode::from_number(mode).expect("it is a mode"));
+        let handle = |segments| {
+            let selector = Selector([segments, 255, 255, 255]);
+            Handle::converted(node as u16, local as u8, &primary, selector)
+        };
+        Both {
+            handles: [handle(segments.0), handle(segments.1)],
+            held: stores::held(random, &store),
+            mode: mode as usize,
+        }
+    }
+
+    /// In each all but one are right.
+    fn arguments(&self) -> Vec<Arguments> {
+        let right = |memory_bytes, mode| Arguments {
+            memory_bytes,
+            mode,
+            handles: self.handles,
+        };
+        let memories = MEMORIES.map(|bytes| right(bytes, self.mode));
+        let modes = around(self.mode, MODES).map(|mode| right(MEMORY_BYTES, mode));
+        let named = self.names().into_iter().map(|handles| Arguments {
+            handles,
+            ..right(MEMORY_BYTES, self.mode)
+        });
+        memories.into_iter().chain(modes).chain(named).collect()
+    }
+
+    /// The two handles with other nodes and other local numbers: of the first, of the second, and of both.
+    fn names(&self) -> Vec<[Handle; 2]> {
+        let (node, local) = self.handles[0].name();
+        let nodes = (0..16).map(|bit| (node ^ 1 << bit, local));
+        let locals = (0..8).map(|bit| (node, local ^ 1 << bit));
+        let ends = [(NODES as u16, local), (node, CLUSTERS as u8)];
+        let names = nodes.chain(locals).chain(ends);
+        names
+            .flat_map(|(node, local)| {
+                let [first, second] = self.handles;
+                let named = |handle| Handle {
+                    node,
+                    local,
+                    ..handle
+                };
+                [
+                    [named(first), second],
+                    [first, named(second)],
+                    [named(first), named(second)],
+                ]
+            })
+            .collect()
+    }
+}

@@ -1,0 +1,86 @@
+//! Joins whose arguments are cut, found out at the edges.
+
+use super::{by_a_join, joined, RIGHT, RIGHTLY};
+use crate::seen::SEED;
+use library::compare::Guard;
+use library::question::{Answer, Held, Question};
+use library::{edges, guard};
+use model::handle::Handle;
+use model::sizes::MEMORY_BYTES;
+
+fn found_out(guard: Guard, right: u8) {
+    let told = edges::joins(guard, SEED).expect_err("an edge is wrong");
+    by_a_join(&told, right);
+}
+
+/// The library, if it had the handles in this way.
+fn with_handles(held: &mut Held, question: &Question, change: fn(&mut [&mut Handle])) -> Answer {
+    let mut cut = question.clone();
+    change(&mut cut.presented_mut());
+    guard::ask(held, &cut)
+}
+
+#[test]
+fn the_right_rows_are_not_found_out() {
+    let right: Guard = |held, question| joined(held, question, &RIGHT, RIGHTLY);
+    assert_eq!(edges::joins(right, SEED), edges::joins(guard::ask, SEED));
+}
+
+#[test]
+fn modes_cut_to_six_bytes() {
+    found_out(
+        |held, question| {
+            let mut cut = question.clone();
+            cut.beyond &= (1 << 48) - 1;
+            guard::ask(held, &cut)
+        },
+        3,
+    );
+}
+
+#[test]
+fn a_node_in_its_low_byte() {
+    found_out(
+        |held, question| with_handles(held, question, |handles| handles[0].node &= 0xff),
+        2,
+    );
+    found_out(
+        |held, question| with_handles(held, question, |handles| handles[1].node &= 0xff),
+        2,
+    );
+}
+
+#[test]
+fn a_local_number_in_its_low_bits() {
+    found_out(
+        |held, question| with_handles(held, question, |handles| handles[0].local &= 7),
+        2,
+    );
+    found_out(
+        |held, question| with_handles(held, question, |handles| handles[1].local &= 7),
+        2,
+    );
+}
+
+#[test]
+fn a_memory_of_another_length_taken_for_whole() {
+    found_out(
+        |held, question| {
+            let mut seen = held.clone();
+            let bytes = seen.memory.len();
+            seen.memory.truncate(bytes.min(MEMORY_BYTES));
+            guard::ask(&mut seen, question)
+        },
+        1,
+    );
+    found_out(
+        |held, question| {
+            let mut seen = held.clone();
+            let bytes = seen.memory.len();
+            seen.memory
+                .resize(bytes + usize::from(bytes == MEMORY_BYTES - 1), 0);
+            guard::ask(&mut seen, question)
+        },
+        1,
+    );
+}

@@ -1,0 +1,147 @@
+//! Joins with every set of faults, each of them to the first handle, to the second or to both: what each has to be
+//! refused with is known from the set alone.
+#![allow(dead_code)] // each test file uses its own part
+
+use model::call::Call;
+use model::handle::{Handle, Password, Selector};
+use model::sizes::MEMORY_BYTES;
+use model::store::{Cluster, Mode, Segment, Store};
+
+/// The cluster that the first handle names, where that is a place.
+pub const NODE: u16 = 2;
+pub const LOCAL: u8 = 6;
+/// What the two reference together where nothing is wrong: segments 0 to 2, and 3 and 4.
+pub const UNION: u8 = 0x1f;
+
+const READ: Password = [0x11; 16];
+const WRITE: Password = [0x22; 16];
+
+/// Selectors of the two: the first pair is not whole, the others are.
+const SELECTORS: [[[u8; 4]; 2]; 5] = [
+    [[0x07, 255, 255, 255], [0x7e, 0x99, 255, 255]],
+    [[0x0f, 0x37, 255, 255], [0xf8, 255, 255, 255]],
+    [[255; 4], [0x7e, 0x99, 255, 255]],
+    [[0x07, 255, 255, 255], [255; 4]],
+    [[255; 4]; 2],
+];
+
+/// How the second handle's name differs, and which of the two clusters are inactive: bit 0 stands for the first, bit 1
+/// for the second.
+const NAMES: [((u16, u8), usize); 10] = [
+    ((0, 0), 0),
+    ((0, 0), 3),
+    ((1, 0), 0),
+    ((1, 0), 1),
+    ((1, 0), 2),
+    ((1, 0), 3),
+    ((0, 1), 0),
+    ((0, 1), 1),
+    ((0, 1), 2),
+    ((0, 1), 3),
+];
+
+/// How many ways there are for: 1, 2, 3, 4, the names, 9, the selectors, the mode.
+const WAYS: [usize; 8] = [2, 4, 2, 4, NAMES.len(), 4, SELECTORS.len(), 2];
+
+/// A join, and what it is put to.
+#[derive(Debug)]
+pub struct Joint {
+    pub faults: Vec<u8>,
+    pub store: Store,
+    pub memory_bytes: usize,
+    pub call: Call,
+    /// The primary password of the mode.
+    pub primary: Password,
+}
+
+impl Joint {
+    /// The first number that applies, or 0.
+    pub fn number(&self) -> u8 {
+        self.faults.first().copied().unwrap_or(0)
+    }
+}
+
+/// The first is one that is done.
+pub fn all() -> impl Iterator<Item = Joint> {
+    (0..WAYS.iter().product()).map(|at| {
+        let mut rest = at;
+        let choices = WAYS.map(|ways| {
+            let choice = rest % ways;
+            rest /= ways;
+            choice
+        });
+        with(choices)
+    })
+}
+
+fn with(choices: [usize; 8]) -> Joint {
+    let [unsound, nowhere, field, gapped, names, violated, selectors, write] = choices;
+    let ((more_nodes, more_locals), inactive) = NAMES[names];
+    let apart = NAMES[names].0 != (0, 0);
+    let applying = [
+        (unsound, 1),
+        (nowhere, 2),
+        (field, 3),
+        (gapped, 4),
+        (usize::from(apart), 24),
+        (inactive, 8),
+        (violated, 9),
+        (selectors, 23),
+    ];
+    let mode = [Mode::Read, Mode::Write][write];
+    let places = [(NODE, LOCAL), (NODE + more_nodes, LOCAL + more_locals)];
+    let store = store(places, inactive);
+    let handle = |at: usize| {
+        let has = |fault: usize| fault >> at & 1 == 1;
+        let (node, local) = places[at];
+        let cluster = &store.clusters[usize::from(node)][usize::from(local)];
+        let selector = match has(gapped) {
+            true => Selector([255, SELECTORS[0][at][0], 255, 255]),
+            false => Selector(SELECTORS[selectors][at]),
+        };
+        let mut handle = Handle::converted(node, local, cluster.primary(mode), selector);
+        handle.password[15] ^= u8::from(has(violated));
+        handle.node += 4 * u16::from(has(nowhere));
+        handle
+    };
+    Joint {
+        faults: applying
+            .iter()
+            .filter(|(fault, _)| *fault != 0)
+            .map(|(_, number)| *number)
+            .collect(),
+        memory_bytes: MEMORY_BYTES - unsound,
+        call: Call::Join {
+            mode: [1, 2, 0, 3][2 * field + write],
+            handle: handle(0),
+            other: handle(1),
+        },
+        primary: [READ, WRITE][write],
+        store,
+    }
+}
+
+/// Both places are active but for those that are not to be; the passwords are the same everywhere, so that the names
+/// alone tell the clusters from one another.
+fn store(places: [(u16, u8); 2], inactive: usize) -> Store {
+    let mut store = Store::starting();
+    store.clusters[0][0] = active();
+    store.clusters[0][0].segments[7] = Segment::present(0, 9).marked();
+    for (at, (node, local)) in places.into_iter().enumerate() {
+        let cluster = &mut store.clusters[usize::from(node)][usize::from(local)];
+        if inactive >> at & 1 == 0 {
+            *cluster = active();
+            cluster.segments[0] = Segment::present(at as u16, 1);
+        }
+    }
+    store
+}
+
+fn active() -> Cluster {
+    Cluster {
+        active: true,
+        read: READ,
+        write: WRITE,
+        ..Cluster::INACTIVE
+    }
+}
