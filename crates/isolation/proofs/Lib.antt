@@ -17,4 +17,5 @@ pub mod FrozenWitnessLaws
 pub mod GivenLaws
 pub mod EffectLaws
 pub mod ReadLaws
+pub mod KeyLaws
 pub mod AesLaws

@@ -22,7 +22,6 @@ use Rattle.store.specs.declared.Store.{Store}
 use Rattle.store.specs.declared.Cluster.{Cluster}
 use Rattle.store.specs.Records.{startingStore, started, tableAt, placeOn, putRecord, withPlace, withMark}
 use Rattle.store.proofs.ChangeLaws.{put-other}
-use Rattle.calls.specs.declared.Looked.{Looked}
 use Rattle.calls.specs.Calls.{Copy, Call}
 use Rattle.calls.specs.Steps.{Reply, Ran, followed, Outcome, effects, outcome, run}
 use Rattle.isolation.specs.Copies.{SixteenBytes, SoundCopy, InPlace, Outside, Alike, Held, keyed, places}

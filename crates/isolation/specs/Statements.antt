@@ -10,6 +10,9 @@
 --     TwoCopies               condition 3: two sound copies, alike but for the segment bytes and the passwords of one
 --                             active cluster, of which no call presents a handle that validates in either copy, a join
 --                             neither as its first nor as its second
+--     Key m h s               the handle h names the cluster, is not gapped and validates in the mode m
+--     KeyedInWords            what these lists are asked: a call is keyed just where it opens a cluster, and the handle that
+--                             it takes, or the second one of a join, is such a key
 --     ReadersAlterNothing     where no call of a list presents a handle of a cluster that validates for writing, a join
 --                             neither as its first nor as its second, the cluster's table, its write password and its
 --                             segments' bytes are at the end what they were
@@ -20,19 +23,25 @@
 --     OtherHeld               and the record and the segment bytes of every cluster that a call is not about are held
 -- Assumes nothing.
 use mathlib.Core.Path.{_≡_}
-use mathlib.Core.Logic.{_≢_}
+use mathlib.Core.Logic.{_≢_, _↔_}
 use Prim.Native.Nat.{ℕ, _<_}
-use mathlib.Core.Bool.{true}
+use mathlib.Core.Bool.{true, false}
 use mathlib.Core.List.{List}
 use lib.ListN.{length, getD}
 use Rattle.sizes.specs.Sizes.{nodes, clusters, segments}
-use Rattle.handle.specs.Handles.{Name}
+use Rattle.handle.specs.declared.Handle.{Handle}
+use Rattle.handle.specs.Selectors.{gapped}
+use Rattle.handle.specs.Handles.{Name, nodeOf, widthOf}
+use Rattle.store.specs.declared.Store.{Store}
 use Rattle.store.specs.Records.{Tables, recordOf, clusterAt, tableAt, placeOn}
 use Rattle.calls.specs.Calls.{Copy, start, Call, Kind, newCluster, deleteCluster, newSegment, deleteSegment}
 use Rattle.calls.specs.Calls.{read, write, weaken, reduce, newPassword, freeze, join, validate, look, nodeFor, localFor, recordFor}
 use Rattle.calls.specs.Calls.{placeFor}
+use Rattle.calls.specs.Numbers.{valid}
+use Rattle.calls.specs.Words.{Some, Opening}
 use Rattle.calls.specs.Steps.{newPlace, step, run}
-use Rattle.isolation.specs.Copies.{SoundCopy, InPlace, setApart, Alike, Held, Unaltered, AllShut, NoWriter, places}
+use Rattle.isolation.specs.Copies.{SoundCopy, InPlace, setApart, Alike, Held, Unaltered, keyed, AllShut, NoWriter}
+use Rattle.isolation.specs.Copies.{places}
 
 abbrev pub StartSound : Type 0
 StartSound = SoundCopy start
@@ -86,6 +95,17 @@ module _ (node local : ℕ) (f : Name → List ℕ → ℕ → List ℕ) where
       node < nodes → local < clusters → (xs : List Call) (a b : Copy) → SoundCopy a → SoundCopy b
       → tableAt (a .store) (setApart node local) .active ≡ true → Alike node local a b
       → AllShut node local f xs a → AllShut node local f xs b → Agreed xs a b
+
+  pub record Key (mode : ℕ) (h : Handle) (s : Store) : Type 0 where
+    pub named-node : nodeOf h ≡ node
+    pub named-local : h .local ≡ local
+    pub even : gapped (widthOf h) (h .selector) ≡ false
+    pub valid : valid f mode h s ≡ true
+
+  abbrev pub KeyedInWords : Type 0
+  KeyedInWords =
+      (mode : ℕ) (x : Call) (s : Store)
+      → (keyed node local f mode x s ≡ true) ↔ (Opening x × Some (λ h. Key mode h s) x)
 
   abbrev pub ReadersAlterNothing : Type 0
   ReadersAlterNothing =

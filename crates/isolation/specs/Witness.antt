@@ -11,15 +11,15 @@
 --     weakGiven c         the bytes of the handle with that password, whose subselector 0 is c
 --     weakShown c         with the first sixteen bytes of that password; the same, where f gives sixteen bytes
 --     before              each of the eleven calls, validation and a look with a handle of the cluster that does not
---                         validate, all refused, and a weakening of one that does; each of them done for a cluster of the
---                         same node, a freeze for a second one, which is then not deleted, and a join refused: because of
---                         its second handle alone, once one that does not validate and once one of the cluster set apart,
---                         and because the union is all eight; and some for one with the same local number, whose read
---                         handle is weakened twice, with looks from its node, one of them with a handle of the cluster set
---                         apart
+--                         validate, all refused, and a weakening of one that does; each of them but the join done for a
+--                         cluster of the same node, a freeze for a second one, which is then not deleted; joins refused
+--                         because of the second handle alone, once one that does not validate and once one of the cluster
+--                         set apart, and because the union is all eight; and some for a cluster with the same local
+--                         number, whose read handle is weakened twice, with looks from its node, one of them with a handle
+--                         of the cluster set apart
 --     last, lastLook      a read and a look with a weakened handle
---     lastJoin            a join of the two weakened ones
---     tries, answers      all these calls, and what both copies answer
+--     lastJoin            the two weakened handles joined
+--     tries, answers      all these calls, and what both copies answer: answersBefore, and answersAfter to the last ones
 --     Witnessed           the copies and the list meet each hypothesis of condition 3, and the answers are computed
 --     Concluded           what condition 3 says of them: the other copy gives these answers and places too; the record
 --                         and a byte of the last cluster, record 26, are equal in the end; and each copy has its
