@@ -23,7 +23,7 @@ use Rattle.handle.proofs.HandleLaws.{name-reduced, gapped-reduced, valid-reduce
 use Rattle.handle.proofs.OpensLaws.{opens-primary}
 use Rattle.handle.proofs.JoinLaws.{joins}
 use Rattle.handle.proofs.PasswordLaws.{equal-validates, validates-equal}
-use Rattle.handle.proofs.CodecLaws.{decode-encode, holdable-decoded, whole-decoded, holdable-weakened, holdable-reduced}
+use Rattle.handle.proofs.CodecLaws.{decode-encode, holdable-decoded, whole-decoded, holdable-weakened, holdable-reduced, holdable-joined}
 use Rattle.store.specs.declared.Cluster.{Cluster}
 use Rattle.store.specs.declared.Store.{Store}
 use Rattle.store.specs.Records.{started, recordOf, clusterAt, tableAt, putRecord, withPassword}
@@ -247,9 +247,9 @@ module _ (f : Name → List ℕ → ℕ → List ℕ) where
 
       back : decoded (encoded r) ≡ r
       back =
-          let d = holdable-decoded (g .handle) o in
           decode-encode r
-          (record { node = d .node; local = d .local; password = sixteen (nameOf h) p _; selector = refl })
+          (holdable-joined segments (f (nameOf h)) (sixteen (nameOf h)) h (holdable-decoded (g .handle) o)
+          (decoded (g .other)) p)
 
   pub weakened-opens : WeakenedOpens f
   unfolding left given gappedHandle spentHandle
