@@ -32,6 +32,7 @@ use Rattle.calls.specs.JoinRows.{joinRows}
 use Rattle.calls.specs.JoinWords.{Primary, JoinSwapped, JoinItself, JoinWithin}
 use Rattle.calls.proofs.FirstLaws.{Numbered, first-clear}
 use Rattle.calls.proofs.CallLaws.{or-left, or-right}
+use Rattle.calls.proofs.StepLaws.{step-number}
 use Rattle.calls.proofs.SelectorWords.{references-is, four}
 use Rattle.calls.proofs.JoinNumberLaws.{name-same, same-name, eachRows, oneRows, number-each, number-one}
 use Rattle.calls.proofs.JoinNumberLaws.{number-swapped, Cleared, cleared, cleared-first}
@@ -116,14 +117,6 @@ module _ (f : Name → List ℕ → ℕ → List ℕ) where
           ∙ same
           ∙ sym (number-one f (c .store) (length (c .memory)) m a)
 
-  step-number : (x : Call) (c : Copy) → step f x c .reply .number ≡ 0 → number f x (c .store) (length (c .memory)) ≡ 0
-  unfolding step
-  step-number x c e = go (number f x (c .store) (length (c .memory))) e
-    where
-      go : (n : ℕ) → outcome f n x c .reply .number ≡ 0 → n ≡ 0
-      go zero e = refl
-      go (suc n) e = e
-
   pub join-within : JoinWithin f
   join-within m a b o q n c d =
       reduces m a b c (e ∙ sym first) (λ p. joins 8 (f (nameOf h)) p h k .within (whole-decoded a o) other fewer .1)
@@ -135,7 +128,7 @@ module _ (f : Name → List ℕ → ℕ → List ℕ) where
       k = decoded b
 
       e : number f (joining m a b) (c .store) (length (c .memory)) ≡ 0
-      e = step-number (joining m a b) c d
+      e = step-number f (joining m a b) c d
 
       clear : Cleared f (c .store) (length (c .memory)) m h k
       clear =

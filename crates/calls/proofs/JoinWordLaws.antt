@@ -29,8 +29,9 @@ use Rattle.calls.specs.Numbers.{number}
 use Rattle.calls.specs.Steps.{Outcome, handles, zeroHandle, step, left, given}
 use Rattle.calls.specs.Literals.{none, told}
 use Rattle.calls.specs.JoinWords.{Together, Covering, Primary, PrimaryFor, JoinNeeds, JoinWhole, JoinedInWords}
+use Rattle.calls.specs.JoinWords.{JoinInWords}
 use Rattle.calls.proofs.FirstLaws.{first-clear}
-use Rattle.calls.proofs.StepLaws.{number-validate, step-done}
+use Rattle.calls.proofs.StepLaws.{number-validate, step-done, step-number}
 use Rattle.calls.proofs.TestLaws.{Is, off-is, or-is}
 use Rattle.calls.proofs.SelectorWords.{references-is, whole-is, four}
 use Rattle.calls.proofs.CallLaws.{or-left, or-right}
@@ -198,8 +199,8 @@ module _ (f : Name → List ℕ → ℕ → List ℕ) (m : ℕ) (a b : List ℕ)
     validates-again =
         valid-one s size out ∙ ap (λ (q : Handle). firstOf (oneRows f s size m q)) back ∙ clear-one
 
-    pub join-in-words : JoinedInWords f m a b c
-    join-in-words =
+    in-words : JoinedInWords f m a b c
+    in-words =
         record {
           copy = ap (λ (o : Outcome). o .copy) whole;
           reply = ap (λ (o : Outcome). o .reply) whole ∙ ap (λ (l : List ℕ). told 0 l none 0 0 []) (sym out-is);
@@ -225,3 +226,6 @@ module _ (f : Name → List ℕ → ℕ → List ℕ) (m : ℕ) (a b : List ℕ)
         primary : (q : List ℕ) → PrimaryFor m (clusterAt s (recordNamed h)) q → p ≡ q
         primary q (inl (g, t)) = ap (primaryOf (clusterAt s (recordNamed h))) g ∙ sym t
         primary q (inr (g, t)) = ap (primaryOf (clusterAt s (recordNamed h))) g ∙ sym t
+
+pub join-in-words : (f : Name → List ℕ → ℕ → List ℕ) → SixteenBytes f → JoinInWords f
+join-in-words f sixteen m a b la lb c d = in-words f m a b la lb sixteen c (step-number f (joining m a b) c d)

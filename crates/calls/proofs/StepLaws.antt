@@ -31,6 +31,15 @@ module _ (f : Name → List ℕ → ℕ → List ℕ) (x : Call) (c : Copy) wher
   unfolding step
   step-done e = ap (λ (k : ℕ). outcome f k x c) e
 
+  -- a step whose reply has the number 0 is done
+  pub step-number : step f x c .reply .number ≡ 0 → number f x (c .store) (length (c .memory)) ≡ 0
+  unfolding step
+  step-number = go (number f x (c .store) (length (c .memory)))
+    where
+      go : (n : ℕ) → outcome f n x c .reply .number ≡ 0 → n ≡ 0
+      go zero e = refl
+      go (suc n) e = e
+
 -- deleting leaves memory bytes alone
 pub deleting-keeps-bytes : (x : Call) (c : Copy)
     → (left deleteCluster x c .memory ≡ c .memory) × (left deleteSegment x c .memory ≡ c .memory)

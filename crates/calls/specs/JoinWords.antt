@@ -3,8 +3,10 @@
 --     JoinNeeds            it is done just where both handles validate in the mode, they name one cluster, and some segment
 --                          is referenced by neither
 --     JoinWhole            where both validate and name one cluster and every segment is referenced by the one or the other,
---                          it gets 23; so with a primary handle, first or second, and never 0
---     made x c             the handle that the reply of the call x on the copy c holds
+--                          it gets 23; with a primary handle, first or second, it is never done
+--     Together, Covering   the handles name one cluster; every segment is referenced by the one or the other
+--     Primary              all four subselectors are 255
+--     given, made          the bytes that a join on a copy gives, and the handle that they hold
 --     PrimaryFor m c p     p is the primary password of the record c for the mode m
 --     JoinedInWords x c    of a join done:
 --       copy                 it leaves the copy as it was
@@ -16,6 +18,7 @@
 --       references           so it references exactly the segments that either references
 --       password             its password is subselector 0 by the conversion on the mode's primary password
 --       validates            it validates in the mode
+--     JoinInWords          so it is of every join that is done
 --     JoinSwapped          the order of the two does not matter: the same number, the same bytes, the same copy, on every
 --                          copy
 --     JoinItself           a handle that is not primary, joined with itself, gets what its reduction gets, number and bytes
@@ -29,7 +32,6 @@ use lib.ListN.{length}
 use Rattle.bits.specs.Bytes.{Bytes}
 use Rattle.handle.specs.declared.Handle.{Handle}
 use Rattle.handle.specs.Handles.{Name, nameOf, nodeOf, decoded}
-use Rattle.handle.specs.Conversion.{SixteenBytes}
 use Rattle.handle.specs.Words.{Bit, subselector, References}
 use Rattle.store.specs.declared.Cluster.{Cluster}
 use Rattle.store.specs.declared.Store.{Store}
@@ -39,11 +41,9 @@ use Rattle.calls.specs.Words.{clusterOf}
 use Rattle.calls.specs.Steps.{step}
 use Rattle.calls.specs.Literals.{none, told}
 
--- the two name one cluster
 abbrev pub Together : Handle → Handle → Type 0
 Together h k = (nodeOf h ≡ nodeOf k) × (h .local ≡ k .local)
 
--- every segment is referenced by the one or the other
 abbrev pub Covering : Handle → Handle → Type 0
 Covering h k = (i : ℕ) → i < 8 → References h i ⊎ References k i
 
@@ -102,6 +102,11 @@ module _ (f : Name → List ℕ → ℕ → List ℕ) where
         pub password : (p : List ℕ) → PrimaryFor m (clusterOf h (c .store)) p
             → made .password ≡ f (nameOf h) p (subselector made 0)
         pub validates : number f (validating m given) (c .store) (length (c .memory)) ≡ 0
+
+  abbrev pub JoinInWords : Type 0
+  JoinInWords =
+      (m : ℕ) (a b : List ℕ) → length a ≡ 23 → length b ≡ 23 → (c : Copy)
+      → step f (joining m a b) c .reply .number ≡ 0 → JoinedInWords m a b c
 
   -- ---- one call and another
 

@@ -58,15 +58,6 @@ step-leaves x c h = go (number product x (c .store) (length (c .memory))) h
     go zero h = absurd (h (done-number (x .kind) x c))
     go (suc n) h = refl
 
--- a step whose reply has the number 0 is done
-pub step-number : (x : Call) (c : Copy) → aesStep x c .reply .number ≡ 0 → number product x (c .store) (length (c .memory)) ≡ 0
-unfolding step
-step-number x c = go (number product x (c .store) (length (c .memory)))
-  where
-    go : (n : ℕ) → outcome product n x c .reply .number ≡ 0 → n ≡ 0
-    go zero e = refl
-    go (suc n) e = e
-
 -- a call that looks at the store gets 1 where it is not sound
 pub number-unsound : (x : Call) (s : Store) (size : ℕ) → among (7 ∷ []) (x .kind) ≡ false → sound s size ≡ false
     → number product x s size ≡ 1

@@ -31,7 +31,8 @@ use Rattle.gelmuszta.specs.Runs.{RanOn, runOn, followedBy, placesOn, ima
 use Rattle.gelmuszta.specs.Runs.{FixedOn, FrozenOnImages, FrozenFromThenOn, DamagedRefused, RefusalLeaves}
 use Rattle.isolation.specs.Frozen.{Fixed}
 use Rattle.isolation.proofs.FrozenLaws.{frozen-stays, fixed-from-then-on}
-use Rattle.gelmuszta.proofs.ExportLaws.{damagedBy, picked, step-leaves, step-number}
+use Rattle.calls.proofs.StepLaws.{step-number}
+use Rattle.gelmuszta.proofs.ExportLaws.{damagedBy, picked, step-leaves}
 use Rattle.gelmuszta.proofs.LookLaws.{placed}
 use Rattle.gelmuszta.proofs.FitLaws.{step-fits}
 
@@ -157,7 +158,7 @@ module _ (g : Arguments) (b m : List ℕ) where
         go false e = let o = sym (ap numberOf (exported-damaged freezes b m e)) ∙ z in absurd (omega arith)
 
     done-step : Done product freezes (held b m)
-    done-step = step-number freezes (held b m) (sym (ap numberOf (exported-good freezes b m done-good)) ∙ z)
+    done-step = step-number product freezes (held b m) (sym (ap numberOf (exported-good freezes b m done-good)) ∙ z)
 
 pub frozen-from-then-on : FrozenFromThenOn
 frozen-from-then-on g xs b m p h z =

@@ -4,7 +4,9 @@ use Prim.Native.Nat.{ℕ}
 use Rattle.handle.specs.Conversion.{product}
 use Rattle.handle.proofs.PasswordLaws.{length-conversion}
 use Rattle.calls.specs.EmptyWords.{NeverToNothing}
+use Rattle.calls.specs.JoinWords.{JoinInWords}
 use Rattle.calls.proofs.EmptyWordLaws.{never-to-nothing}
+use Rattle.calls.proofs.JoinWordLaws.{join-in-words}
 use Rattle.isolation.specs.Copies.{SixteenBytes}
 use Rattle.isolation.specs.Statements.{SoundKept, TwoCopies, ReadersAlterNothing, Agreed}
 use Rattle.isolation.specs.Witness.{one, two, tries, Concluded, Bites}
@@ -44,6 +46,9 @@ aes-validation-judges = validation-judges product aes-sixteen
 
 pub aes-never-to-nothing : NeverToNothing product
 aes-never-to-nothing = never-to-nothing product aes-sixteen
+
+pub aes-join-in-words : JoinInWords product
+aes-join-in-words = join-in-words product aes-sixteen
 
 pub aes-agreed : Agreed 0 2 product (tries product) one two
 aes-agreed = agreed product
