@@ -94,7 +94,7 @@ fn what_either_references_whichever_comes_first() {
     }
     assert_eq!(bench, before);
     // Each segment is the first one's, the second one's or both's; but for all of both's, every pair would come twice.
-    let expected = (3_u32.pow(8) + 1) / 2;
+    let expected = 3_u32.pow(8).div_ceil(2);
     assert_eq!((done, whole), (256 * 257 / 2 - expected, expected));
 }
 
