@@ -115,7 +115,7 @@ fn valid(
 
 /// A selector without gaps that references just these segments; one to four subselectors are not flat, but none where
 /// it references all.
-pub fn noting(random: &mut Random, segments: u8) -> Selector {
+fn noting(random: &mut Random, segments: u8) -> Selector {
     let mut selector = [FLAT; SUBSELECTORS];
     if segments == FLAT {
         return Selector(selector);
