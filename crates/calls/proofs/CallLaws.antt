@@ -2,7 +2,7 @@
 -- a call with no row 2 is about a place that exists; one with no row 3 needs the read mode or the write mode. A row of the
 -- handles that does not apply, applies to none of them.
 -- Assumes nothing.
-use mathlib.Core.Path.{_≡_, refl, sym, ap, _∙_}
+use mathlib.Core.Path.{_≡_, refl, ap, _∙_}
 use mathlib.Core.Logic.{_≢_, _⊎_, inl, inr}
 use Prim.Native.Nat.{ℕ, _<_}
 use mathlib.Core.Bool.{Bool, true, false, not, _&&_, _||_, true≢false, false≢true}
@@ -17,7 +17,7 @@ use Rattle.store.specs.declared.Store.{Store}
 use Rattle.store.specs.Records.{Tables, recordOf, readMode, writeMode}
 use Rattle.calls.specs.Calls.{Call, call, Arguments, Kind, newCluster, deleteCluster, newSegment, deleteSegment}
 use Rattle.calls.specs.Calls.{read, write, weaken, reduce, newPassword, freeze, join, validate, look, among, opens}
-use Rattle.calls.specs.Calls.{uses, needed, handleOf, otherOf, presented, anyOf, nodeFor, localFor}
+use Rattle.calls.specs.Calls.{uses, needed, handleOf, presented, anyOf, nodeFor, localFor}
 use Rattle.calls.specs.Calls.{recordFor}
 use Rattle.calls.specs.Calls.{recordNamed}
 use Rattle.calls.specs.Numbers.{noPlace, badMode, badSegment, badSize, badField, gappedHandle, inactiveCluster}

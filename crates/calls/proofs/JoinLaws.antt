@@ -2,36 +2,25 @@
 -- so the records, are one. With itself, or with a handle that references no more, what it makes is the reduction, and its
 -- number is the reduction's.
 -- Assumes nothing.
-use mathlib.Core.Path.{_≡_, refl, sym, ap, ap₂, _∙_}
+use mathlib.Core.Path.{_≡_, refl, sym, ap, _∙_}
 use Prim.Native.Nat.{ℕ, zero, suc, _+_, _*_, _<_}
-use native.Mathlib.Omega.{arith}
-use mathlib.Core.Bool.{Bool, true, false, not, _&&_, _||_, cond, or-false, or-true, or-self, false≢true}
-use mathlib.Core.List.{List, [], _∷_}
-use lib.Dec.{eqb}
+use mathlib.Core.Bool.{true, false, or-self, false≢true}
+use mathlib.Core.List.{List, []}
 use lib.ListN.{length}
-use borrow.Author.Tests.{eqb-true, eq-eqb, not-false}
 use Rattle.bits.specs.Bytes.{Bytes}
-use Rattle.loops.proofs.BelowLaws.{and-left, and-right, and-both, test-off}
+use Rattle.loops.proofs.BelowLaws.{test-off}
 use Rattle.handle.specs.declared.Handle.{Handle}
-use Rattle.handle.specs.Selectors.{references, allFlat, gapped, wholeUnion, flat}
-use Rattle.handle.specs.Handles.{Name, nameOf, nodeOf, sameName, widthOf, noSuchPlace, encoded, decoded, Row, firstOf}
-use Rattle.handle.specs.Handles.{validates, reduced, joined}
-use Rattle.handle.specs.Words.{References}
+use Rattle.handle.specs.Selectors.{references, allFlat}
+use Rattle.handle.specs.Handles.{Name, nameOf, sameName, encoded, decoded, firstOf}
+use Rattle.handle.specs.Handles.{reduced, joined}
 use Rattle.handle.proofs.CodecLaws.{whole-decoded}
 use Rattle.handle.proofs.WordLaws.{flat-out}
 use Rattle.handle.proofs.JoinLaws.{joins, joins-itself}
-use Rattle.store.specs.declared.Cluster.{Cluster}
-use Rattle.store.specs.declared.Store.{Store}
-use Rattle.store.specs.Records.{clusterAt, primaryOf, readMode, writeMode}
-use Rattle.store.specs.Sound.{sound}
-use Rattle.calls.specs.Calls.{Copy, Call, joining, reducing, recordNamed}
-use Rattle.calls.specs.Numbers.{number, tests}
-use Rattle.calls.specs.Clear.{Clear}
-use Rattle.calls.specs.Steps.{Outcome, handles, zeroHandle, outcome, step, left, given}
-use Rattle.calls.specs.JoinRows.{joinRows}
+use Rattle.store.specs.Records.{clusterAt, primaryOf}
+use Rattle.calls.specs.Calls.{Copy, joining, reducing, recordNamed}
+use Rattle.calls.specs.Numbers.{number}
+use Rattle.calls.specs.Steps.{handles, zeroHandle, outcome, step, left, given}
 use Rattle.calls.specs.JoinWords.{Primary, JoinSwapped, JoinItself, JoinWithin}
-use Rattle.calls.proofs.FirstLaws.{Numbered, first-clear}
-use Rattle.calls.proofs.CallLaws.{or-left, or-right}
 use Rattle.calls.proofs.StepLaws.{step-number}
 use Rattle.calls.proofs.SelectorWords.{references-is, four}
 use Rattle.calls.proofs.JoinNumberLaws.{name-same, same-name, eachRows, oneRows, number-each, number-one}

@@ -1,41 +1,28 @@
 -- The numbers of a join. Its rows are an `or` of what each handle is asked, so they are the same either way round; where
 -- the two names are one, so is the record that is looked at. A join done has shown of each handle what a reduction shows.
 -- Assumes nothing.
-use mathlib.Core.Path.{_≡_, refl, sym, ap, ap₂, _∙_}
-use Prim.Native.Nat.{ℕ, zero, suc, _+_, _*_, _<_}
+use mathlib.Core.Path.{_≡_, refl, sym, ap, _∙_}
+use Prim.Native.Nat.{ℕ, _+_, _*_}
 use native.Mathlib.Omega.{arith}
-use mathlib.Core.Bool.{Bool, true, false, not, _&&_, _||_, cond, or-false, or-true, or-self, false≢true}
+use mathlib.Core.Bool.{Bool, true, false, not, _&&_, _||_, cond, or-false, or-self, false≢true}
 use mathlib.Core.List.{List, [], _∷_}
 use lib.Dec.{eqb}
-use lib.ListN.{length}
 use borrow.Author.Tests.{eqb-true, eq-eqb, not-false}
-use Rattle.bits.specs.Bytes.{Bytes}
 use Rattle.loops.proofs.BelowLaws.{and-left, and-right, and-both, test-off}
 use Rattle.handle.specs.declared.Handle.{Handle}
-use Rattle.handle.specs.Selectors.{references, allFlat, gapped, wholeUnion, flat}
-use Rattle.handle.specs.Handles.{Name, nameOf, nodeOf, sameName, widthOf, noSuchPlace, encoded, decoded, Row, firstOf}
-use Rattle.handle.specs.Handles.{validates, reduced, joined}
-use Rattle.handle.specs.Words.{References}
-use Rattle.handle.proofs.CodecLaws.{whole-decoded}
-use Rattle.handle.proofs.WordLaws.{flat-out}
-use Rattle.handle.proofs.JoinLaws.{joins, joins-itself}
-use Rattle.store.specs.declared.Cluster.{Cluster}
+use Rattle.handle.specs.Selectors.{gapped, wholeUnion, flat}
+use Rattle.handle.specs.Handles.{Name, nameOf, nodeOf, sameName, widthOf, noSuchPlace, decoded, Row, firstOf}
+use Rattle.handle.specs.Handles.{validates}
+use Rattle.handle.proofs.JoinLaws.{or-swapped, joins}
 use Rattle.store.specs.declared.Store.{Store}
 use Rattle.store.specs.Records.{clusterAt, primaryOf, readMode, writeMode}
 use Rattle.store.specs.Sound.{sound}
-use Rattle.calls.specs.Calls.{Copy, Call, joining, reducing, recordNamed}
+use Rattle.calls.specs.Calls.{joining, reducing, recordNamed}
 use Rattle.calls.specs.Numbers.{number, tests}
 use Rattle.calls.specs.Clear.{Clear}
-use Rattle.calls.specs.Steps.{Outcome, handles, zeroHandle, outcome, step, left, given}
-use Rattle.calls.specs.JoinRows.{joinRows}
-use Rattle.calls.specs.JoinWords.{Primary, JoinSwapped, JoinItself, JoinWithin}
+use Rattle.calls.specs.JoinRows.{row, joinRows}
 use Rattle.calls.proofs.FirstLaws.{Numbered, first-clear}
 use Rattle.calls.proofs.CallLaws.{or-left, or-right}
-use Rattle.calls.proofs.SelectorWords.{references-is, four}
-
-or-swapped : (a b : Bool) → a || b ≡ b || a
-or-swapped true b = sym (or-true b)
-or-swapped false b = sym (or-false b)
 
 -- ---- names
 
@@ -52,9 +39,6 @@ same-name h k n l =
     (eq-eqb (h .local) (k .local) l)
 
 -- ---- the rows of a join, and of a reduction, on the records of the handles
-
-abbrev row : ℕ → Bool → Row
-row n t = record { number = n; applies = t }
 
 abbrev noMode : ℕ → Bool
 noMode m = not (eqb m readMode || eqb m writeMode)

@@ -1,19 +1,18 @@
 -- Joining in words. A join has shown of each handle what validation shows, and more: one name, and a segment that neither
 -- references. What it makes is read back from its 23 bytes, and in words it is what the handle crate says of the union.
 -- Assumes nothing.
-use mathlib.Core.Path.{_≡_, refl, sym, ap, _∙_, subst}
+use mathlib.Core.Path.{_≡_, sym, ap, _∙_, subst}
 use mathlib.Core.Logic.{_≢_, _⊎_, inl, inr, _↔_}
 use Prim.Native.Nat.{ℕ, _<_}
 use native.Mathlib.Omega.{arith}
 use mathlib.Core.Bool.{Bool, true, false, cond, false≢true}
-use mathlib.Core.List.{List, [], _∷_}
+use mathlib.Core.List.{List, []}
 use lib.Dec.{leb}
 use lib.ListN.{length}
 use borrow.Author.Tests.{eq-eqb, leb-false}
-use Rattle.loops.proofs.BelowLaws.{and-left, and-right, test-off}
 use Rattle.handle.specs.declared.Handle.{Handle}
 use Rattle.handle.specs.Selectors.{either, union, wholeUnion}
-use Rattle.handle.specs.Handles.{Name, nameOf, nodeOf, sameName, encoded, decoded, Holdable, firstOf, noSuchPlace, joined}
+use Rattle.handle.specs.Handles.{Name, nameOf, nodeOf, encoded, decoded, Holdable, firstOf, noSuchPlace, joined}
 use Rattle.handle.specs.Conversion.{SixteenBytes}
 use Rattle.handle.specs.Opens.{Opens}
 use Rattle.handle.specs.Words.{Bit, subselector, References, Holding}
@@ -24,7 +23,7 @@ use Rattle.handle.proofs.SelectorLaws.{references-flat}
 use Rattle.handle.proofs.JoinLaws.{joins}
 use Rattle.store.specs.declared.Store.{Store}
 use Rattle.store.specs.Records.{clusterAt, primaryOf}
-use Rattle.calls.specs.Calls.{Copy, Call, joining, reducing, validating, recordNamed}
+use Rattle.calls.specs.Calls.{Copy, joining, reducing, validating, recordNamed}
 use Rattle.calls.specs.Numbers.{number}
 use Rattle.calls.specs.Steps.{Outcome, handles, zeroHandle, step, left, given}
 use Rattle.calls.specs.Literals.{none, told}

@@ -1,15 +1,14 @@
 -- Joining: the rows of two handles are all that it has, and a call done changes nothing. The record of the first handle's
 -- cluster may be looked up before its place is judged, as for the other calls.
 -- Assumes nothing.
-use mathlib.Core.Path.{_≡_, refl, sym, ap, subst, _∙_}
-use mathlib.Core.Bool.{Bool, true, false, not, _||_}
-use mathlib.Core.List.{List, [], _∷_}
+use mathlib.Core.Path.{_≡_, sym, ap, subst, _∙_}
+use mathlib.Core.Bool.{Bool, not}
+use mathlib.Core.List.{List, []}
 use Prim.Native.Nat.{ℕ}
 use native.Mathlib.Omega.{arith}
 use lib.ListN.{length}
 use Rattle.handle.specs.declared.Handle.{Handle}
-use Rattle.handle.specs.Selectors.{gapped, wholeUnion}
-use Rattle.handle.specs.Handles.{nameOf, sameName, widthOf, noSuchPlace, firstOf, Row, encoded, decoded, validates, joined}
+use Rattle.handle.specs.Handles.{nameOf, widthOf, noSuchPlace, firstOf, encoded, decoded, joined}
 use Rattle.handle.specs.Conversion.{product}
 use Rattle.store.specs.declared.Cluster.{Cluster}
 use Rattle.store.specs.declared.Store.{Store}
@@ -19,42 +18,23 @@ use Rattle.calls.specs.Calls.{joining}
 use Rattle.calls.specs.Numbers.{number}
 use Rattle.calls.specs.Steps.{zeroHandle, handles, aesStep, left, given}
 use Rattle.calls.specs.Answers.{copyOf, ended, numberAlone, handlesAlone}
-use Rattle.calls.specs.JoinRows.{joinRows}
+use Rattle.calls.specs.JoinRows.{joinBelow, joinRows}
 use Rattle.calls.specs.Clear.{Clear}
 use Rattle.calls.proofs.FirstLaws.{first-clear}
 use Rattle.calls.proofs.CallLaws.{or-left}
 use Rattle.calls.proofs.StepLaws.{step-done}
 use Rattle.calls.proofs.JoinNumberLaws.{number-join}
-use Rattle.refusals.specs.Rows.{row, badModes}
 use Rattle.refusals.specs.Given.{Given}
 use Rattle.refusals.proofs.GivenLaws.{judged, shown, found, named, by-given, found-is, either-record}
 use Rattle.cluster.proofs.CoreLaws.{refused-alone}
 
 module _ (s : Store) (m a b : List ℕ) (mode : ℕ) where
-  -- the rows below the second, on a record
-  abbrev lower : Cluster → List Row
-  lower c =
-      row 3 (badModes mode)
-      ∷ row 4 (gapped (widthOf h) (h .selector) || gapped (widthOf k) (k .selector))
-      ∷ row 24 (not (sameName h k))
-      ∷ row 8 (not (c .active))
-      ∷ row 9
-      (not (validates (widthOf h) (product (nameOf h)) (primaryOf c mode) h)
-      || not (validates (widthOf k) (product (nameOf k)) (primaryOf c mode) k))
-      ∷ row 23 (wholeUnion (widthOf h) (h .selector) (k .selector))
-      ∷ []
-    where
-      h : Handle
-      h = shown s m a
-
-      k : Handle
-      k = decoded b
-
   number-found : number product (joining mode a b) s (length m)
       ≡ firstOf (joinRows product (judged s m a) (shown s m a) (decoded b) (found s m a) mode)
   number-found =
       number-join product s (length m) mode a b
-      ∙ either-record s m a (not (judged s m a)) (noSuchPlace (decoded b)) (λ c. firstOf (lower c))
+      ∙ either-record s m a (not (judged s m a)) (noSuchPlace (decoded b))
+      (λ c. firstOf (joinBelow product (shown s m a) (decoded b) c mode))
 
   module _ (n : ℕ) where
     abbrev Told : Bool → Handle → Handle → Cluster → Type 0

@@ -2,9 +2,9 @@
 -- subselector 0 alone. The set of what either references is the same either way round, and where one of them references
 -- no more than the other it is what the other references.
 -- Assumes nothing.
-use Prim.Native.Nat.{ℕ, _<_}
+use Prim.Native.Nat.{ℕ}
 use mathlib.Core.Path.{_≡_, refl, sym, ap, _∙_}
-use mathlib.Core.Bool.{Bool, true, false, _&&_, _||_, false≢true, and-true, or-true, or-false}
+use mathlib.Core.Bool.{Bool, true, false, _||_, false≢true, and-true, or-true, or-false}
 use mathlib.Core.List.{List}
 use borrow.Author.Tests.{eq-eqb}
 use Rattle.bits.specs.Sets.{full, setOf}
@@ -12,15 +12,15 @@ use Rattle.bits.proofs.SetLaws.{setOf-lt, has-setOf, setOf-same, same-bits}
 use Rattle.bits.proofs.OperationLaws.{has-full, full-lt}
 use Rattle.handle.specs.declared.Handle.{Handle}
 use Rattle.handle.specs.Selectors.{references, either, flat, allFlat, common, union, wholeUnion}
-use Rattle.handle.specs.Handles.{Name, nameOf, renewed, made, reduced, joined}
+use Rattle.handle.specs.Handles.{nameOf, made, reduced, joined}
 use Rattle.handle.specs.Opens.{Whole, Opens}
 use Rattle.handle.specs.Joins.{NoMore, Joins, JoinsItself}
 use Rattle.handle.proofs.SelectorLaws.{full-flat, common-not-flat, references-flat, references-inFirst, gapped-inFirst}
 use Rattle.handle.proofs.HandleLaws.{through-inFirst, reduced-cases}
 
-either-swapped : (a b : Bool) → a || b ≡ b || a
-either-swapped true b = sym (or-true b)
-either-swapped false b = sym (or-false b)
+pub or-swapped : (a b : Bool) → a || b ≡ b || a
+or-swapped true b = sym (or-true b)
+or-swapped false b = sym (or-false b)
 
 no-more : (a b : Bool) → (b ≡ true → a ≡ true) → a || b ≡ a
 no-more true b h = refl
@@ -46,7 +46,7 @@ module _ (w : ℕ) (f : List ℕ → ℕ → List ℕ) (p : List ℕ) where
     union-swapped : bits ≡ union w (k .selector) (h .selector)
     union-swapped =
         setOf-same w (either (h .selector) (k .selector)) (either (k .selector) (h .selector))
-        (λ i l. either-swapped (references (h .selector) i) (references (k .selector) i))
+        (λ i l. or-swapped (references (h .selector) i) (references (k .selector) i))
 
     joined-flat : (b : Bool) → wholeUnion w (h .selector) (k .selector) ≡ b → allFlat w (joined w f h k p .selector) ≡ b
     unfolding joined

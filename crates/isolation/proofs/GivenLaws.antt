@@ -26,7 +26,7 @@ use Rattle.handle.proofs.PasswordLaws.{equal-validates, validates-equal}
 use Rattle.handle.proofs.CodecLaws.{decode-encode, holdable-decoded, whole-decoded, holdable-weakened, holdable-reduced, holdable-joined}
 use Rattle.store.specs.declared.Cluster.{Cluster}
 use Rattle.store.specs.declared.Store.{Store}
-use Rattle.store.specs.Records.{started, recordOf, clusterAt, tableAt, putRecord, withPassword}
+use Rattle.store.specs.Records.{started, recordOf, clusterAt, putRecord, withPassword}
 use Rattle.store.proofs.ChangeLaws.{put-same}
 use Rattle.store.specs.Records.{readMode, writeMode, primaryOf}
 use Rattle.calls.specs.Calls.{Call, call, newCluster, weaken, reduce, newPassword, join}

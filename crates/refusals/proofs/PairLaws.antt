@@ -1,10 +1,10 @@
 -- The refusals of a join, return by return: each test that did not apply is one premise more for those below it.
 -- Assumes nothing.
-use mathlib.Core.Path.{_≡_, refl, sym, ap, ap₂, _∙_}
-use mathlib.Core.Bool.{Bool, true, false, not, _||_, cond, or-true}
+use mathlib.Core.Path.{_≡_, refl, sym, ap, _∙_}
+use mathlib.Core.Bool.{Bool, true, false, not, _||_, cond}
 use mathlib.Core.List.{List}
 use Prim.Native.Nat.{ℕ}
-use lib.Dec.{leb, eqb}
+use lib.Dec.{leb}
 use Rattle.sizes.specs.Sizes.{nodes, clusters}
 use Rattle.handle.specs.declared.Handle.{Handle}
 use Rattle.handle.specs.Selectors.{gapped, wholeUnion}
@@ -22,11 +22,6 @@ place-told h v e = ap (λ (n : ℕ). leb nodes n || leb clusters (h .local)) e
 module _ (sound : Bool) (h k : Handle) (c : Cluster) (mode : ℕ) where
   abbrev first : ℕ
   first = firstOf (joinRows product sound h k c mode)
-
-  -- the number, by what the tests gave
-  abbrev told : Bool → Bool → Bool → Bool → Bool → Bool → Bool → Bool → ℕ
-  told u p f g n i v w =
-      cond u 1 (cond p 2 (cond f 3 (cond g 4 (cond n 24 (cond i 8 (cond v 9 (cond w 23 0)))))))
 
   abbrev opens : Handle → List ℕ → Bool
   opens h p = validates (widthOf h) (product (nameOf h)) p h
