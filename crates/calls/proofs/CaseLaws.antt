@@ -13,8 +13,8 @@ use Rattle.store.specs.declared.Store.{Store}
 use Rattle.store.specs.Sound.{sound}
 use Rattle.calls.specs.Calls.{Call}
 use Rattle.calls.specs.Numbers.{number, tests}
-use Rattle.calls.specs.Cases.{added, sample, marked, Case, calls, named, damaged, refusals, joins, joinsApart, frozen}
-use Rattle.calls.specs.Cases.{NumbersGiven}
+use Rattle.calls.specs.Cases.{added, sample, marked, Case, calls, named, damaged, refusals, frozen, NumbersGiven}
+use Rattle.calls.specs.JoinCases.{joins, joinsApart, JoinsGiven}
 use Rattle.calls.specs.Orders as order
 use Rattle.calls.proofs.Computing.{computing, sounding}
 use Rattle.calls.proofs.StepLaws.{numberBelow, number-below}
@@ -90,9 +90,14 @@ numbers-given =
     record {
       damaged = damaged-told;
       refusals = numbers-below sample sample-sound (calls refusals) ∙ refusals-below;
-      joins = numbers-below sample sample-sound (calls joins) ∙ joins-below;
-      joins-apart = numbers-below marked marked-sound (calls joinsApart) ∙ joins-apart-below;
       frozen = numbers-below marked marked-sound (calls frozen) ∙ frozen-below;
+    }
+
+pub joins-given : JoinsGiven
+joins-given =
+    record {
+      joins = numbers-below sample sample-sound (calls joins) ∙ joins-below;
+      apart = numbers-below marked marked-sound (calls joinsApart) ∙ joins-apart-below;
     }
 
 pub orders-given : order.OrdersGiven

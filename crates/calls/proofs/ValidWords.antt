@@ -22,7 +22,8 @@ use Rattle.calls.proofs.TestLaws.{Is, map-is, same-is, off-is, not-is, 
 use Rattle.calls.proofs.KindLaws.{kind-is}
 use Rattle.calls.proofs.CallLaws.{mode-known}
 use Rattle.calls.proofs.SelectorWords.{chain-is}
-use Rattle.calls.proofs.WordLaws.{opens-is, presented-is, first, second, badField-is}
+use Rattle.calls.proofs.PresentedWords.{opens-is, presented-is}
+use Rattle.calls.proofs.WordLaws.{first, second, badField-is}
 
 -- ---- the mode needed
 

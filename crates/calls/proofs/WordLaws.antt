@@ -2,13 +2,13 @@
 -- record that a call is about) is worked out for the kinds that the row names; the rest is the test's own parts in words.
 -- Rows 9 and 16 are told that no words above them hold: there is a mode, a node and a size, and the store is sound.
 -- Assumes nothing.
-use mathlib.Core.Path.{_≡_, refl, sym, ap, ap₂, _∙_, subst}
+use mathlib.Core.Path.{_≡_, refl, sym, ap, _∙_, subst}
 use mathlib.Core.Logic.{_≢_, _⊎_, inl, inr}
-use Prim.Native.Nat.{ℕ, _*_, _+_, _<_}
+use Prim.Native.Nat.{ℕ, _<_}
 use native.Mathlib.Decide.{ℕ-discrete}
 use native.Mathlib.Omega.{arith}
-use mathlib.Core.Bool.{Bool, true, false, not, _&&_, _||_, false≢true, or-false}
-use mathlib.Core.List.{List, [], _∷_, _++_}
+use mathlib.Core.Bool.{Bool, true, false, not, _&&_, _||_, false≢true}
+use mathlib.Core.List.{[], _∷_}
 use lib.Dec.{eqb, ltb}
 use lib.ListN.{length}
 use borrow.Author.Tests.{ltb-true, lt-ltb}
@@ -18,110 +18,40 @@ use Rattle.handle.specs.Handles.{nodeOf, widthOf, noSuchPlace}
 use Rattle.store.specs.declared.Place.{Place}
 use Rattle.store.specs.declared.Place.the-variants.{Absent, Present}
 use Rattle.store.specs.declared.Store.{Store}
-use Rattle.store.specs.Records.{tableOf, clusterAt, tableAt, placeAt, frozenOf, noneFrozen, lengthOf}
+use Rattle.store.specs.Records.{tableOf, clusterAt, tableAt, frozenOf, noneFrozen, lengthOf}
 use Rattle.store.specs.Sound.{isAbsent, sound}
 use Rattle.store.specs.Placement.{placement}
 use Rattle.store.specs.SoundWords.{SoundInWords}
 use Rattle.store.specs.PlacementWords.{Room}
 use Rattle.store.proofs.SoundWordLaws.{sound-in-words}
 use Rattle.store.proofs.PlacementWordLaws.{placement-in-words}
-use Rattle.calls.specs.Calls.{Call, Kind, newCluster, newSegment, read, write, weaken, join}
-use Rattle.calls.specs.Calls.{among, isLook, opens, uses, handleOf, otherOf, taken, presented, anyOf}
-use Rattle.calls.specs.Calls.{buffer, nodeFor, recordFor, recordNamed, placeFor}
+use Rattle.calls.specs.Calls.{Call, newSegment, read, write, weaken}
+use Rattle.calls.specs.Calls.{among, isLook, uses, handleOf, otherOf}
+use Rattle.calls.specs.Calls.{buffer, recordNamed}
 use Rattle.calls.specs.Numbers.{unsound, noPlace, badMode, badSegment, badSize, badField, gappedHandle, joinApart, elsewhere}
 use Rattle.calls.specs.Numbers.{inUse, twins, inactiveCluster, joinWhole, notPrimary, clusterFrozen, notReferenced, isOld}
 use Rattle.calls.specs.Numbers.{oldPassword}
 use Rattle.calls.specs.Numbers.{segmentPresent, segmentAbsent, segmentFrozen, short, fullNode, emptyHandle, spentHandle}
-use Rattle.calls.specs.Words.{Named, Handled, Joining, Taken, Some, GappedHandle, Opening, clusterOf, place, Unsound, NoSuchPlace, Field}
+use Rattle.calls.specs.Words.{Named, Handled, Joining, Taken, GappedHandle, clusterOf, place, Unsound, NoSuchPlace, Field}
 use Rattle.calls.specs.Words.{Gapped, Apart, Whole, Elsewhere, InUse, Twins, Inactive, NotPrimary, NotReferenced, OldPassword}
 use Rattle.calls.specs.Words.{ClusterFrozen, SegmentPresent, SegmentAbsent, SegmentFrozen, Short, NoRoom, Empty, Spent}
-use Rattle.calls.proofs.TestLaws.{Is, map-is, same-is, off-is, not-is, then-is, and-is, or-is, three-is, holds-is}
+use Rattle.calls.proofs.TestLaws.{Is, map-is, same-is, not-is, then-is, and-is, or-is, three-is, holds-is}
 use Rattle.calls.proofs.TestLaws.{fails-is, eq-is, le-is, lt-is, some-is}
-use Rattle.calls.proofs.KindLaws.{one, kind-is, but-is, other-kind}
+use Rattle.calls.proofs.KindLaws.{kind-is, but-is, other-kind}
 use Rattle.calls.proofs.SelectorWords.{references-is, other-is, gapped-is, empty-is, spent-is, whole-is, password-is, four}
+use Rattle.calls.proofs.PresentedWords.{local-is, opens-is, own-record, handle-record, handle-node, handle-place}
+use Rattle.calls.proofs.PresentedWords.{presented-is, alone-is}
 
 module _ (x : Call) where
-  -- ---- the kinds
-
-  handled-is : Is (uses (x .kind) .handle) (Handled x)
-  handled-is = but-is (λ k. uses k .handle) refl x
-
-  local-is : Is (uses (x .kind) .local) (Named (newCluster ∷ []) x)
-  local-is = kind-is (λ k. uses k .local) _ refl x
-
-  pub opens-is : Is (opens (x .kind)) (Opening x)
-  opens-is = kind-is opens _ refl x
-
-  -- call 1 is about the cluster of its local number on its current node, the others about the one that the handle names
-  abbrev about : Bool → ℕ
-  about u =
-      elim u [ true ↦ x .args .current | false ↦ nodeOf (handleOf x) ] * 8
-      + elim u [ true ↦ x .args .local | false ↦ handleOf x .local ]
-
-  own-record : Named (newCluster ∷ []) x → recordFor x ≡ x .args .current * 8 + x .args .local
-  own-record n = ap about (local-is .into n)
-
-  no-local : Handled x → uses (x .kind) .local ≡ false
-  unfolding Named
-  no-local h = off-is local-is none
-    where
-      none : ¬ Named (newCluster ∷ []) x
-      none (inl e) = h e
-      none (inr e) = e
-
-  handle-record : Handled x → recordFor x ≡ nodeOf (handleOf x) * 8 + handleOf x .local
-  handle-record h = ap about (no-local h)
-
-  handle-node : Handled x → nodeFor x ≡ nodeOf (handleOf x)
-  handle-node h = ap (λ (u : Bool). elim u [ true ↦ x .args .current | false ↦ nodeOf (handleOf x) ]) (no-local h)
-
-  handle-place : (s : Store) → Handled x → placeFor x (tableAt s) ≡ place x s
-  handle-place s h = ap (λ (n : ℕ). placeAt (tableAt s) n (x .args .segment)) (handle-record h)
-
-  -- a test of the handles presented is one of the handle that the call takes, and one of the second that a join takes
-  join-is : Is (uses (x .kind) .other) (Joining x)
-  join-is = kind-is (λ k. uses k .other) _ refl x
-
-  each-handle : (p : Handle → Bool)
-      → anyOf p (presented x) ≡ uses (x .kind) .handle && p (handleOf x) || uses (x .kind) .other && p (otherOf x)
-  each-handle p = go (uses (x .kind) .handle) (uses (x .kind) .other)
-    where
-      go : (u v : Bool) → anyOf p (taken u (handleOf x) ++ taken v (otherOf x)) ≡ u && p (handleOf x) || v && p (otherOf x)
-      go true true = ap (λ (b : Bool). p (handleOf x) || b) (or-false (p (otherOf x)))
-      go true false = refl
-      go false true = or-false (p (otherOf x))
-      go false false = refl
-
-  pub presented-is : (p : Handle → Bool) (P : Handle → Type 0) → (Handled x → Is (p (handleOf x)) (P (handleOf x)))
-      → (Joining x → Is (p (otherOf x)) (P (otherOf x))) → Is (anyOf p (presented x)) (Some P x)
-  presented-is p P h k = same-is (each-handle p) (or-is (then-is handled-is h) (then-is join-is k))
-
-  -- and beside a test of kinds that all take a handle, and no second one
-  alone-is : {a : Bool} (ks : List Kind) → Is a (Named ks x) → one ks newCluster ≡ false → one ks join ≡ false
-      → (p : Handle → Bool) {P : Type 0} → (Named ks x → Is (p (handleOf x)) P)
-      → Is (a && anyOf p (presented x)) (Named ks x × P)
-  unfolding Named
-  alone-is ks h e j p q =
-      then-is h (λ n.
-      same-is
-      (each-handle p
-      ∙ ap₂ (λ (u v : Bool). u && p (handleOf x) || v && p (otherOf x)) (handled-is .into (other-kind ks e x n))
-      (off-is join-is (apart n))
-      ∙ or-false (p (handleOf x))) (q n))
-    where
-      apart : Named ks x → ¬ Joining x
-      apart n (inl k) = other-kind ks j x n k
-      apart n (inr k) = k
-
   -- ---- the rows of the call alone
 
   pub noPlace-is : Is (noPlace x) (NoSuchPlace x)
   unfolding noPlace
   noPlace-is =
       three-is
-      (presented-is noSuchPlace (λ h. (3 < nodeOf h) ⊎ (7 < h .local)) (λ h. place-is (handleOf x)) (λ h. place-is (otherOf x)))
+      (presented-is x noSuchPlace (λ h. (3 < nodeOf h) ⊎ (7 < h .local)) (λ h. place-is (handleOf x)) (λ h. place-is (otherOf x)))
       (and-is (kind-is (λ k. uses k .current) _ refl x) (le-is 4 (x .args .current)))
-      (and-is local-is (le-is 8 (x .args .local)))
+      (and-is (local-is x) (le-is 8 (x .args .local)))
     where
       place-is : (h : Handle) → Is (noSuchPlace h) ((3 < nodeOf h) ⊎ (7 < h .local))
       place-is h = or-is (le-is 4 (nodeOf h)) (le-is 8 (h .local))
@@ -165,7 +95,7 @@ module _ (x : Call) where
   unfolding elsewhere
   elsewhere-is =
       then-is (kind-is (λ k. among (2 ∷ 3 ∷ 4 ∷ 10 ∷ []) k || isLook k) _ refl x) (λ n.
-      same-is (ap (λ (v : ℕ). not (eqb (x .args .current) v)) (handle-node (other-kind _ refl x n)))
+      same-is (ap (λ (v : ℕ). not (eqb (x .args .current) v)) (handle-node x (other-kind _ refl x n)))
       (not-is (eq-is (x .args .current) (nodeOf (handleOf x)))))
 
   pub twins-is : Is (twins x) (Twins x)
@@ -184,13 +114,13 @@ module _ (x : Call) where
     pub gapped-row : Is (gappedHandle x) (Gapped x)
     unfolding gappedHandle
     gapped-row =
-        presented-is (λ h. gapped (widthOf h) (h .selector)) GappedHandle (λ h. gapped-is (handleOf x) (first h))
+        presented-is x (λ h. gapped (widthOf h) (h .selector)) GappedHandle (λ h. gapped-is (handleOf x) (first h))
         (λ h. gapped-is (otherOf x) (second h))
 
     pub notPrimary-is : Is (notPrimary x) (NotPrimary x)
     unfolding notPrimary
     notPrimary-is =
-        alone-is _ (kind-is (among (2 ∷ 3 ∷ 4 ∷ 9 ∷ 10 ∷ [])) _ refl x) refl refl
+        alone-is x _ (kind-is (among (2 ∷ 3 ∷ 4 ∷ 9 ∷ 10 ∷ [])) _ refl x) refl refl
         (λ h. not (allFlat (widthOf h) (h .selector))) (λ n. other-is (handleOf x) (first (other-kind _ refl x n)))
 
     pub whole-row : Is (joinWhole x) (Whole x)
@@ -231,27 +161,27 @@ module _ (x : Call) where
     unfolding inUse
     inUse-is =
         then-is (kind-is (among (1 ∷ [])) _ refl x) (λ n.
-        same-is (ap (λ (k : ℕ). tableAt s k .active) (own-record n)) (holds-is _))
+        same-is (ap (λ (k : ℕ). tableAt s k .active) (own-record x n)) (holds-is _))
 
     pub inactive-is : Is (inactiveCluster x (tableAt s)) (Inactive x s)
     unfolding inactiveCluster
     inactive-is =
-        and-is opens-is
-        (presented-is (λ h. not (tableAt s (recordNamed h) .active)) (λ h. clusterOf h s .active ≡ false)
+        and-is (opens-is x)
+        (presented-is x (λ h. not (tableAt s (recordNamed h) .active)) (λ h. clusterOf h s .active ≡ false)
         (λ h. fails-is (clusterOf (handleOf x) s .active)) (λ h. fails-is (clusterOf (otherOf x) s .active)))
 
     pub oldPassword-is : Is (oldPassword x s) (OldPassword x s)
     unfolding oldPassword
     oldPassword-is =
         then-is (kind-is (among (9 ∷ [])) _ refl x) (λ n.
-        same-is (ap (λ (k : ℕ). isOld (x .args .first) (clusterAt s k)) (handle-record (other-kind _ refl x n)))
+        same-is (ap (λ (k : ℕ). isOld (x .args .first) (clusterAt s k)) (handle-record x (other-kind _ refl x n)))
         (or-is (password-is (x .args .first) (clusterOf (handleOf x) s .read)) (password-is (x .args .first) (clusterOf (handleOf x) s .write))))
 
     pub present-is : Is (segmentPresent x (tableAt s)) (SegmentPresent x s)
     unfolding segmentPresent
     present-is =
         then-is (kind-is (among (3 ∷ [])) _ refl x) (λ n.
-        same-is (ap (λ (p : Place). not (isAbsent p)) (handle-place s (other-kind _ refl x n))) (go (place x s)))
+        same-is (ap (λ (p : Place). not (isAbsent p)) (handle-place x s (other-kind _ refl x n))) (go (place x s)))
       where
         go : (p : Place) → Is (not (isAbsent p)) ((base : ℕ) × (length : ℕ) × (p ≡ Present base length))
         go Absent = record { out = λ e. absurd (false≢true e); into = λ r. ap (λ (p : Place). not (isAbsent p)) (r .2) }
@@ -261,7 +191,7 @@ module _ (x : Call) where
     unfolding segmentAbsent
     absent-is =
         then-is (kind-is (among (4 ∷ 5 ∷ 6 ∷ 10 ∷ [])) _ refl x) (λ n.
-        same-is (ap isAbsent (handle-place s (other-kind _ refl x n))) (go (place x s)))
+        same-is (ap isAbsent (handle-place x s (other-kind _ refl x n))) (go (place x s)))
       where
         go : (p : Place) → Is (isAbsent p) (p ≡ Absent)
         go Absent = record { out = λ e. refl; into = λ r. refl }
@@ -271,14 +201,14 @@ module _ (x : Call) where
     unfolding clusterFrozen noneFrozen
     clusterFrozen-is =
         then-is (kind-is (among (2 ∷ [])) _ refl x) (λ n.
-        same-is (ap (λ (k : ℕ). not (noneFrozen (tableAt s k))) (handle-record (other-kind _ refl x n)))
+        same-is (ap (λ (k : ℕ). not (noneFrozen (tableAt s k))) (handle-record x (other-kind _ refl x n)))
         (some-is 8 (frozenOf (tableOf (clusterOf (handleOf x) s)))))
 
     pub segmentFrozen-is : Is (segmentFrozen x (tableAt s)) (SegmentFrozen x s)
     unfolding segmentFrozen
     segmentFrozen-is =
         then-is (kind-is (among (4 ∷ 6 ∷ [])) _ refl x) (λ n.
-        same-is (ap (λ (k : ℕ). frozenOf (tableAt s k) (x .args .segment)) (handle-record (other-kind _ refl x n)))
+        same-is (ap (λ (k : ℕ). frozenOf (tableAt s k) (x .args .segment)) (handle-record x (other-kind _ refl x n)))
         (holds-is _))
 
     pub short-is : Is (short x (tableAt s)) (Short x s)
@@ -286,7 +216,7 @@ module _ (x : Call) where
     short-is =
         then-is (kind-is (λ k. among (5 ∷ 6 ∷ []) k && not (isLook k)) _ refl x) (λ n.
         same-is
-        (λ j. ltb (length (its n j)) (lengthOf (handle-place s (other-kind _ refl x n) j)))
+        (λ j. ltb (length (its n j)) (lengthOf (handle-place x s (other-kind _ refl x n) j)))
         (go (length (x .args .bytes)) (place x s)))
       where
         its : Named (read ∷ write ∷ []) x → buffer x ≡ x .args .bytes
@@ -313,7 +243,7 @@ module _ (x : Call) where
     fullNode-is size a b c =
         then-is (kind-is (among (3 ∷ [])) _ refl x) (λ n.
         same-is
-        (ap (λ (v : ℕ). eqb (placement (tableAt s) v (x .args .size) .number) 16) (handle-node (other-kind _ refl x n)))
+        (ap (λ (v : ℕ). eqb (placement (tableAt s) v (x .args .size) .number) 16) (handle-node x (other-kind _ refl x n)))
         (placed n))
       where
         whole : x .kind ≢ weaken → (b : Bool) → sound s size ≡ b → SoundInWords s size

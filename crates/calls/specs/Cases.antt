@@ -1,4 +1,4 @@
--- Document 01, "Numbers a call may be turned down with", with document 02's 21 to 24, as computed lists. The conversion
+-- Document 01, "Numbers a call may be turned down with", with document 02's 21 and 22, as computed lists. The conversion
 -- adds its parameter to the first byte, and gives sixteen such bytes.
 --     added                     that conversion
 --     sixteen b                 sixteen bytes b
@@ -6,7 +6,6 @@
 --     primary b, weak b         the primary handle of node 1 and local number 2; one that references segment 5 alone
 --     other b, gap, far, high, idle    handles that reference segment 6 alone, are gapped, name a node above 3, a local
 --                               number above 7, an inactive cluster
---     lower b, upper b, some b  handles that reference segments 0 to 3, 4 to 7 and 4 to 6
 --     spent                     a selector with no flat subselector
 --     nothing                   a selector that references nothing
 --     room, tight               buffers of three bytes and of two
@@ -18,9 +17,6 @@
 --     damaged                   a call of every kind on a slice that lacks a byte: weakening alone does not get 1
 --     refusals                  for each number from 2 on but 22, a call of each kind that its row names; a look and a
 --                               freeze done
---     joins                     call 11: each number that applies to either handle for the first alone and for the second
---                               alone, 24 and 23, and joins done
---     joinsApart                24 for two handles that each open a cluster
 --     frozen                    where the segment is frozen: 22 for each call that its rows name, and all others as ever
 --     toldOn s size cs          the numbers that the calls of the cases cs get on a store
 --     calls cs, named cs        the calls of the cases, and the numbers that they name
@@ -63,16 +59,6 @@ weak b = shown 1 2 (b + 32) (inFirst segments 32)
 -- a handle that references segment 6 alone
 abbrev pub other : ℕ → List ℕ
 other b = shown 1 2 (b + 64) (inFirst segments 64)
-
--- handles that together reference all eight segments, and all but the last
-abbrev pub lower : ℕ → List ℕ
-lower b = shown 1 2 (b + 15) (inFirst segments 15)
-
-abbrev pub upper : ℕ → List ℕ
-upper b = shown 1 2 (b + 240) (inFirst segments 240)
-
-abbrev pub some : ℕ → List ℕ
-some b = shown 1 2 (b + 112) (inFirst segments 112)
 
 abbrev pub gap : List ℕ
 gap = shown 1 2 3 (255 ∷ 254 ∷ 255 ∷ 255 ∷ [])
@@ -259,56 +245,6 @@ refusals =
     ∷ gives 21 (weakeningBy 255 (shown 1 2 3 (240 ∷ 15 ∷ 254 ∷ 253 ∷ [])))
     ∷ []
 
--- what is said of a handle, for the first of the two alone, and for the second alone
-abbrev pub joins : List Case
-joins =
-    gives 2 (joining 1 far (weak 3))
-    ∷ gives 2 (joining 1 (weak 3) far)
-    ∷ gives 2 (joining 1 high (weak 3))
-    ∷ gives 2 (joining 1 (weak 3) high)
-    ∷ gives 3 (joining 0 (weak 3) (other 3))
-    ∷ gives 3 (joining 3 (weak 3) (other 3))
-    ∷ gives 4 (joining 1 gap (weak 3))
-    ∷ gives 4 (joining 1 (weak 3) gap)
-    -- the node alone, the local number alone, both; both clusters inactive
-    ∷ gives 24 (joining 1 (weak 3) (shown 2 2 35 (inFirst segments 32)))
-    ∷ gives 24 (joining 1 (shown 2 2 35 (inFirst segments 32)) (weak 3))
-    ∷ gives 24 (joining 1 (weak 3) (shown 1 1 35 (inFirst segments 32)))
-    ∷ gives 24 (joining 1 (shown 1 1 35 (inFirst segments 32)) (weak 3))
-    ∷ gives 24 (joining 1 (weak 3) (shown 2 1 35 (inFirst segments 32)))
-    ∷ gives 24 (joining 1 idle (shown 1 5 0 (flats segments)))
-    ∷ gives 8 (joining 1 idle idle)
-    ∷ gives 9 (joining 1 (weak 4) (other 3))
-    ∷ gives 9 (joining 1 (weak 3) (other 4))
-    ∷ gives 9 (joining 2 (weak 3) (other 4))
-    ∷ gives 9 (joining 2 (weak 4) (other 3))
-    ∷ gives 9 (joining 1 (weak 4) (weak 4))
-    -- all eight: by two that are not primary, by one that is, by two that are
-    ∷ gives 23 (joining 1 (lower 3) (upper 3))
-    ∷ gives 23 (joining 2 (upper 4) (lower 4))
-    ∷ gives 23 (joining 1 (primary 3) (weak 3))
-    ∷ gives 23 (joining 1 (weak 3) (primary 3))
-    ∷ gives 23 (joining 2 (primary 4) (primary 4))
-    -- all but one, two that overlap, one within the other, one and itself; in either mode, and either way round
-    ∷ gives 0 (joining 1 (lower 3) (some 3))
-    ∷ gives 0 (joining 2 (some 4) (lower 4))
-    ∷ gives 0 (joining 1 (some 3) (upper 3))
-    ∷ gives 0 (joining 1 (weak 3) (upper 3))
-    ∷ gives 0 (joining 2 (upper 4) (weak 4))
-    ∷ gives 0 (joining 1 (weak 3) (weak 3))
-    ∷ gives 0 (joining 1 (weak 3) (other 3))
-    ∷ gives 0 (joining 2 (weak 4) (other 4))
-    ∷ []
-
-abbrev pub joinsApart : List Case
-joinsApart =
-    gives 24 (joining 1 (primary 3) (beside 6))
-    ∷ gives 24 (joining 1 (beside 6) (primary 3))
-    ∷ gives 24 (joining 2 (weak 4) (beside 7))
-    ∷ gives 23 (joining 1 (beside 6) (beside 6))
-    ∷ gives 0 (joining 1 (weak 3) (other 3))
-    ∷ []
-
 abbrev pub frozen : List Case
 frozen =
     gives 22 (deletingCluster 1 (primary 4))
@@ -356,6 +292,4 @@ named cs = map (λ (c : Case). c .number) cs
 pub record NumbersGiven : Type 0 where
   pub damaged : toldOn sample (memory - 1) damaged ≡ named damaged
   pub refusals : toldOn sample memory refusals ≡ named refusals
-  pub joins : toldOn sample memory joins ≡ named joins
-  pub joins-apart : toldOn marked memory joinsApart ≡ named joinsApart
   pub frozen : toldOn marked memory frozen ≡ named frozen

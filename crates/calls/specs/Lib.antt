@@ -14,6 +14,7 @@ pub mod JoinWords
 pub mod EmptyWords
 pub mod Examples
 pub mod Cases
+pub mod JoinCases
 pub mod Orders
 pub mod Bounds
 pub mod Written

@@ -23,7 +23,8 @@ use Rattle.calls.specs.Calls.{writing, weakeningBy, reducing, renewing, 
 use Rattle.calls.specs.Numbers.{at, rows, number}
 use Rattle.calls.specs.Clear.{holding}
 use Rattle.calls.specs.Cases.{added, sixteen, shown, primary, weak, other, gap, far, high, idle, spent, nothing, room, tight}
-use Rattle.calls.specs.Cases.{lower, upper, sample, marked}
+use Rattle.calls.specs.Cases.{sample, marked}
+use Rattle.calls.specs.JoinCases.{lower, upper}
 
 abbrev farGap : List ℕ
 farGap = shown 4 2 3 (255 ∷ 254 ∷ 255 ∷ 255 ∷ [])

@@ -12,7 +12,7 @@ use Rattle.calls.specs.Calls.{Call, handleOf, otherOf}
 use Rattle.calls.specs.Numbers.{valid}
 use Rattle.calls.specs.Words.{Some, Opening}
 use Rattle.calls.proofs.TestLaws.{Is, map-is, then-is, and-is, holds-is, fails-is, eq-is}
-use Rattle.calls.proofs.WordLaws.{opens-is, presented-is}
+use Rattle.calls.proofs.PresentedWords.{opens-is, presented-is}
 use Rattle.isolation.specs.Copies.{names, keyed}
 use Rattle.isolation.specs.Statements.{Key, KeyedInWords}
 

@@ -11,7 +11,8 @@ use Rattle.lines.specs.Lines.{spaced, line, gives, told, callLine, wordLine}
 use Rattle.list.specs.Records.{kindOf}
 use Rattle.list.specs.Runs.{performed}
 use Rattle.list.specs.Texts.{badLength, checked, recordLines, output}
-use Rattle.list.specs.Literals.{FieldsAt, OutputsPrinted}
+use Rattle.list.specs.Literals.{FieldsAt}
+use Rattle.list.specs.Outputs.{OutputsPrinted}
 
 pub fields-at : FieldsAt
 unfolding kindOf

@@ -4,3 +4,4 @@ pub mod Texts
 pub mod Meanings
 pub mod inner
 pub mod Literals
+pub mod Outputs
