@@ -82,7 +82,7 @@ extern "C" {
 #define GELMUSZTA_MODE_WRITE 2
 
 /* The numbers that a call may give, in the order in which they are judged, and which calls may give them, by their codes; a
- * look, which has no code, is named. What is said of the handle holds, for call 11, if it holds of either of its two.
+ * look, which has no code, is named. Call 11 has two handles: what is said here of the handle is asked of each.
  * GELMUSZTA_FROZEN has two places and stands at the first. 18 to 20 belong to lists of calls; no function here gives
  * them. */
 enum gelmuszta_number {
@@ -175,11 +175,11 @@ uint8_t gelmuszta_freeze(uint8_t image[GELMUSZTA_IMAGE], const uint8_t *memory, 
                          size_t segment, const uint8_t handle[GELMUSZTA_HANDLE]);
 
 /* 11, join: of two handles of one cluster, each valid in the mode named, gives one handle that references exactly the
- * segments that either of the two references. It has the form of a reduced handle: it references them with subselector 0
- * alone. The order of the two does not matter, and `handle` and `other` may be the same bytes: a handle that is not primary,
- * joined with itself, gives what call 8 gives for it. Where the two together reference all eight segments, as they do if
- * one of them is primary, the call gets GELMUSZTA_WHOLE; so a handle given is never primary. Two that reference nothing give
- * one that references nothing. */
+ * segments that either of the two references. It has the form of a reduced handle: subselector 0 has their bits, the other
+ * three are 255. The order of the two does not matter, and `handle` and `other` may be the same bytes: a handle that is not
+ * primary, joined with itself, gives what call 8 gives for it. Where the two together reference all eight segments, as they
+ * do if one of them is primary, the call is refused, with GELMUSZTA_WHOLE where nothing before it applies; so a handle given
+ * is never primary. Two that reference nothing give one that references nothing. */
 uint8_t gelmuszta_join(const uint8_t image[GELMUSZTA_IMAGE], const uint8_t *memory, size_t memory_length, size_t mode,
                        const uint8_t handle[GELMUSZTA_HANDLE], const uint8_t other[GELMUSZTA_HANDLE],
                        uint8_t given[GELMUSZTA_HANDLE]);

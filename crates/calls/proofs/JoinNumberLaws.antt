@@ -4,7 +4,7 @@
 use mathlib.Core.Path.{_≡_, refl, sym, ap, _∙_}
 use Prim.Native.Nat.{ℕ, _+_, _*_}
 use native.Mathlib.Omega.{arith}
-use mathlib.Core.Bool.{Bool, true, false, not, _&&_, _||_, cond, or-false, or-self, false≢true}
+use mathlib.Core.Bool.{Bool, true, false, not, _&&_, _||_, or-false, false≢true}
 use mathlib.Core.List.{List, [], _∷_}
 use lib.Dec.{eqb}
 use borrow.Author.Tests.{eqb-true, eq-eqb, not-false}
@@ -20,7 +20,6 @@ use Rattle.store.specs.Sound.{sound}
 use Rattle.calls.specs.Calls.{joining, reducing, recordNamed}
 use Rattle.calls.specs.Numbers.{number, tests}
 use Rattle.calls.specs.Clear.{Clear}
-use Rattle.calls.specs.JoinRows.{row, joinRows}
 use Rattle.calls.proofs.FirstLaws.{Numbered, first-clear}
 use Rattle.calls.proofs.CallLaws.{or-left, or-right}
 
@@ -40,7 +39,10 @@ same-name h k n l =
 
 -- ---- the rows of a join, and of a reduction, on the records of the handles
 
-abbrev noMode : ℕ → Bool
+abbrev row : ℕ → Bool → Row
+row n t = record { number = n; applies = t }
+
+abbrev pub noMode : ℕ → Bool
 noMode m = not (eqb m readMode || eqb m writeMode)
 
 module _ (f : Name → List ℕ → ℕ → List ℕ) (s : Store) (size m : ℕ) where
@@ -51,7 +53,7 @@ module _ (f : Name → List ℕ → ℕ → List ℕ) (s : Store) (size m : ℕ)
   abbrev pub shut : Handle → Bool
   shut h = not (validates (widthOf h) (f (nameOf h)) (primaryOf (clusterAt s (recordNamed h)) m) h)
 
-  abbrev gap : Handle → Bool
+  abbrev pub gap : Handle → Bool
   gap h = gapped (widthOf h) (h .selector)
 
   abbrev pub eachRows : Handle → Handle → List Row
@@ -93,38 +95,6 @@ module _ (f : Name → List ℕ → ℕ → List ℕ) (s : Store) (size m : ℕ)
   -- where the names are one, one record is looked at
   pub record-same : (h k : Handle) → sameName h k ≡ true → recordNamed h ≡ recordNamed k
   record-same h k e = ap (λ (n : Name). n .node * 8 + n .local) (name-same h k e)
-
-  pub number-join : (a b : List ℕ) → number f (joining m a b) s size
-      ≡ firstOf (joinRows f (sound s size) (decoded a) (decoded b) (clusterAt s (recordNamed (decoded a))) m)
-  number-join a b = number-each a b ∙ go (sameName h k) refl
-    where
-      h : Handle
-      h = decoded a
-
-      k : Handle
-      k = decoded b
-
-      upper : Bool → ℕ → ℕ
-      upper n rest =
-          cond (not (sound s size)) 1
-          (cond (noSuchPlace h || noSuchPlace k) 2 (cond (noMode m) 3 (cond (gap h || gap k) 4 (cond (not n) 24 rest))))
-
-      lower : Bool → Bool → ℕ
-      lower i v = cond i 8 (cond v 9 (cond (wholeUnion (widthOf h) (h .selector) (k .selector)) 23 0))
-
-      theirs : ℕ → Bool
-      theirs r = not (validates (widthOf k) (f (nameOf k)) (primaryOf (clusterAt s r) m) k)
-
-      go : (t : Bool) → sameName h k ≡ t
-          → upper (sameName h k) (lower (idle h || idle k) (shut h || shut k))
-          ≡ upper (sameName h k) (lower (idle h) (shut h || theirs (recordNamed h)))
-      go true e =
-          ap (λ (r : ℕ). upper (sameName h k) (lower (idle h || not (clusterAt s r .active)) (shut h || theirs r)))
-          (sym (record-same h k e))
-          ∙ ap (λ (i : Bool). upper (sameName h k) (lower i (shut h || theirs (recordNamed h)))) (or-self (idle h))
-      go false e =
-          ap (λ (n : Bool). upper n (lower (idle h || idle k) (shut h || shut k))) e
-          ∙ sym (ap (λ (n : Bool). upper n (lower (idle h) (shut h || theirs (recordNamed h)))) e)
 
   -- the rows are the same either way round
   pub number-swapped : (a b : List ℕ) → number f (joining m a b) s size ≡ number f (joining m b a) s size

@@ -108,11 +108,15 @@ module _ (f : Name → List ℕ → ℕ → List ℕ) (m : ℕ) (a b : List ℕ)
     pub join-whole : JoinWhole f m a b s size
     join-whole =
         record {
-          covered = λ v t w.
-              number-each f s size m a b ∙ both-left v t ∙ ap (λ (t : Bool). cond t 23 0) (covering-is .into w);
-          primary = λ p e. join-needs .0 e .2 (over p);
+          covered = covered;
+          primary = λ v t p. covered v t (over p);
+          never = λ p e. join-needs .0 e .2 (over p);
         }
       where
+        covered : Both → Together h k → Covering h k → number f (joining m a b) s size ≡ 23
+        covered v t w =
+            number-each f s size m a b ∙ both-left v t ∙ ap (λ (t : Bool). cond t 23 0) (covering-is .into w)
+
         over : Primary h ⊎ Primary k → Covering h k
         over (inl p) = λ i l. inl (all-referenced a la p i l)
         over (inr p) = λ i l. inr (all-referenced b lb p i l)

@@ -70,7 +70,7 @@ full =
     ∷ gives 0 (joining 2 (part 4 126) (part 4 128))
     ∷ gives 0 (joining 2 (part 4 128) (part 4 1))
     ∷ gives 23 (joining 1 (part 3 127) (part 3 128))
-    ∷ gives 23 (joining 2 (part 4 1) (part 4 254))
+    ∷ gives 23 (joining 2 (part 4 5) (part 4 250))
     ∷ gives 0 (validating 1 (corner 3))
     ∷ gives 0 (validating 2 (corner 4))
     ∷ gives 0 (looking 3 7 (corner 3))

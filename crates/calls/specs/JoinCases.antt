@@ -1,7 +1,7 @@
 -- Document 02, §5: the numbers of call 11 as computed lists, on the stores and with the shorthands of the numbers' lists.
 --     lower b, upper b, some b  handles that reference segments 0 to 3, 4 to 7 and 4 to 6
---     joins                     each number that applies to either handle, for the first alone and for the second alone; 24
---                               and 23; and joins done
+--     joins                     each number that applies to either handle, for the first alone and for the second alone, but
+--                               for 8, which is both handles' or neither's; 24 and 23; and joins done
 --     joinsApart                24 for two handles that each open a cluster
 --     JoinsGiven                all these numbers are given, on these stores
 -- Assumes nothing.
@@ -48,6 +48,8 @@ joins =
     ∷ gives 9 (joining 2 (weak 3) (other 4))
     ∷ gives 9 (joining 2 (weak 4) (other 3))
     ∷ gives 9 (joining 1 (weak 4) (weak 4))
+    ∷ gives 9 (joining 1 (primary 4) (weak 3))
+    ∷ gives 9 (joining 2 (upper 4) (lower 3))
     -- all eight: by two that are not primary, by one that is, by two that are
     ∷ gives 23 (joining 1 (lower 3) (upper 3))
     ∷ gives 23 (joining 2 (upper 4) (lower 4))
@@ -63,6 +65,9 @@ joins =
     ∷ gives 0 (joining 1 (weak 3) (weak 3))
     ∷ gives 0 (joining 1 (weak 3) (other 3))
     ∷ gives 0 (joining 2 (weak 4) (other 4))
+    -- nothing, with some and with nothing: its password has gone through 16 and 32
+    ∷ gives 0 (joining 1 (shown 1 2 51 (16 ∷ 32 ∷ 255 ∷ 255 ∷ [])) (weak 3))
+    ∷ gives 0 (joining 1 (shown 1 2 51 (16 ∷ 32 ∷ 255 ∷ 255 ∷ [])) (shown 1 2 51 (16 ∷ 32 ∷ 255 ∷ 255 ∷ [])))
     ∷ []
 
 abbrev pub joinsApart : List Case

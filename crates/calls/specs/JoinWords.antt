@@ -2,15 +2,15 @@
 -- called; validation is asked for by itself. Handles are 23 bytes, conversions give sixteen.
 --     JoinNeeds            it is done just where both handles validate in the mode, they name one cluster, and some segment
 --                          is referenced by neither
---     JoinWhole            where both validate and name one cluster and every segment is referenced by the one or the other,
---                          it gets 23; with a primary handle, first or second, it is never done
+--     JoinWhole            where both validate and name one cluster, it gets 23 if every segment is referenced by the one or
+--                          the other, so if one of the two is primary; with a primary handle it is never done
 --     Together, Covering   the handles name one cluster; every segment is referenced by the one or the other
 --     Primary              all four subselectors are 255
 --     given, made          the bytes that a join on a copy gives, and the handle that they hold
 --     PrimaryFor m c p     p is the primary password of the record c for the mode m
---     JoinedInWords x c    of a join done:
+--     JoinedInWords f m a b c    of a join done:
 --       copy                 it leaves the copy as it was
---       reply                and gives one handle and nothing else
+--       reply, long          and gives one handle, 23 bytes, and nothing else
 --       node, local          the handle given names the cluster of both
 --       union                its subselector 0 has just the bits of the segments that either references
 --       flat                 its others are 255, as after a reduction
@@ -69,7 +69,9 @@ module _ (f : Name → List ℕ → ℕ → List ℕ) where
       pub record JoinWhole : Type 0 where
         pub covered : BothValid → Together (decoded a) (decoded b) → Covering (decoded a) (decoded b)
             → number f (joining m a b) s size ≡ 23
-        pub primary : Primary (decoded a) ⊎ Primary (decoded b) → number f (joining m a b) s size ≢ 0
+        pub primary : BothValid → Together (decoded a) (decoded b) → Primary (decoded a) ⊎ Primary (decoded b)
+            → number f (joining m a b) s size ≡ 23
+        pub never : Primary (decoded a) ⊎ Primary (decoded b) → number f (joining m a b) s size ≢ 0
 
     -- ---- a join done
 

@@ -9,7 +9,6 @@ pub mod ReadWords
 pub mod MadeWords
 pub mod LookWords
 pub mod FreezeWords
-pub mod JoinRows
 pub mod JoinWords
 pub mod EmptyWords
 pub mod Examples

@@ -1,44 +1,93 @@
 -- Joining: the rows of two handles are all that it has, and a call done changes nothing. The record of the first handle's
 -- cluster may be looked up before its place is judged, as for the other calls.
 -- Assumes nothing.
-use mathlib.Core.Path.{_≡_, sym, ap, subst, _∙_}
-use mathlib.Core.Bool.{Bool, not}
+use mathlib.Core.Path.{_≡_, refl, sym, ap, subst, _∙_}
+use mathlib.Core.Bool.{Bool, true, false, not, _||_, cond, or-self}
 use mathlib.Core.List.{List, []}
 use Prim.Native.Nat.{ℕ}
 use native.Mathlib.Omega.{arith}
 use lib.ListN.{length}
 use Rattle.handle.specs.declared.Handle.{Handle}
-use Rattle.handle.specs.Handles.{nameOf, widthOf, noSuchPlace, firstOf, encoded, decoded, joined}
+use Rattle.handle.specs.Selectors.{gapped, wholeUnion}
+use Rattle.handle.specs.Handles.{nameOf, sameName, widthOf, noSuchPlace, firstOf, encoded, decoded, validates, joined}
 use Rattle.handle.specs.Conversion.{product}
 use Rattle.store.specs.declared.Cluster.{Cluster}
 use Rattle.store.specs.declared.Store.{Store}
 use Rattle.store.specs.Records.{clusterAt, primaryOf}
+use Rattle.store.specs.Sound.{sound}
 use Rattle.calls.specs.declared.Answer.{Answer}
-use Rattle.calls.specs.Calls.{joining}
+use Rattle.calls.specs.Calls.{joining, recordNamed}
 use Rattle.calls.specs.Numbers.{number}
 use Rattle.calls.specs.Steps.{zeroHandle, handles, aesStep, left, given}
 use Rattle.calls.specs.Answers.{copyOf, ended, numberAlone, handlesAlone}
-use Rattle.calls.specs.JoinRows.{joinBelow, joinRows}
+use Rattle.refusals.specs.Rows.{badModes, joinBelow, joinRows}
 use Rattle.calls.specs.Clear.{Clear}
 use Rattle.calls.proofs.FirstLaws.{first-clear}
 use Rattle.calls.proofs.CallLaws.{or-left}
 use Rattle.calls.proofs.StepLaws.{step-done}
-use Rattle.calls.proofs.JoinNumberLaws.{number-join}
+use Rattle.calls.proofs.JoinNumberLaws.{idle, number-each, record-same}
 use Rattle.refusals.specs.Given.{Given}
 use Rattle.refusals.proofs.GivenLaws.{judged, shown, found, named, by-given, found-is, either-record}
 use Rattle.cluster.proofs.CoreLaws.{refused-alone}
 
+-- ---- the rows of two handles, where the record is the first one's
+
+module _ (s : Store) (size mode : ℕ) (a b : List ℕ) where
+  abbrev h : Handle
+  h = decoded a
+
+  abbrev k : Handle
+  k = decoded b
+
+  abbrev silent : Handle → Bool
+  silent = idle product s size mode
+
+  -- whether a handle does not validate from a record
+  abbrev closed : Handle → ℕ → Bool
+  closed g r = not (validates (widthOf g) (product (nameOf g)) (primaryOf (clusterAt s r) mode) g)
+
+  abbrev upper : Bool → ℕ → ℕ
+  upper n rest =
+      cond (not (sound s size)) 1
+      (cond (noSuchPlace h || noSuchPlace k) 2
+      (cond (badModes mode) 3
+      (cond (gapped (widthOf h) (h .selector) || gapped (widthOf k) (k .selector)) 4 (cond (not n) 24 rest))))
+
+  abbrev lower : Bool → Bool → ℕ
+  lower i v = cond i 8 (cond v 9 (cond (wholeUnion (widthOf h) (h .selector) (k .selector)) 23 0))
+
+  number-join : number product (joining mode a b) s size
+      ≡ firstOf (joinRows (sound s size) h k (clusterAt s (recordNamed h)) mode)
+  number-join = number-each product s size mode a b ∙ go (sameName h k) refl
+    where
+      go : (t : Bool) → sameName h k ≡ t
+          → upper (sameName h k) (lower (silent h || silent k) (closed h (recordNamed h) || closed k (recordNamed k)))
+          ≡ upper (sameName h k) (lower (silent h) (closed h (recordNamed h) || closed k (recordNamed h)))
+      go true e =
+          ap
+          (λ (r : ℕ).
+          upper (sameName h k) (lower (silent h || not (clusterAt s r .active)) (closed h (recordNamed h) || closed k r)))
+          (sym (record-same product s size mode h k e))
+          ∙ ap (λ (i : Bool). upper (sameName h k) (lower i (closed h (recordNamed h) || closed k (recordNamed h))))
+          (or-self (silent h))
+      go false e =
+          ap
+          (λ (n : Bool). upper n (lower (silent h || silent k) (closed h (recordNamed h) || closed k (recordNamed k)))) e
+          ∙ sym (ap (λ (n : Bool). upper n (lower (silent h) (closed h (recordNamed h) || closed k (recordNamed h)))) e)
+
+-- ---- the core
+
 module _ (s : Store) (m a b : List ℕ) (mode : ℕ) where
   number-found : number product (joining mode a b) s (length m)
-      ≡ firstOf (joinRows product (judged s m a) (shown s m a) (decoded b) (found s m a) mode)
+      ≡ firstOf (joinRows (judged s m a) (shown s m a) (decoded b) (found s m a) mode)
   number-found =
-      number-join product s (length m) mode a b
+      number-join s (length m) mode a b
       ∙ either-record s m a (not (judged s m a)) (noSuchPlace (decoded b))
-      (λ c. firstOf (joinBelow product (shown s m a) (decoded b) c mode))
+      (λ c. firstOf (joinBelow (shown s m a) (decoded b) c mode))
 
   module _ (n : ℕ) where
     abbrev Told : Bool → Handle → Handle → Cluster → Type 0
-    Told sd h k c = n ≡ firstOf (joinRows product sd h k c mode)
+    Told sd h k c = n ≡ firstOf (joinRows sd h k c mode)
 
     told : Told (judged s m a) (shown s m a) (decoded b) (found s m a) → number product (joining mode a b) s (length m) ≡ n
     told en = number-found ∙ sym en
@@ -81,6 +130,6 @@ module _ (s : Store) (m a b : List ℕ) (mode : ℕ) where
               ap (λ (i : ℕ). primaryOf (clusterAt s i) mode)
               (found-is s m a (or-left (noSuchPlace u) (noSuchPlace (decoded b)) (clear .1 .0)))
             where
-              clear : Clear (joinRows product (judged s m a) u (decoded b) (found s m a) mode)
+              clear : Clear (joinRows (judged s m a) u (decoded b) (found s m a) mode)
               clear =
-                  first-clear (joinRows product (judged s m a) u (decoded b) (found s m a) mode) (omega arith) (sym en ∙ z)
+                  first-clear (joinRows (judged s m a) u (decoded b) (found s m a) mode) (omega arith) (sym en ∙ z)

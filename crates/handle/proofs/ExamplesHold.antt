@@ -1,4 +1,5 @@
--- P1 to P9 hold, and the rows beside them: the whole list of answers is computed, whatever the conversion, the passwords and the free mask.
+-- P1 to P9 hold, and the rows beside them: the whole list of answers is computed, whatever the conversion, the passwords and
+-- the free mask.
 -- Assumes nothing.
 use Prim.Native.Nat.{ℕ}
 use mathlib.Core.Path.{_≡_, refl}

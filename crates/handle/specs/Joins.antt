@@ -6,7 +6,7 @@
 --                       validates from p, and references exactly the segments that either references
 --       never-primary   and it is not primary
 --       whole           where the union is all of the width, what would be made is primary in form
---       primary         and all of the width it is, where h is primary
+--       primary         where h is primary, the union is all of the width
 --       swapped         the order of the two does not matter: of one name, they join to the same handle
 --       union           and their union is the same either way
 --       within          where h is not primary and k references no more, the union is not all of the width, and the result

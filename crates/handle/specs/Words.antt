@@ -6,7 +6,7 @@
 --     Four h                h has four subselectors
 --     References h i        bit i is set in all four
 --     Excluded h m i        segment i is referenced and its bit of the mask m is clear
---     Holding S f p h r     r is named as h; its subselector 0 is a byte, the bits of the segments of S, and the others are
+--     Holding f S p h r     r is named as h; its subselector 0 is a byte, the bits of the segments of S, and the others are
 --                           255; its password is f of subselector 0 on p
 --     ReducedInWords        a primary handle comes back unchanged; any other, one that references nothing too, holds the bits
 --                           common to all four of its subselectors

@@ -1,5 +1,6 @@
 // Handles (document 01, "The handle"): what they reference, conversion, validation, weakening; their bytes are in `codec`,
-// reduction and joining in `sets`. A function whose name ends in `_with` is lent the tables of the cipher, which a caller takes once.
+// reduction and joining in `sets`. A function whose name ends in `_with` is lent the tables of the cipher, which a caller
+// takes once.
 mod codec; // codec.rt: a handle from its bytes, and back
 mod sets; // sets.rt: reduction and joining, which put a set of segments in subselector 0
 

@@ -112,6 +112,8 @@ readerJoins =
     ∷ reading 5 both (1 ∷ 2 ∷ 3 ∷ 4 ∷ 5 ∷ [])
     ∷ joining 2 lower upper
     ∷ writing 5 both (6 ∷ 6 ∷ 6 ∷ 6 ∷ [])
+    -- a gapped handle, with the password that its chain from the write password ends with
+    ∷ joining 2 lower (handle 0 2 35 (255 ∷ 1 ∷ 255 ∷ 255 ∷ []))
     ∷ []
 
 abbrev pub joinAnswers : List Reply
@@ -122,6 +124,7 @@ joinAnswers =
     ∷ told 0 none none 0 4 (7 ∷ 7 ∷ 7 ∷ 7 ∷ 5 ∷ [])
     ∷ told 9 none none 0 0 []
     ∷ told 9 none none 0 0 (6 ∷ 6 ∷ 6 ∷ 6 ∷ [])
+    ∷ told 4 none none 0 0 []
     ∷ []
 
 pub record ReadersJoin : Type 0 where

@@ -1,5 +1,6 @@
 -- Condition 3 is not empty, and it bites. The cluster set apart is local number 2 of node 0, with a segment of four bytes.
--- Handles and answers are written out, and no call shown here is left out of condition 3's lists.
+-- Handles and answers are written out. No call of the list is left out of condition 3's lists; those with the right handle
+-- are, and tell the copies apart.
 --     holding r w b       a copy in which its passwords are sixteen r and sixteen w, and its four bytes b
 --     one, two            two such copies that differ in all of these
 --     rightRead, rightLook, rightJoin    a read, a look and a join with the read primary handle of the copy one
@@ -14,7 +15,7 @@
 --                         validate, all refused, and a weakening of one that does; each of them but the join done for a
 --                         cluster of the same node, a freeze for a second one, which is then not deleted; joins refused
 --                         because of the second handle alone, once one that does not validate and once one of the cluster
---                         set apart, and because the union is all eight; and some for a cluster with the same local
+--                         set apart, because of the first alone, again one of that cluster, and because the union is all eight; and some for a cluster with the same local
 --                         number, whose read handle is weakened twice, with looks from its node, one of them with a handle
 --                         of the cluster set apart
 --     last, lastLook      a read and a look with a weakened handle
@@ -124,6 +125,7 @@ module _ (f : Name → List ℕ → ℕ → List ℕ) where
       ∷ reducing 2 (primary 0 3 4)
       ∷ joining 1 (primary 0 3 3) (primary 0 3 5)
       ∷ joining 1 (primary 0 3 3) (primary 0 2 5)
+      ∷ joining 1 (primary 0 2 5) (primary 0 3 3)
       ∷ joining 2 (primary 0 3 4) (primary 0 3 4)
       ∷ renewing 2 (primary 0 3 4) (sixteen 6)
       ∷ validating 2 (primary 0 3 6)
@@ -181,6 +183,7 @@ module _ (f : Name → List ℕ → ℕ → List ℕ) where
       ∷ told 0 (primary 0 3 3) none 8 0 []
       ∷ told 0 (primary 0 3 4) none 0 0 []
       ∷ told 9 none none 0 0 []
+      ∷ told 24 none none 0 0 []
       ∷ told 24 none none 0 0 []
       ∷ told 23 none none 0 0 []
       ∷ told 0 (primary 0 3 6) none 0 0 []

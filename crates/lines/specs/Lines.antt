@@ -1,5 +1,5 @@
--- Document 01, "The list of calls", with code 11 of document 02, §5: the lines that `benchrun` writes. A call is told by its code, its answer a, and the
--- bytes s of the segment that a read gave.
+-- Document 01, "The list of calls", with code 11 of document 02, §5: the lines that `benchrun` writes. A call is told by its
+-- code, its answer a, and the bytes s of the segment that a read gave.
 --     spaced ws              words, a space before each
 --     line w ws              the line of the word w and the words ws: one space between, a line feed after
 --     gives code a s         what a call done gives: its handles (1, 8, 9, 11), its segment's bytes (5), or its handle and

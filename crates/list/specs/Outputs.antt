@@ -5,7 +5,8 @@
 --     frozenList, frozenText    a segment frozen, and again; written to, deleted, and its cluster deleted, all refused; a
 --                               freeze of a segment that is absent; and it is read
 --     joinedList, joinedText    joins of primary handles: with 23 in either mode, with 9 because of the second handle alone
---                               and of the first alone, with 24, with 3, and with 2 because of the second
+--                               and of the first alone, with 24, with 3, and with 2 because of the second; the bytes that the
+--                               first of them does not use are not zero. A join done converts, and is run and not computed
 --     second l b                what stands from byte 32 on in these: the second handle, and bytes that are not used
 --     fullList, fullText        a segment of the highest node, local number and number, as long as the node's memory, read
 --     handled                   a record with the fields in its first eight bytes, the primary handle of node 1 and local
@@ -130,7 +131,7 @@ joinedList =
     ++ replicate 24 0
     ++ replicate 16 0x11
     ++ replicate 16 0x22
-    ++ handled (3 ∷ 11 ∷ 0 ∷ 1 ∷ 0 ∷ 0 ∷ 0 ∷ 0 ∷ []) 0x11 (second 4 0x11)
+    ++ handled (3 ∷ 11 ∷ 9 ∷ 1 ∷ 9 ∷ 99 ∷ 9 ∷ 9 ∷ []) 0x11 (second 4 0x11)
     ++ handled (4 ∷ 11 ∷ 0 ∷ 2 ∷ 0 ∷ 0 ∷ 0 ∷ 0 ∷ []) 0x22 (second 4 0x22)
     ++ handled (5 ∷ 11 ∷ 0 ∷ 1 ∷ 0 ∷ 0 ∷ 0 ∷ 0 ∷ []) 0x11 (second 4 0x22)
     ++ handled (6 ∷ 11 ∷ 0 ∷ 1 ∷ 0 ∷ 0 ∷ 0 ∷ 0 ∷ []) 0x22 (second 4 0x11)

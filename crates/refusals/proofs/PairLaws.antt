@@ -12,8 +12,7 @@ use Rattle.handle.specs.Handles.{nodeOf, nameOf, sameName, widthOf, noSuchPlace
 use Rattle.handle.specs.Conversion.{product}
 use Rattle.store.specs.declared.Cluster.{Cluster}
 use Rattle.store.specs.Records.{primaryOf}
-use Rattle.calls.specs.JoinRows.{joinRows}
-use Rattle.refusals.specs.Rows.{badModes}
+use Rattle.refusals.specs.Rows.{badModes, joinRows}
 
 -- the node as the code has it
 pub place-told : (h : Handle) (v : ℕ) → v ≡ nodeOf h → leb nodes v || leb clusters (h .local) ≡ noSuchPlace h
@@ -21,7 +20,7 @@ place-told h v e = ap (λ (n : ℕ). leb nodes n || leb clusters (h .local)) e
 
 module _ (sound : Bool) (h k : Handle) (c : Cluster) (mode : ℕ) where
   abbrev first : ℕ
-  first = firstOf (joinRows product sound h k c mode)
+  first = firstOf (joinRows sound h k c mode)
 
   abbrev opens : Handle → List ℕ → Bool
   opens h p = validates (widthOf h) (product (nameOf h)) p h

@@ -16,8 +16,7 @@ use store::Cluster;
 ghost use mathlib.Core.Path.{_≡_};
 ghost use Rattle.aes.specs.Tables.{IsTables};
 ghost use Rattle.handle.specs.Handles.{firstOf, noSuchPlace};
-ghost use Rattle.handle.specs.Conversion.{product};
-ghost use Rattle.calls.specs.JoinRows.{joinRows};
+ghost use Rattle.refusals.specs.Rows.{joinRows};
 
 fn no_such_place(handle: Handle) -> bool
     ensures { λ r. ⌜ r ≡ noSuchPlace handle ⌝ }
@@ -37,7 +36,7 @@ pub fn pair_refusal(
     mode: usize,
 ) -> u8
     requires { ⌜ IsTables (now tables) ⌝ }
-    ensures { λ r. ⌜ r ≡ firstOf (joinRows product sound handle other cluster mode) ⌝ }
+    ensures { λ r. ⌜ r ≡ firstOf (joinRows sound handle other cluster mode) ⌝ }
 {
     if !sound {
         return UNSOUND;
