@@ -175,8 +175,8 @@ uint8_t gelmuszta_freeze(uint8_t image[GELMUSZTA_IMAGE], const uint8_t *memory, 
                          size_t segment, const uint8_t handle[GELMUSZTA_HANDLE]);
 
 /* 11, join: of two handles of one cluster, each valid in the mode named, gives one handle that references exactly the
- * segments that either of the two references. It has the form of a reduced handle: subselector 0 has their bits, the other
- * three are 255. The order of the two does not matter, and `handle` and `other` may be the same bytes: a handle that is not
+ * segments that either of the two references. It is made as a reduced handle is: subselector 0 has their bits, the other
+ * three are 255. Either way round the two give the same, and `handle` and `other` may be the same bytes: a handle that is not
  * primary, joined with itself, gives what call 8 gives for it. Where the two together reference all eight segments, as they
  * do if one of them is primary, the call is refused, with GELMUSZTA_WHOLE where nothing before it applies; so a handle given
  * is never primary. Two that reference nothing give one that references nothing. */

@@ -19,8 +19,7 @@
 --       password             its password is subselector 0 by the conversion on the mode's primary password
 --       validates            it validates in the mode
 --     JoinInWords          so it is of every join that is done
---     JoinSwapped          the order of the two does not matter: the same number, the same bytes, the same copy, on every
---                          copy
+--     JoinSwapped          either way round the two give the same number, the same bytes and the same copy, on every copy
 --     JoinItself           a handle that is not primary, joined with itself, gets what its reduction gets, number and bytes
 --     JoinWithin           and so does a join that is done, where the second handle references no more than the first
 -- Assumes nothing.

@@ -7,7 +7,7 @@
 --       never-primary   and it is not primary
 --       whole           where the union is all of the width, what would be made is primary in form
 --       primary         where h is primary, the union is all of the width
---       swapped         the order of the two does not matter: of one name, they join to the same handle
+--       swapped         of one name, they join to the same handle either way round
 --       union           and their union is the same either way
 --       within          where h is not primary and k references no more, the union is not all of the width, and the result
 --                       is the reduction of h
