@@ -37,6 +37,10 @@ same-name h k n l =
     and-both (eqb (nodeOf h) (nodeOf k)) (eqb (h .local) (k .local)) (eq-eqb (nodeOf h) (nodeOf k) n)
     (eq-eqb (h .local) (k .local) l)
 
+-- where the names are one, so is the record
+pub record-same : (h k : Handle) → sameName h k ≡ true → recordNamed h ≡ recordNamed k
+record-same h k e = ap (λ (n : Name). n .node * 8 + n .local) (name-same h k e)
+
 -- ---- the rows of a join, and of a reduction, on the records of the handles
 
 abbrev row : ℕ → Bool → Row
@@ -91,10 +95,6 @@ module _ (f : Name → List ℕ → ℕ → List ℕ) (s : Store) (size m : ℕ)
   pub number-one : (a : List ℕ) → number f (reducing m a) s size ≡ firstOf (oneRows (decoded a))
   unfolding number tests
   number-one a = simp or-false
-
-  -- where the names are one, one record is looked at
-  pub record-same : (h k : Handle) → sameName h k ≡ true → recordNamed h ≡ recordNamed k
-  record-same h k e = ap (λ (n : Name). n .node * 8 + n .local) (name-same h k e)
 
   -- the rows are the same either way round
   pub number-swapped : (a b : List ℕ) → number f (joining m a b) s size ≡ number f (joining m b a) s size

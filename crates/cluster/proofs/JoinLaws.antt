@@ -67,7 +67,7 @@ module _ (s : Store) (size mode : ℕ) (a b : List ℕ) where
           ap
           (λ (r : ℕ).
           upper (sameName h k) (lower (silent h || not (clusterAt s r .active)) (closed h (recordNamed h) || closed k r)))
-          (sym (record-same product s size mode h k e))
+          (sym (record-same h k e))
           ∙ ap (λ (i : Bool). upper (sameName h k) (lower i (closed h (recordNamed h) || closed k (recordNamed h))))
           (or-self (silent h))
       go false e =

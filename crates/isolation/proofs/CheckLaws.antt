@@ -12,7 +12,7 @@ use lib.Dec.{eqb}
 use lib.ListN.{length, drop, length-drop}
 use lib.Seq.{length-take-le}
 use borrow.Author.Tests.{eqb-true, not-false}
-use Rattle.loops.proofs.BelowLaws.{and-left, and-right, test-off}
+use Rattle.loops.proofs.BelowLaws.{test-off}
 use Rattle.sizes.specs.Sizes.{passwordBytes}
 use Rattle.handle.specs.declared.Handle.{Handle}
 use Rattle.handle.specs.Sizes.{passwordAt, handleBytes}
@@ -35,6 +35,7 @@ use Rattle.isolation.specs.Checks.{Refused, RefusalChangesNothing, First
 use Rattle.isolation.specs.Checks.{Judgeable, ValidationJudges, ValidationIsReduction}
 use Rattle.isolation.specs.Checks.{WeakeningIs}
 use Rattle.calls.proofs.StepLaws.{number-validate}
+use Rattle.calls.proofs.JoinNumberLaws.{name-same}
 use Rattle.calls.proofs.WeakenLaws.{step-weaken}
 use Rattle.calls.specs.Clear.{Clear}
 use Rattle.calls.proofs.CallLaws.{or-left, Presents, opened}
@@ -90,13 +91,6 @@ module _ (f : Name → List ℕ → ℕ → List ℕ) where
     all-flat h e =
         not-false (allFlat (widthOf h) (h .selector)) (or-left (not (allFlat (widthOf h) (h .selector))) false e)
 
-    one-name : (h k : Handle) → not (sameName h k) ≡ false → nameOf h ≡ nameOf k
-    one-name h k e =
-        let t = not-false (sameName h k) e in
-        let p = eqb-true (nodeOf h) (nodeOf k) (and-left (eqb (nodeOf h) (nodeOf k)) (eqb (h .local) (k .local)) t) in
-        let q = eqb-true (h .local) (k .local) (and-right (eqb (nodeOf h) (nodeOf k)) (eqb (h .local) (k .local)) t) in
-        λ j. record { node = p j; local = q j }
-
     same-node : (h : Handle) → not (eqb (g .current) (nodeOf h)) ≡ false → g .current ≡ nodeOf h
     same-node h e = eqb-true (g .current) (nodeOf h) (not-false (eqb (g .current) (nodeOf h)) e)
 
@@ -147,7 +141,7 @@ module _ (f : Name → List ℕ → ℕ → List ℕ) where
         record {
           first = opener x s size e refl;
           second = opener-of x s size e (otherOf x) (inr (inl refl)) refl;
-          one = one-name (handleOf x) (otherOf x) (r .joinApart);
+          one = name-same (handleOf x) (otherOf x) (not-false (sameName (handleOf x) (otherOf x)) (r .joinApart));
           part = r .joinWhole;
         }
     held-kind validate e = opener (call validate g) s size e refl
