@@ -28,17 +28,12 @@ use Rattle.calls.specs.Steps.{Outcome, weakenReply}
 use Rattle.calls.specs.EmptyWords.{Emptied, EmptyInWords, SomeGiven, NeverToNothing}
 use Rattle.calls.proofs.FirstLaws.{first-holding}
 use Rattle.calls.proofs.TestLaws.{Is, off-is, or-is, le-is}
-use Rattle.calls.proofs.KindLaws.{other-kind}
+use Rattle.calls.proofs.KindLaws.{only-kind, other-kind}
 use Rattle.calls.proofs.SelectorWords.{row-references, gapped-is, empty-is, four}
 use Rattle.calls.proofs.WordLaws.{empty-row}
 use Rattle.calls.proofs.WeakenLaws.{number-weaken, step-weaken}
 
 -- ---- which calls get 21
-
-named-weaken : (x : Call) → Named (weaken ∷ []) x → x .kind ≡ weaken
-unfolding Named
-named-weaken x (inl k) = k
-named-weaken x (inr k) = absurd k
 
 weaken-handled : (x : Call) → x .kind ≡ weaken → Handled x
 unfolding Named
@@ -93,7 +88,7 @@ module _ (f : Name → List ℕ → ℕ → List ℕ) where
     where
       out : number f x s size ≡ 21 → Emptied x
       out e =
-          let k = named-weaken x (empty-row x t .out (told-empty x s size e) .0) in
+          let k = only-kind weaken x (empty-row x t .out (told-empty x s size e) .0) in
           emptied x s size t k (sym (number-is x s size t k) ∙ e)
 
   -- ---- a weakening done

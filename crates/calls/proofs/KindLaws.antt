@@ -98,6 +98,12 @@ module _ (t : Kind → Bool) where
       none n (inl q) = n q
       none n (inr q) = q
 
+-- a list of one kind names that one
+pub only-kind : (j : Kind) (x : Call) → Named (j ∷ []) x → x .kind ≡ j
+unfolding Named
+only-kind j x (inl e) = e
+only-kind j x (inr e) = absurd e
+
 -- a list that does not name the kind j names other kinds alone
 pub other-kind : (ks : List Kind) {j : Kind} → one ks j ≡ false → (x : Call) → Named ks x → x .kind ≢ j
 other-kind ks e x n q = false≢true (sym e ∙ ap (one ks) (sym q) ∙ one-is ks x .into n)

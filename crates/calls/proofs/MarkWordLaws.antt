@@ -34,7 +34,7 @@ use Rattle.calls.specs.Steps.{within, outcome, step}
 use Rattle.calls.specs.Answers.{copyOf}
 use Rattle.calls.specs.MarkWords.{SameButMarks, OwnMarks, MarksAside}
 use Rattle.calls.proofs.FirstLaws.{Agree, first-agree, _▸_}
-use Rattle.calls.proofs.KindLaws.{kind-is}
+use Rattle.calls.proofs.KindLaws.{kind-is, only-kind}
 
 -- placement goes by the places alone
 abbrev placementBy : (ℕ → ℕ → Place) → ℕ → ℕ → Placed
@@ -78,20 +78,16 @@ module _ (f : Name → List ℕ → ℕ → List ℕ) (x : Call) (a b : Store) (
       (presented x)
 
   frozen-cluster : clusterFrozen x (tableAt a) ≡ clusterFrozen x (tableAt b)
-  unfolding clusterFrozen noneFrozen Named
+  unfolding clusterFrozen noneFrozen
   frozen-cluster = go (among (2 ∷ []) (x .kind)) refl
     where
-      kind : Named (deleteCluster ∷ []) x → x .kind ≡ deleteCluster
-      kind (inl e) = e
-      kind (inr e) = absurd e
-
       go : (t : Bool) → among (2 ∷ []) (x .kind) ≡ t
           → (t && not (every segments (λ i. not (frozenOf (tableAt a (recordFor x)) i))))
           ≡ (t && not (every segments (λ i. not (frozenOf (tableAt b (recordFor x)) i))))
       go true e =
           ap not
           (every-same segments _ _ (λ i h.
-          ap not (own .cluster (kind (kind-is (among (2 ∷ [])) (deleteCluster ∷ []) refl x .out e)) i h)))
+          ap not (own .cluster (only-kind deleteCluster x (kind-is (among (2 ∷ [])) _ refl x .out e)) i h)))
       go false e = refl
 
   twelve : oldPassword x a ≡ oldPassword x b
@@ -99,7 +95,11 @@ module _ (f : Name → List ℕ → ℕ → List ℕ) (x : Call) (a b : Store) (
   twelve =
       λ j.
       among (9 ∷ []) (x .kind)
-      && (samePassword (x .args .first) (same .read (recordFor x) j) || samePassword (x .args .first) (same .write (recordFor x) j))
+      && samePassword (x .args .first)
+      (elim (eqb (x .args .mode) readMode) [
+        | true ↦ same .read (recordFor x) j
+        | false ↦ same .write (recordFor x) j
+      ])
 
   thirteen : segmentPresent x (tableAt a) ≡ segmentPresent x (tableAt b)
   unfolding segmentPresent

@@ -76,7 +76,7 @@ module _ (f : Name → List ℕ → ℕ → List ℕ) (x : Call) (s : Store) (si
       next (notPrimary-is x t) λ r10.
       next (clusterFrozen-is x s) λ r22.
       next (notReferenced-is x t) λ r11.
-      next (oldPassword-is x s) λ r12.
+      next (oldPassword-is x s c) λ r12.
       next (present-is x s) λ r13.
       next (absent-is x s) λ r14.
       next (segmentFrozen-is x s) λ q22.

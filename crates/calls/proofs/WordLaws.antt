@@ -1,6 +1,6 @@
 -- Each row's test is true just where the row's words hold. What the data about the kinds says (`uses`, `needed`, the
 -- record that a call is about) is worked out for the kinds that the row names; the rest is the test's own parts in words.
--- Rows 9 and 16 are told that no words above them hold: there is a mode, a node and a size, and the store is sound.
+-- Rows 9, 12 and 16 are told that no words above them hold: there is a mode, a node and a size, and the store is sound.
 -- Assumes nothing.
 use mathlib.Core.Path.{_≡_, refl, sym, ap, _∙_, subst}
 use mathlib.Core.Logic.{_≢_, _⊎_, inl, inr}
@@ -8,31 +8,31 @@ use Prim.Native.Nat.{ℕ, _<_}
 use native.Mathlib.Decide.{ℕ-discrete}
 use native.Mathlib.Omega.{arith}
 use mathlib.Core.Bool.{Bool, true, false, not, _&&_, _||_, false≢true}
-use mathlib.Core.List.{[], _∷_}
+use mathlib.Core.List.{List, [], _∷_}
 use lib.Dec.{eqb, ltb}
 use lib.ListN.{length}
 use borrow.Author.Tests.{ltb-true, lt-ltb}
 use Rattle.handle.specs.declared.Handle.{Handle}
 use Rattle.handle.specs.Selectors.{allFlat, gapped}
-use Rattle.handle.specs.Handles.{nodeOf, widthOf, noSuchPlace}
+use Rattle.handle.specs.Handles.{nodeOf, widthOf, samePassword, noSuchPlace}
 use Rattle.store.specs.declared.Place.{Place}
 use Rattle.store.specs.declared.Place.the-variants.{Absent, Present}
+use Rattle.store.specs.declared.Cluster.{Cluster}
 use Rattle.store.specs.declared.Store.{Store}
-use Rattle.store.specs.Records.{tableOf, clusterAt, tableAt, frozenOf, noneFrozen, lengthOf}
+use Rattle.store.specs.Records.{tableOf, clusterAt, tableAt, frozenOf, noneFrozen, lengthOf, primaryOf}
 use Rattle.store.specs.Sound.{isAbsent, sound}
 use Rattle.store.specs.Placement.{placement}
 use Rattle.store.specs.SoundWords.{SoundInWords}
 use Rattle.store.specs.PlacementWords.{Room}
 use Rattle.store.proofs.SoundWordLaws.{sound-in-words}
 use Rattle.store.proofs.PlacementWordLaws.{placement-in-words}
-use Rattle.calls.specs.Calls.{Call, newSegment, read, write, weaken}
+use Rattle.calls.specs.Calls.{Call, newSegment, read, write, weaken, newPassword}
 use Rattle.calls.specs.Calls.{among, isLook, uses, handleOf, otherOf}
 use Rattle.calls.specs.Calls.{buffer, recordNamed}
 use Rattle.calls.specs.Numbers.{unsound, noPlace, badMode, badSegment, badSize, badField, gappedHandle, joinApart, elsewhere}
-use Rattle.calls.specs.Numbers.{inUse, twins, inactiveCluster, joinWhole, notPrimary, clusterFrozen, notReferenced, isOld}
-use Rattle.calls.specs.Numbers.{oldPassword}
+use Rattle.calls.specs.Numbers.{inUse, twins, inactiveCluster, joinWhole, notPrimary, clusterFrozen, notReferenced, oldPassword}
 use Rattle.calls.specs.Numbers.{segmentPresent, segmentAbsent, segmentFrozen, short, fullNode, emptyHandle, spentHandle}
-use Rattle.calls.specs.Words.{Named, Handled, Joining, Taken, GappedHandle, clusterOf, place, Unsound, NoSuchPlace, Field}
+use Rattle.calls.specs.Words.{Named, Handled, Joining, Taken, GappedHandle, SamePassword, clusterOf, Current, place, Unsound, NoSuchPlace, Field}
 use Rattle.calls.specs.Words.{Gapped, Apart, Whole, Elsewhere, InUse, Twins, Inactive, NotPrimary, NotReferenced, OldPassword}
 use Rattle.calls.specs.Words.{ClusterFrozen, SegmentPresent, SegmentAbsent, SegmentFrozen, Short, NoRoom, Empty, Spent}
 use Rattle.calls.proofs.TestLaws.{Is, map-is, same-is, not-is, then-is, and-is, or-is, three-is, holds-is}
@@ -41,6 +41,21 @@ use Rattle.calls.proofs.KindLaws.{kind-is, but-is, other-kind}
 use Rattle.calls.proofs.SelectorWords.{references-is, other-is, gapped-is, empty-is, spent-is, whole-is, password-is, four}
 use Rattle.calls.proofs.PresentedWords.{local-is, opens-is, own-record, handle-record, handle-node, handle-place}
 use Rattle.calls.proofs.PresentedWords.{presented-is, alone-is}
+
+-- the password of one mode or of the other
+pub current-is : (m : ℕ) (c : Cluster) (p : List ℕ) → (m ≡ 1) ⊎ (m ≡ 2) → Is (samePassword p (primaryOf c m)) (Current m c p)
+current-is m c p (inl e) =
+    same-is (ap (λ (k : ℕ). samePassword p (primaryOf c k)) e) (map-is (λ w. inl (e, w)) back (password-is p (c .read)))
+  where
+    back : Current m c p → SamePassword p (c .read)
+    back (inl (q, w)) = w
+    back (inr (q, w)) = absurd (omega arith)
+current-is m c p (inr e) =
+    same-is (ap (λ (k : ℕ). samePassword p (primaryOf c k)) e) (map-is (λ w. inr (e, w)) back (password-is p (c .write)))
+  where
+    back : Current m c p → SamePassword p (c .write)
+    back (inl (q, w)) = absurd (omega arith)
+    back (inr (q, w)) = w
 
 module _ (x : Call) where
   -- ---- the rows of the call alone
@@ -150,6 +165,18 @@ module _ (x : Call) where
 
   -- ---- the rows of the store
 
+  -- call 9 names one of the two modes, where row 3 does not apply
+  renewal-mode : ¬ Field x → Named (newPassword ∷ []) x → (x .args .mode ≡ 1) ⊎ (x .args .mode ≡ 2)
+  unfolding Named
+  renewal-mode c n = go n (ℕ-discrete (x .args .mode) 1) (ℕ-discrete (x .args .mode) 2)
+    where
+      go : Named (newPassword ∷ []) x → Dec (x .args .mode ≡ 1) → Dec (x .args .mode ≡ 2)
+          → (x .args .mode ≡ 1) ⊎ (x .args .mode ≡ 2)
+      go n (yes e) q = inl e
+      go n (no p) (yes e) = inr e
+      go (inl n) (no p) (no q) = absurd (c (inl (inr (inl n), p, q)))
+      go (inr n) (no p) (no q) = absurd n
+
   module _ (s : Store) where
     pub unsound-is : (size : ℕ) → Is (unsound size x s) (Unsound size x s)
     unfolding unsound
@@ -170,12 +197,14 @@ module _ (x : Call) where
         (presented-is x (λ h. not (tableAt s (recordNamed h) .active)) (λ h. clusterOf h s .active ≡ false)
         (λ h. fails-is (clusterOf (handleOf x) s .active)) (λ h. fails-is (clusterOf (otherOf x) s .active)))
 
-    pub oldPassword-is : Is (oldPassword x s) (OldPassword x s)
+    pub oldPassword-is : ¬ Field x → Is (oldPassword x s) (OldPassword x s)
     unfolding oldPassword
-    oldPassword-is =
+    oldPassword-is c =
         then-is (kind-is (among (9 ∷ [])) _ refl x) (λ n.
-        same-is (ap (λ (k : ℕ). isOld (x .args .first) (clusterAt s k)) (handle-record x (other-kind _ refl x n)))
-        (or-is (password-is (x .args .first) (clusterOf (handleOf x) s .read)) (password-is (x .args .first) (clusterOf (handleOf x) s .write))))
+        same-is
+        (ap (λ (k : ℕ). samePassword (x .args .first) (primaryOf (clusterAt s k) (x .args .mode)))
+        (handle-record x (other-kind _ refl x n)))
+        (current-is (x .args .mode) (clusterOf (handleOf x) s) (x .args .first) (renewal-mode c n)))
 
     pub present-is : Is (segmentPresent x (tableAt s)) (SegmentPresent x s)
     unfolding segmentPresent

@@ -222,10 +222,11 @@ refusals =
     ∷ gives 11 (reading 5 (other 3) room)
     ∷ gives 11 (writing 5 (other 4) room)
     ∷ gives 11 (looking 1 5 (other 3))
+    -- the mode's own password; that of the other mode is as good as any
     ∷ gives 12 (renewing 1 (primary 3) (sixteen 3))
-    ∷ gives 12 (renewing 1 (primary 3) (sixteen 4))
-    ∷ gives 12 (renewing 2 (primary 4) (sixteen 3))
     ∷ gives 12 (renewing 2 (primary 4) (sixteen 4))
+    ∷ gives 0 (renewing 1 (primary 3) (sixteen 4))
+    ∷ gives 0 (renewing 2 (primary 4) (sixteen 3))
     ∷ gives 13 (makingSegment 1 5 2 (primary 4))
     ∷ gives 14 (deletingSegment 1 6 (primary 4))
     ∷ gives 14 (reading 6 (primary 3) room)

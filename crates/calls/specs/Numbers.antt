@@ -16,7 +16,7 @@
 --     notPrimary           10, for 2, 3, 4, 9, 10: some subselector is not flat
 --     clusterFrozen        22, for 2: some segment of the cluster is frozen
 --     notReferenced        11, for 5, 6: the handle does not reference the segment
---     oldPassword          12, for 9: the new password isOld: it equals either current primary password
+--     oldPassword          12, for 9: the new password equals the current one of the mode named
 --     segmentPresent       13, for 3: the segment is present
 --     segmentAbsent        14, for 4, 5, 6, 10: the segment is absent
 --     segmentFrozen        22, for 4, 6: the segment is frozen
@@ -43,7 +43,6 @@ use Rattle.sizes.specs.Sizes.{nodes, clusters, segments, nodeMemory}
 use Rattle.handle.specs.declared.Handle.{Handle}
 use Rattle.handle.specs.Selectors.{references, allFlat, gapped, keepsNone, spent, wholeUnion}
 use Rattle.handle.specs.Handles.{Name, nameOf, sameName, widthOf, samePassword, noSuchPlace, Row, firstOf, validates}
-use Rattle.store.specs.declared.Cluster.{Cluster}
 use Rattle.store.specs.declared.Store.{Store}
 use Rattle.store.specs.Records.{Tables, clusterAt, tableAt, noneFrozen, readMode, writeMode, lengthOf, primaryOf}
 use Rattle.store.specs.Sound.{isAbsent, sound}
@@ -137,11 +136,10 @@ fullNode x ts = among (3 ∷ []) (x .kind) && eqb (placement ts (nodeFor x) (x .
 unfoldable pub unsound : ℕ → Call → Store → Bool
 unsound size x s = not (among (7 ∷ []) (x .kind)) && not (sound s size)
 
-abbrev pub isOld : List ℕ → Cluster → Bool
-isOld p c = samePassword p (c .read) || samePassword p (c .write)
-
 unfoldable pub oldPassword : Call → Store → Bool
-oldPassword x s = among (9 ∷ []) (x .kind) && isOld (x .args .first) (clusterAt s (recordFor x))
+oldPassword x s =
+    among (9 ∷ []) (x .kind)
+    && samePassword (x .args .first) (primaryOf (clusterAt s (recordFor x)) (x .args .mode))
 
 -- ---- the table
 

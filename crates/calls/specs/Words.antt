@@ -13,6 +13,7 @@
 --     SamePassword p q     the sixteen bytes of p are those of q
 --     cluster s v l        the record of the cluster of node v and local number l
 --     clusterOf h s        that of the cluster which a handle names
+--     Current m c p        p is the password of the record c for the mode m
 --     place x s            the place of the segment which the call names, in the cluster of its handle
 --     Frozen x s i         segment i of that cluster is frozen
 --     Converted g p s q    the step of validation by the subselector s: a flat one is skipped and q is p; by another p goes
@@ -100,6 +101,9 @@ cluster s v l = clusterAt s (v * 8 + l)
 
 abbrev pub clusterOf : Handle → Store → Cluster
 clusterOf h s = cluster s (nodeOf h) (h .local)
+
+abbrev pub Current : ℕ → Cluster → List ℕ → Type 0
+Current m c p = ((m ≡ 1) × SamePassword p (c .read)) ⊎ ((m ≡ 2) × SamePassword p (c .write))
 
 abbrev pub place : Call → Store → Place
 place x s = placeOf (tableOf (clusterOf (handleOf x) s)) (x .args .segment)
@@ -209,12 +213,9 @@ ClusterFrozen x s = Named (deleteCluster ∷ []) x × ((i : ℕ) × (i < 8) × F
 abbrev pub NotReferenced : Call → Type 0
 NotReferenced x = Named (read ∷ write ∷ look ∷ []) x × ¬ References (handleOf x) (x .args .segment)
 
--- 12, for 9: the new password equals either current primary password
+-- 12, for 9: the new password equals the current one of the mode named
 abbrev pub OldPassword : Call → Store → Type 0
-OldPassword x s =
-    Named (newPassword ∷ []) x
-    × (SamePassword (x .args .first) (clusterOf (handleOf x) s .read)
-    ⊎ SamePassword (x .args .first) (clusterOf (handleOf x) s .write))
+OldPassword x s = Named (newPassword ∷ []) x × Current (x .args .mode) (clusterOf (handleOf x) s) (x .args .first)
 
 -- 13, for 3: the segment is present
 abbrev pub SegmentPresent : Call → Store → Type 0

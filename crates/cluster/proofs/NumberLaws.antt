@@ -11,15 +11,15 @@ use Rattle.sizes.specs.Sizes.{nodes, segments}
 use Rattle.numbers.specs.Numbers.{noRoomNumber}
 use Rattle.handle.specs.declared.Handle.{Handle}
 use Rattle.handle.specs.Selectors.{allFlat}
-use Rattle.handle.specs.Handles.{nodeOf, widthOf, Row, firstOf}
+use Rattle.handle.specs.Handles.{nodeOf, widthOf, samePassword, Row, firstOf}
 use Rattle.handle.specs.Conversion.{product}
 use Rattle.store.specs.declared.Cluster.{Cluster}
 use Rattle.store.specs.declared.Store.{Store}
-use Rattle.store.specs.Records.{tableOf, tableAt, placeOf, frozenOf, noneFrozen, readMode, writeMode}
+use Rattle.store.specs.Records.{tableOf, tableAt, placeOf, frozenOf, noneFrozen, readMode, writeMode, primaryOf}
 use Rattle.store.specs.Sound.{isAbsent}
 use Rattle.store.specs.Placement.{placement}
 use Rattle.calls.specs.Calls.{deletingCluster, makingSegment, deletingSegment, reading, writing, reducing, renewing, freezing, looking}
-use Rattle.calls.specs.Numbers.{isOld, number, tests}
+use Rattle.calls.specs.Numbers.{number, tests}
 use Rattle.refusals.specs.Rows.{badModes, row, openRows, sharedRows, ownerRows}
 use Rattle.refusals.proofs.GivenLaws.{judged, shown, found, named, either-record}
 use Rattle.cluster.specs.inner.Access.{reachRows, accessRows}
@@ -106,15 +106,15 @@ module _ (s : Store) (m b : List ℕ) where
   pub number-reduce : (mode : ℕ) → number product (reducing mode b) s (length m) ≡ firstOf (sharedRows sd h c false (badModes mode) false mode)
   number-reduce mode = on-reduce mode ∙ either-record s m b (not sd) (false) (opened (badModes mode) mode (λ e. []))
 
-  abbrev newRows : List ℕ → Cluster → List Row
-  newRows p e = row 10 (not (allFlat (widthOf h) (h .selector))) ∷ row 12 (isOld p e) ∷ []
+  abbrev newRows : ℕ → List ℕ → Cluster → List Row
+  newRows mode p e = row 10 (not (allFlat (widthOf h) (h .selector))) ∷ row 12 (samePassword p (primaryOf e mode)) ∷ []
 
-  on-new-password : (mode : ℕ) (p : List ℕ) → number product (renewing mode b p) s (length m) ≡ firstOf (sharedRows sd h d false (badModes mode) false mode ++ newRows p d)
+  on-new-password : (mode : ℕ) (p : List ℕ) → number product (renewing mode b p) s (length m) ≡ firstOf (sharedRows sd h d false (badModes mode) false mode ++ newRows mode p d)
   unfolding number tests
   on-new-password mode p = simp or-false
 
-  pub number-new-password : (mode : ℕ) (p : List ℕ) → number product (renewing mode b p) s (length m) ≡ firstOf (sharedRows sd h c false (badModes mode) false mode ++ newRows p c)
-  number-new-password mode p = on-new-password mode p ∙ either-record s m b (not sd) (false) (opened (badModes mode) mode (newRows p))
+  pub number-new-password : (mode : ℕ) (p : List ℕ) → number product (renewing mode b p) s (length m) ≡ firstOf (sharedRows sd h c false (badModes mode) false mode ++ newRows mode p c)
+  number-new-password mode p = on-new-password mode p ∙ either-record s m b (not sd) (false) (opened (badModes mode) mode (newRows mode p))
 
   -- whether row 22 applies is told of the record
   abbrev moved : ℕ → (Cluster → Bool) → List ℕ → Cluster → List Row

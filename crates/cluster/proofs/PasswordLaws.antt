@@ -1,7 +1,7 @@
 -- Call 9: refused by the shared rows, refused with 10 or 12, or the password replaced and the new primary handle given.
 -- Assumes nothing.
 use mathlib.Core.Path.{_≡_, refl, sym, ap, ap₂, _∙_}
-use mathlib.Core.Bool.{Bool, true, false, not, _||_, cond}
+use mathlib.Core.Bool.{Bool, true, false, not, cond}
 use mathlib.Core.List.{List, [], _∷_}
 use Prim.Native.Nat.{ℕ}
 use lib.ListN.{length}
@@ -12,7 +12,7 @@ use Rattle.handle.specs.Conversion.{product}
 use Rattle.handle.specs.Opens.{primaryBytes}
 use Rattle.store.specs.declared.Cluster.{Cluster}
 use Rattle.store.specs.declared.Store.{Store}
-use Rattle.store.specs.Records.{clusterAt, putRecord, withPassword}
+use Rattle.store.specs.Records.{clusterAt, putRecord, primaryOf, withPassword}
 use Rattle.calls.specs.declared.Answer.{Answer}
 use Rattle.calls.specs.declared.RecordLeft.{RecordLeft}
 use Rattle.calls.specs.Calls.{Call, recordNamed, renewing}
@@ -44,31 +44,30 @@ module _ (s : Store) (m b : List ℕ) (mode : ℕ) (pw : List ℕ) (bad : Bool) 
   abbrev e : Cluster
   e = found s m b
 
+  -- the new password is the current one of the mode, in the record c
+  abbrev old : Cluster → Bool
+  old c = samePassword pw (primaryOf c mode)
+
   -- rows 10 and 12, from their tests
-  abbrev own : Bool → Bool → Bool → ℕ
-  own p u v = cond (not p) 10 (cond (u || v) 12 0)
+  abbrev own : Bool → Bool → ℕ
+  own p u = cond (not p) 10 (cond u 12 0)
 
   module _ (en : Told (judged s m b) k e) where
-    told : number product x s (length m)
-        ≡ after n (own (allFlat (widthOf k) (k .selector)) (samePassword pw (e .read)) (samePassword pw (e .write)))
+    told : number product x s (length m) ≡ after n (own (allFlat (widthOf k) (k .selector)) (old e))
     told =
         number-new-password s m b mode pw
         ∙ first-append (sharedRows (judged s m b) k e false (badModes mode) false mode)
-        (row 10 (not (allFlat (widthOf k) (k .selector))) ∷ row 12 (samePassword pw (e .read) || samePassword pw (e .write)) ∷ [])
+        (row 10 (not (allFlat (widthOf k) (k .selector))) ∷ row 12 (old e) ∷ [])
         (shared-numbered (judged s m b) k e false (badModes mode) false mode)
-        ∙ ap
-        (λ (i : ℕ). after i (own (allFlat (widthOf k) (k .selector)) (samePassword pw (e .read)) (samePassword pw (e .write))))
+        ∙ ap (λ (i : ℕ). after i (own (allFlat (widthOf k) (k .selector)) (old e)))
         (ap (λ (t : Bool). firstOf (sharedRows (judged s m b) k e false t false mode)) (sym eb) ∙ sym en)
 
     module _ (z : n ≡ 0) where
       pub there : recordFound k ≡ recordNamed k
       there = found-is s m b (shared-passed (judged s m b) k e false bad false mode (sym en ∙ z) .place)
 
-      last : (p u v : Bool) → p ≡ allFlat (widthOf k) (k .selector) → u ≡ samePassword pw (e .read)
-          → v ≡ samePassword pw (e .write) → number product x s (length m) ≡ own p u v
-      last p u v ep eu ev =
-          told
-          ∙ (λ j. after (z j) (own (sym ep j) (sym eu j) (sym ev j)))
+      last : (p u : Bool) → p ≡ allFlat (widthOf k) (k .selector) → u ≡ old e → number product x s (length m) ≡ own p u
+      last p u ep eu = told ∙ (λ j. after (z j) (own (sym ep j) (sym eu j)))
 
   abbrev Refuses : Bool → Handle → Cluster → Type 0
   Refuses sd h c = Told sd h c → (n ≡ 0 → ⊥) → (r : RecordLeft) → r ≡ recordAlone c n → Ends h r
@@ -78,22 +77,16 @@ module _ (s : Store) (m b : List ℕ) (mode : ℕ) (pw : List ℕ) (bad : Bool) 
       Told sd h c → n ≡ 0 → (p : Bool) → p ≡ allFlat (widthOf h) (h .selector) → not p ≡ true → (r : RecordLeft)
       → r ≡ recordAlone c 10 → Ends h r
 
-  abbrev OldRead : Bool → Handle → Cluster → Type 0
-  OldRead sd h c =
+  abbrev Old : Bool → Handle → Cluster → Type 0
+  Old sd h c =
       Told sd h c → n ≡ 0 → (p : Bool) → p ≡ allFlat (widthOf h) (h .selector) → not p ≡ false
-      → (u : Bool) → u ≡ samePassword pw (c .read) → u ≡ true → (r : RecordLeft) → r ≡ recordAlone c 12 → Ends h r
-
-  abbrev OldWrite : Bool → Handle → Cluster → Type 0
-  OldWrite sd h c =
-      Told sd h c → n ≡ 0 → (p : Bool) → p ≡ allFlat (widthOf h) (h .selector) → not p ≡ false
-      → (u : Bool) → u ≡ samePassword pw (c .read) → u ≡ false
-      → (v : Bool) → v ≡ samePassword pw (c .write) → v ≡ true → (r : RecordLeft) → r ≡ recordAlone c 12 → Ends h r
+      → (i : List ℕ) → i ≡ primaryOf c mode → (u : Bool) → u ≡ samePassword pw i → u ≡ true
+      → (r : RecordLeft) → r ≡ recordAlone c 12 → Ends h r
 
   abbrev Replaces : Bool → Handle → Cluster → Type 0
   Replaces sd h c =
       Told sd h c → n ≡ 0 → (p : Bool) → p ≡ allFlat (widthOf h) (h .selector) → not p ≡ false
-      → (u : Bool) → u ≡ samePassword pw (c .read) → u ≡ false
-      → (v : Bool) → v ≡ samePassword pw (c .write) → v ≡ false
+      → (l : List ℕ) → l ≡ primaryOf c mode → (u : Bool) → u ≡ samePassword pw l → u ≡ false
       → (i : List ℕ) → i ≡ primaryBytes (h .node) (h .local) pw → (d : Cluster) → d ≡ withPassword c mode pw
       → (a : Answer) → a ≡ handlesAlone i zeroHandle → Ends h (record { cluster = d; answer = a })
 
@@ -107,32 +100,22 @@ module _ (s : Store) (m b : List ℕ) (mode : ℕ) (pw : List ℕ) (bad : Bool) 
     new-password-primary =
         by-given s m b Weak sd h c g
         (λ en z p ep t r er.
-        refused-record x s m 10 (above 9)
-        (last en z p _ _ ep refl refl
-        ∙ ap (λ (q : Bool). cond q 10 (cond (samePassword pw (e .read) || samePassword pw (e .write)) 12 0)) t)
+        refused-record x s m 10 (above 9) (last en z p _ ep refl ∙ ap (λ (q : Bool). cond q 10 (cond (old e) 12 0)) t)
         refl (recordFound k) r er)
 
-    pub new-password-read : OldRead sd h c
-    new-password-read =
-        by-given s m b OldRead sd h c g
-        (λ en z p ep tp u eu t r er.
+    pub new-password-old : Old sd h c
+    new-password-old =
+        by-given s m b Old sd h c g
+        (λ en z p ep tp i ei u eu t r er.
         refused-record x s m 12 (above 11)
-        (last en z p u _ ep eu refl
-        ∙ ap₂ (λ (q w : Bool). cond q 10 (cond (w || samePassword pw (e .write)) 12 0)) tp t)
+        (last en z p u ep (eu ∙ ap (samePassword pw) ei) ∙ (λ j. cond (tp j) 10 (cond (t j) 12 0)))
         refl (recordFound k) r er)
-
-    pub new-password-write : OldWrite sd h c
-    new-password-write =
-        by-given s m b OldWrite sd h c g
-        (λ en z p ep tp u eu tu v ev t r er.
-        refused-record x s m 12 (above 11)
-        (last en z p u v ep eu ev ∙ (λ j. cond (tp j) 10 (cond (tu j || t j) 12 0))) refl (recordFound k) r er)
 
     pub new-password-done : Replaces sd h c
     unfolding left given passwordReplaced
     new-password-done =
         by-given s m b Replaces sd h c g
-        (λ en z p ep tp u eu tu v ev t i ei d ed a aa.
+        (λ en z p ep tp l el u eu t i ei d ed a aa.
         ap₂ (λ (f : Cluster) (y : Answer). ended (put k f s) m y []) ed (aa ∙ ap (λ (y : List ℕ). handlesAlone y zeroHandle) ei)
         ∙ ap
         (λ (o : ℕ).
@@ -141,4 +124,5 @@ module _ (s : Store) (m b : List ℕ) (mode : ℕ) (pw : List ℕ) (bad : Bool) 
           reply = handles (primaryBytes (k .node) (k .local) pw) zeroHandle 0;
         })
         (there en z)
-        ∙ sym (step-done product x (copyOf s m) (last en z p u v ep eu ev ∙ (λ j. cond (tp j) 10 (cond (tu j || t j) 12 0)))))
+        ∙ sym (step-done product x (copyOf s m)
+        (last en z p u ep (eu ∙ ap (samePassword pw) el) ∙ (λ j. cond (tp j) 10 (cond (t j) 12 0)))))

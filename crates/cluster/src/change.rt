@@ -74,7 +74,8 @@ pub fn delete_segment(
     record_alone(store::with_place(cluster, segment, Place::Absent), 0)
 }
 
-// Call 9: the primary password of the mode named becomes the new one; the new primary handle.
+// Call 9: the primary password of the mode named becomes the new one; the new primary handle. The other mode's password
+// is not looked at.
 pub fn new_password(
     sound: bool,
     handle: Handle,
@@ -94,12 +95,8 @@ pub fn new_password(
     if !handle.primary() {
         return record_alone(cluster, NOT_PRIMARY);
     }
-    let read = cluster.read;
-    let write = cluster.write;
-    if handle::same(password, read) {
-        return record_alone(cluster, OLD_PASSWORD);
-    }
-    if handle::same(password, write) {
+    let current = store::primary(cluster, mode);
+    if handle::same(password, current) {
         return record_alone(cluster, OLD_PASSWORD);
     }
     let given = handle::primary_bytes(handle.node, handle.local, password);
