@@ -2,10 +2,11 @@
 -- that those above it did not apply. Where the number is 0, none applies; any other number is that of a row which applies.
 -- Assumes nothing.
 use mathlib.Core.Path.{_≡_, refl, ap, _∙_}
+use mathlib.Core.Logic.{_≢_}
 use Prim.Native.Nat.{ℕ, _<_}
 use native.Mathlib.Omega.{arith}
 use mathlib.Core.Bool.{Bool, true, false, _&&_, _||_, cond, and-false}
-use mathlib.Core.List.{List, [], _∷_}
+use mathlib.Core.List.{List, [], _∷_, _++_}
 use lib.Dec.{eqb}
 use borrow.Author.Tests.{eq-eqb}
 use Rattle.handle.specs.Handles.{Row, firstOf}
@@ -44,6 +45,16 @@ first-holding (r ∷ rs) n h e = go (r .applies) (first-holding rs n h) e
 abbrev pub Numbered : List Row → Type 0
 Numbered [] = Unit {0}
 Numbered (r ∷ rs) = (0 < r .number) × Numbered rs
+
+-- a row that applies hides those below it
+pub first-above : (rs qs : List Row) → firstOf rs ≢ 0 → firstOf (rs ++ qs) ≡ firstOf rs
+first-above [] qs t = absurd (t refl)
+first-above (r ∷ rs) qs t = go (r .applies) t (first-above rs qs)
+  where
+    go : (b : Bool) → cond b (r .number) (firstOf rs) ≢ 0 → (firstOf rs ≢ 0 → firstOf (rs ++ qs) ≡ firstOf rs)
+        → cond b (r .number) (firstOf (rs ++ qs)) ≡ cond b (r .number) (firstOf rs)
+    go true t ih = refl
+    go false t ih = ih t
 
 -- what holds of a row, and what holds of the rows below it
 infixr 2 _▸_

@@ -25,6 +25,7 @@ pub mod FreezeNumberLaws
 pub mod JoinNumberLaws
 pub mod JoinLaws
 pub mod JoinWordLaws
+pub mod RenewWordLaws
 pub mod MarkWordLaws
 pub mod FreezeAgainLaws
 pub mod WrittenLaws

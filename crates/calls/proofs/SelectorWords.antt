@@ -78,6 +78,9 @@ bit-is i s = eq-is _ 1
 pub row-references : (i : ℕ) (ss : List ℕ) → Is (references ss i) ((k : ℕ) → k < length ss → Bit i (getD ss k 0))
 row-references i = all-is (λ ss. references ss i) (has i) (Bit i) (bit-is i) refl (λ s ss. refl)
 
+row-flat : (ss : List ℕ) → Is (allFlat segments ss) ((k : ℕ) → k < length ss → getD ss k 0 ≡ 255)
+row-flat = all-is (allFlat segments) (flat segments) (λ s. s ≡ 255) flat-is refl (λ s ss. refl)
+
 row-unflat : (ss : List ℕ) → Is (not (anyFlat segments ss)) ((k : ℕ) → k < length ss → getD ss k 0 ≢ 255)
 row-unflat =
     all-is (λ ss. not (anyFlat segments ss)) (λ s. not (flat segments s)) (λ s. s ≢ 255) (λ s. not-is (flat-is s)) refl
@@ -171,6 +174,9 @@ module _ (h : Handle) (e : length (h .selector) ≡ 4) where
   pub references-is : (i : ℕ) → Is (references ss i) (References h i)
   references-is i =
       subst (λ (n : ℕ). Is (references ss i) ((k : ℕ) → k < n → Bit i (subselector h k))) e (row-references i ss)
+
+  pub primary-is : Is (allFlat segments ss) ((k : ℕ) → k < 4 → subselector h k ≡ 255)
+  primary-is = subst (λ (n : ℕ). Is (allFlat segments ss) ((k : ℕ) → k < n → subselector h k ≡ 255)) e (row-flat ss)
 
   pub other-is : Is (not (allFlat segments ss)) ((k : ℕ) × (k < 4) × (subselector h k ≢ 255))
   other-is =

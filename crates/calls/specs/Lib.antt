@@ -10,6 +10,7 @@ pub mod MadeWords
 pub mod LookWords
 pub mod FreezeWords
 pub mod JoinWords
+pub mod RenewWords
 pub mod EmptyWords
 pub mod Examples
 pub mod Cases

@@ -132,6 +132,7 @@ orders =
     ∷ over 9 14 (looking 1 6 (primary 4))
     -- 10 above 12, 13 and 14
     ∷ over 10 12 (renewing 1 (weak 3) (sixteen 3))
+    ∷ over 10 12 (renewing 2 (weak 4) (sixteen 4))
     ∷ over 10 13 (makingSegment 1 5 2 (weak 4))
     ∷ over 10 14 (deletingSegment 1 6 (weak 4))
     ∷ over 10 14 (freezing 1 6 (weak 4))

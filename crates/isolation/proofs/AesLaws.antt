@@ -13,6 +13,7 @@ use Rattle.isolation.specs.Witness.{one, two, tries, Concluded, Bites}
 use Rattle.isolation.specs.ReaderWitness.{Unharmed}
 use Rattle.isolation.specs.Frozen.{FrozenStays, FixedFromThenOn}
 use Rattle.isolation.specs.FrozenWitness.{Standing}
+use Rattle.isolation.specs.Renewals.{OtherUntold, GuessesUntold, BothOpened}
 use Rattle.isolation.specs.Checks.{ValidationJudges}
 use Rattle.isolation.proofs.KeptLaws.{sound-kept}
 use Rattle.isolation.proofs.TwoCopies.{two-copies}
@@ -22,6 +23,8 @@ use Rattle.isolation.proofs.WitnessLaws.{agreed, concluded, bites}
 use Rattle.isolation.proofs.ReaderWitnessLaws.{unharmed}
 use Rattle.isolation.proofs.FrozenLaws.{frozen-stays, fixed-from-then-on}
 use Rattle.isolation.proofs.FrozenWitnessLaws.{standing}
+use Rattle.isolation.proofs.RenewalLaws.{other-untold, guesses-untold}
+use Rattle.isolation.proofs.BothLaws.{both-opened}
 
 pub aes-sixteen : SixteenBytes product
 aes-sixteen n = length-conversion
@@ -40,6 +43,15 @@ aes-frozen-stays = frozen-stays product
 
 pub aes-fixed-from-then-on : FixedFromThenOn product
 aes-fixed-from-then-on = fixed-from-then-on product
+
+pub aes-other-untold : OtherUntold product
+aes-other-untold = other-untold product
+
+pub aes-guesses-untold : GuessesUntold product
+aes-guesses-untold = guesses-untold product
+
+pub aes-both-opened : BothOpened product
+aes-both-opened = both-opened product
 
 pub aes-validation-judges : ValidationJudges product
 aes-validation-judges = validation-judges product aes-sixteen

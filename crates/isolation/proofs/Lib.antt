@@ -15,6 +15,9 @@ pub mod WitnessLaws
 pub mod ReaderWitnessLaws
 pub mod FrozenWitnessLaws
 pub mod GivenLaws
+pub mod RenewalLaws
+pub mod BothLaws
+pub mod RenewalReplyLaws
 pub mod EffectLaws
 pub mod ReadLaws
 pub mod KeyLaws

@@ -5,6 +5,8 @@ pub mod Replies
 pub mod Witness
 pub mod ReaderWitness
 pub mod Effects
+pub mod Renewals
+pub mod RenewalReplies
 pub mod Frozen
 pub mod FrozenWitness
 pub mod Reads

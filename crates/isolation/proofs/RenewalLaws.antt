@@ -1,0 +1,162 @@
+-- What call 9 tells of the other mode's password: nothing. The tables of the two copies are the same, and a call in a mode
+-- meets the passwords of that mode alone, in row 9 and in row 12; soundness looks at the passwords of inactive clusters alone.
+-- Assumes nothing.
+use mathlib.Core.Path.{_≡_, refl, sym, ap, ap₂, _∙_, subst, fun-ext}
+use mathlib.Core.Logic.{_≢_, _⊎_, inl, inr}
+use Prim.Native.Nat.{ℕ, zero, suc}
+use native.Mathlib.Decide.{ℕ-discrete}
+use native.Mathlib.Omega.{arith}
+use mathlib.Core.Bool.{Bool, true, false, _&&_, _||_}
+use mathlib.Core.List.{List, [], _∷_}
+use lib.Dec.{eqb}
+use lib.ListN.{length}
+use Rattle.loops.specs.Below.{every}
+use Rattle.sizes.specs.Sizes.{nodes, records, segments, memory}
+use Rattle.handle.specs.declared.Handle.{Handle}
+use Rattle.handle.specs.Handles.{Name, decoded}
+use Rattle.store.specs.declared.Cluster.{Cluster}
+use Rattle.store.specs.declared.Store.{Store}
+use Rattle.store.specs.Records.{Tables, tableOf, clusterAt, tableAt, segmentOf, putRecord, primaryOf, withPassword}
+use Rattle.store.specs.Sound.{soundSegment, nodeApart, idle, settled, sound}
+use Rattle.store.proofs.ChangeLaws.{put-same, put-other}
+use Rattle.calls.specs.Calls.{Copy, Call, newPassword, renewing, recordNamed}
+use Rattle.calls.specs.Numbers.{number}
+use Rattle.calls.specs.Steps.{Reply, Outcome, step, left, given, passwordReplaced}
+use Rattle.calls.proofs.CallLaws.{mode-known}
+use Rattle.calls.proofs.StepLaws.{step-refused, step-done}
+use Rattle.calls.proofs.DoneLaws.{done-active}
+use Rattle.calls.proofs.MadeWordLaws.{active-in}
+use Rattle.isolation.specs.Renewals.{SameButOther, Guess, guesses, Untold, OtherUntold, GuessesUntold}
+use Rattle.isolation.proofs.NumberLaws.{rows-number}
+
+-- ---- one password of one cluster
+
+module _ (m n : ℕ) (a b : Copy) (same : SameButOther m n a b) where
+  -- what is the same of each record by itself, is the same of both copies
+  each : {A : Type 0} (g : Cluster → A) → g (clusterAt (a .store) n) ≡ g (clusterAt (b .store) n) → (k : ℕ)
+      → g (clusterAt (a .store) k) ≡ g (clusterAt (b .store) k)
+  each g e k = go (ℕ-discrete k n)
+    where
+      go : Dec (k ≡ n) → g (clusterAt (a .store) k) ≡ g (clusterAt (b .store) k)
+      go (yes p) = ap (λ (i : ℕ). g (clusterAt (a .store) i)) p ∙ e ∙ ap (λ (i : ℕ). g (clusterAt (b .store) i)) (sym p)
+      go (no p) = ap g (same .others k p)
+
+  tables : tableAt (a .store) ≡ tableAt (b .store)
+  tables = fun-ext (each tableOf (same .table))
+
+  passwords : (m ≡ 1) ⊎ (m ≡ 2) → (k : ℕ) → primaryOf (clusterAt (a .store) k) m ≡ primaryOf (clusterAt (b .store) k) m
+  passwords (inl e) =
+      each (λ (c : Cluster). primaryOf c m)
+      (ap (primaryOf (clusterAt (a .store) n)) e ∙ same .read e ∙ ap (primaryOf (clusterAt (b .store) n)) (sym e))
+  passwords (inr e) =
+      each (λ (c : Cluster). primaryOf c m)
+      (ap (primaryOf (clusterAt (a .store) n)) e ∙ same .write e ∙ ap (primaryOf (clusterAt (b .store) n)) (sym e))
+
+  settles : (k : ℕ) → settled (clusterAt (a .store) k) ≡ settled (clusterAt (b .store) k)
+  unfolding settled
+  settles =
+      each settled
+      (ap (λ (t : Bool). t || idle (clusterAt (a .store) n)) (same .active)
+      ∙ ap (λ (t : Bool). t || idle (clusterAt (b .store) n)) (sym (ap (λ (ts : Tables). ts n .active) (sym tables) ∙ same .active)))
+
+  sounds : (size : ℕ) → sound (a .store) size ≡ sound (b .store) size
+  unfolding sound
+  sounds size =
+      λ j.
+      eqb size memory
+      && every records (λ k. every segments (λ i. soundSegment (segmentOf (tables j k) i)))
+      && every nodes (nodeApart (tables j))
+      && every records (λ k. settles k j)
+
+module _ (f : Name → List ℕ → ℕ → List ℕ) (m n : ℕ) (h p : List ℕ) where
+  abbrev x : Call
+  x = renewing m h p
+
+  -- what call 9 leaves of each record
+  module _ (c : Copy) (e : number f x (c .store) (length (c .memory)) ≡ 0) where
+    pub renewed : (k : ℕ) → k ≡ recordNamed (decoded h)
+        → clusterAt (left newPassword x c .store) k ≡ withPassword (clusterAt (c .store) k) m p
+    unfolding left passwordReplaced
+    renewed k q =
+        ap (clusterAt (left newPassword x c .store)) q
+        ∙ put-same (c .store) (recordNamed (decoded h)) _
+        (active-in (c .store) (recordNamed (decoded h)) (done-active f x (c .store) (length (c .memory)) e refl))
+        ∙ ap (λ (i : ℕ). withPassword (clusterAt (c .store) i) m p) (sym q)
+
+    apart : (k : ℕ) → k ≢ recordNamed (decoded h) → clusterAt (left newPassword x c .store) k ≡ clusterAt (c .store) k
+    unfolding left passwordReplaced
+    apart k q = put-other (c .store) (recordNamed (decoded h)) _ k q
+
+  module _ (a b : Copy) (same : SameButOther m n a b) where
+    number-same : number f x (a .store) (length (a .memory)) ≡ number f x (b .store) (length (b .memory))
+    number-same =
+        rows-number f x (a .store) (b .store) (length (a .memory)) (sounds m n a b same (length (a .memory)))
+        (tables m n a b same)
+        (λ place even fields o k i. inl (passwords m n a b same (mode-known x fields) (recordNamed k)))
+        ∙ ap (λ (l : List ℕ). number f x (b .store) (length l)) (same .memory)
+
+    -- what is the same of a record before and after, and with a new password, is the same of what is left
+    module _ (ea : number f x (a .store) (length (a .memory)) ≡ 0) (eb : number f x (b .store) (length (b .memory)) ≡ 0) where
+      kept : {A : Type 0} (g : Cluster → A) (k : ℕ)
+          → g (clusterAt (a .store) k) ≡ g (clusterAt (b .store) k)
+          → g (withPassword (clusterAt (a .store) k) m p) ≡ g (withPassword (clusterAt (b .store) k) m p)
+          → g (clusterAt (left newPassword x a .store) k) ≡ g (clusterAt (left newPassword x b .store) k)
+      kept g k e w = go (ℕ-discrete k (recordNamed (decoded h)))
+        where
+          go : Dec (k ≡ recordNamed (decoded h)) → g (clusterAt (left newPassword x a .store) k) ≡ g (clusterAt (left newPassword x b .store) k)
+          go (yes q) = ap g (renewed a ea k q) ∙ w ∙ ap g (sym (renewed b eb k q))
+          go (no q) = ap g (apart a ea k q) ∙ e ∙ ap g (sym (apart b eb k q))
+
+      left-same : SameButOther m n (left newPassword x a) (left newPassword x b)
+      unfolding left passwordReplaced
+      left-same =
+          record {
+            active = go (ℕ-discrete n (recordNamed (decoded h)));
+            others = λ k q.
+                kept (λ (c : Cluster). c) k (same .others k q) (ap (λ (c : Cluster). withPassword c m p) (same .others k q));
+            table = kept tableOf n (same .table) (same .table);
+            read = λ e.
+                kept (λ (c : Cluster). c .read) n (same .read e)
+                (λ j. elim (eqb m 1) [ true ↦ p | false ↦ same .read e j ]);
+            write = λ e.
+                kept (λ (c : Cluster). c .write) n (same .write e)
+                (ap (λ (i : ℕ). withPassword (clusterAt (a .store) n) i p .write) e
+                ∙ sym (ap (λ (i : ℕ). withPassword (clusterAt (b .store) n) i p .write) e));
+            memory = same .memory;
+          }
+        where
+          go : Dec (n ≡ recordNamed (decoded h)) → clusterAt (left newPassword x a .store) n .active ≡ true
+          go (yes q) = ap (λ (c : Cluster). c .active) (renewed a ea n q) ∙ same .active
+          go (no q) = ap (λ (c : Cluster). c .active) (apart a ea n q) ∙ same .active
+
+    -- from what the two steps are
+    ends : (o u : Outcome) → step f x a ≡ o → step f x b ≡ u → o .reply ≡ u .reply → SameButOther m n (o .copy) (u .copy)
+        → Untold f m n x a b
+    ends o u eo eu r k =
+        record {
+          reply = ap (λ (t : Outcome). t .reply) eo ∙ r ∙ ap (λ (t : Outcome). t .reply) (sym eu);
+          left =
+              subst (λ (t : Outcome). SameButOther m n (t .copy) (step f x b .copy)) (sym eo)
+              (subst (λ (t : Outcome). SameButOther m n (o .copy) (t .copy)) (sym eu) k);
+        }
+
+    untold : Untold f m n x a b
+    unfolding given
+    untold = by (number f x (b .store) (length (b .memory))) refl
+      where
+        by : (k : ℕ) → number f x (b .store) (length (b .memory)) ≡ k → Untold f m n x a b
+        by zero e =
+            ends _ _ (step-done f x a (number-same ∙ e)) (step-done f x b e) refl (left-same (number-same ∙ e) e)
+        by (suc k) e =
+            ends _ _ (step-refused f x a (suc k) (number-same ∙ e) (λ z. absurd (omega arith)))
+            (step-refused f x b (suc k) e (λ z. absurd (omega arith))) refl same
+
+module _ (f : Name → List ℕ → ℕ → List ℕ) where
+  pub other-untold : OtherUntold f
+  other-untold m n h p a b same = untold f m n h p a b same
+
+  pub guesses-untold : GuessesUntold f
+  guesses-untold m n [] a b same = refl
+  guesses-untold m n (g ∷ gs) a b same =
+      let u = other-untold m n (g .handle) (g .password) a b same in
+      ap₂ (λ (r : Reply) (rs : List Reply). r ∷ rs) (u .reply) (guesses-untold m n gs _ _ (u .left))

@@ -1,0 +1,66 @@
+-- The lists of new passwords, computed; soundness is kept along them, so at each call only the rows below the first are.
+-- Assumes nothing.
+use mathlib.Core.Path.{_≡_, refl, sym, ap, _∙_}
+use mathlib.Core.Logic.{_≢_}
+use Prim.Native.Nat.{ℕ}
+use native.Mathlib.Omega.{arith}
+use mathlib.Core.List.{List}
+use Rattle.handle.specs.Handles.{Name, reduced}
+use Rattle.store.specs.Records.{startingStore, clusterAt}
+use Rattle.store.proofs.ChangeLaws.{put-other}
+use Rattle.calls.specs.Calls.{start}
+use Rattle.calls.specs.Numbers.{tests}
+use Rattle.calls.specs.Steps.{Ran, effects, run}
+use Rattle.calls.specs.Cases.{added}
+use Rattle.calls.proofs.Computing.{computing, sounding}
+use Rattle.isolation.specs.Copies.{SoundCopy}
+use Rattle.isolation.specs.Renewals.{guesses}
+use Rattle.isolation.specs.RenewalReplies.{renewCalls, seen, BothDone, alone, tries, answers, Guessed}
+use Rattle.isolation.proofs.KeptLaws.{start-sound}
+use Rattle.isolation.proofs.RunLaws.{runBelow, run-below}
+
+pub both-done : BothDone
+unfolding reduced tests effects computing
+both-done = ap seen (run-below added renewCalls start start-sound) ∙ refl
+
+-- soundness does not look at the passwords of an active cluster
+sound-alone : (r w : ℕ) → SoundCopy (alone r w)
+unfolding sounding
+sound-alone r w = refl
+
+others-same : (r w q v k : ℕ) → k ≢ 10 → clusterAt (alone r w .store) k ≡ clusterAt (alone q v .store) k
+others-same r w q v k n = put-other startingStore 10 _ k n ∙ sym (put-other startingStore 10 _ k n)
+
+module _ (f : Name → List ℕ → ℕ → List ℕ) where
+  -- the replies, by the rows below the first
+  replied : (m r w : ℕ) → runBelow f (guesses m tries) (alone r w) .replies ≡ answers
+      → run f (guesses m tries) (alone r w) .replies ≡ answers
+  replied m r w e = ap (λ (t : Ran). t .replies) (run-below f (guesses m tries) (alone r w) (sound-alone r w)) ∙ e
+
+  pub guessed : Guessed f
+  unfolding tests effects computing
+  guessed =
+      record {
+        reading =
+            record {
+              active = refl;
+              others = others-same 3 4 3 5;
+              table = refl;
+              read = λ e. refl;
+              write = λ e. absurd (omega arith);
+              memory = refl;
+            };
+        writing =
+            record {
+              active = refl;
+              others = others-same 4 3 5 3;
+              table = refl;
+              read = λ e. absurd (omega arith);
+              write = λ e. refl;
+              memory = refl;
+            };
+        told = replied 1 3 4 refl;
+        told-other = replied 1 3 5 refl;
+        written = replied 2 4 3 refl;
+        written-other = replied 2 5 3 refl;
+      }
