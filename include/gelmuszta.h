@@ -30,6 +30,8 @@
  * password by its subselectors gives its password. A read and a look need a handle that is valid for reading, and one that
  * is valid for writing alone is refused; everything else that opens a cluster needs one that is valid for writing, or in
  * the mode that the call names. Call 11 takes two handles, and needs each of them to be valid in the mode that it names.
+ * Each mode is judged by itself, and a handle may be valid in both: while the two primary passwords of a cluster are equal,
+ * every handle that is valid in one mode is valid in the other. Call 1 does not make such a cluster, but call 9 can.
  *
  * Call 10 freezes a segment, and no call thaws it. From then on its base, length and bytes stay the same after any calls at
  * all, and its cluster stays active: calls 4 and 6 on the segment and call 2 on the cluster are refused, with
@@ -60,7 +62,7 @@
  *
  * Nothing is kept between calls and nothing is allocated. A call judges the whole image where it stands, takes out one record
  * and puts back one where it changes it; the rest of the image is neither copied nor written. It uses less than 2 kilobytes
- * of stack (1,448 bytes at most, measured on x86-64, not proved).
+ * of stack (1,464 bytes at most, measured on x86-64, not proved).
  */
 #ifndef GELMUSZTA_H
 #define GELMUSZTA_H
@@ -102,7 +104,7 @@ enum gelmuszta_number {
     GELMUSZTA_FROZEN = 22,         /* frozen, 2: some segment of the cluster is frozen; 4, 6, where it is judged after
                                     * GELMUSZTA_ABSENT and before GELMUSZTA_SHORT: the segment is frozen */
     GELMUSZTA_NOT_REFERENCED = 11, /* not referenced, 5, 6, look: the handle does not reference the segment */
-    GELMUSZTA_OLD_PASSWORD = 12,   /* old password, 9: the new one equals either current primary password */
+    GELMUSZTA_OLD_PASSWORD = 12,   /* old password, 9: the new one is the current primary password of the mode named */
     GELMUSZTA_PRESENT = 13,        /* present, 3: the segment is present */
     GELMUSZTA_ABSENT = 14,         /* absent, 4, 5, 6, 10, look: the segment is absent */
     GELMUSZTA_SHORT = 15,          /* short, 5, 6: buffer or data shorter than the segment */
@@ -164,7 +166,12 @@ uint8_t gelmuszta_reduce(const uint8_t image[GELMUSZTA_IMAGE], const uint8_t *me
                          size_t mode, const uint8_t handle[GELMUSZTA_HANDLE], uint8_t given[GELMUSZTA_HANDLE]);
 
 /* 9, new password: by the primary handle of the mode named, whose primary password becomes the new one. Gives the new
- * primary handle. */
+ * primary handle; the one presented is no longer valid in that mode.
+ *
+ * The new password is compared with the current one of that mode, and GELMUSZTA_OLD_PASSWORD says that they are equal. The
+ * other mode's is not looked at: whether the call is done, and what it gives, tells nothing of it. So the cluster's two
+ * passwords may become equal, and a handle then opens both modes, until this call gives one of them another password.
+ * Whoever wants the two to differ has to see to it. */
 uint8_t gelmuszta_new_password(uint8_t image[GELMUSZTA_IMAGE], const uint8_t *memory, size_t memory_length,
                                size_t mode, const uint8_t handle[GELMUSZTA_HANDLE],
                                const uint8_t password[GELMUSZTA_PASSWORD], uint8_t given[GELMUSZTA_HANDLE]);

@@ -196,6 +196,46 @@ static void joining(size_t node, size_t local) {
     expect("a join changes nothing", memcmp(image, before, sizeof image) == 0 && memcmp(memory, bytes, sizeof memory) == 0);
 }
 
+/* A mode gets the password of `next`, which is then its primary handle; done, the image changes in that password alone. */
+static void renew(const char *what, size_t mode, const uint8_t handle[GELMUSZTA_HANDLE],
+                  const uint8_t next[GELMUSZTA_HANDLE], uint8_t number) {
+    const size_t at = (handle[1] * 8u + handle[2]) * 73u + (mode == GELMUSZTA_MODE_READ ? 1 : 17);
+    uint8_t given[GELMUSZTA_HANDLE], none[GELMUSZTA_HANDLE] = {0}, after[GELMUSZTA_IMAGE];
+
+    memcpy(after, image, sizeof after);
+    if (number == GELMUSZTA_DONE) memcpy(after + at, next + 3, GELMUSZTA_PASSWORD);
+    expect(what, gelmuszta_new_password(image, memory, sizeof memory, mode, handle, next + 3, given) == number
+                     && memcmp(given, number ? none : next, sizeof given) == 0 && memcmp(image, after, sizeof image) == 0);
+}
+
+/* What a handle comes to for reading and for writing, alone and with segment 5, to which a write puts `what`. */
+static void opens(const char *what, const uint8_t handle[GELMUSZTA_HANDLE], uint8_t reads, uint8_t writes) {
+    uint8_t buffer[6] = {0};
+    size_t length;
+
+    expect(what, gelmuszta_validate(image, memory, sizeof memory, GELMUSZTA_MODE_READ, handle) == reads
+                     && gelmuszta_validate(image, memory, sizeof memory, GELMUSZTA_MODE_WRITE, handle) == writes
+                     && gelmuszta_write(image, memory, sizeof memory, 5, handle, (const uint8_t *)what, 6) == writes
+                     && gelmuszta_read(image, memory, sizeof memory, 5, handle, buffer, 6, &length) == reads
+                     && (reads || writes || memcmp(buffer, what, 6) == 0));
+}
+
+/* A mode's own password is no new one, the other mode's is: one handle then opens both, until the mode gets its own back. */
+static void one_handle(size_t mode, const uint8_t reader[GELMUSZTA_HANDLE], const uint8_t writer[GELMUSZTA_HANDLE]) {
+    const int reading = mode == GELMUSZTA_MODE_READ;
+    const uint8_t *own = reading ? reader : writer, *other = reading ? writer : reader;
+
+    renew("own password", mode, own, own, GELMUSZTA_OLD_PASSWORD);
+    renew("the other mode's password", mode, own, other, GELMUSZTA_DONE);
+    opens("handle of both", other, GELMUSZTA_DONE, GELMUSZTA_DONE);
+    opens("handle of none", own, GELMUSZTA_VIOLATED, GELMUSZTA_VIOLATED);
+    renew("own to read, while equal", GELMUSZTA_MODE_READ, other, other, GELMUSZTA_OLD_PASSWORD);
+    renew("own to write, while equal", GELMUSZTA_MODE_WRITE, other, other, GELMUSZTA_OLD_PASSWORD);
+    renew("two passwords again", mode, other, own, GELMUSZTA_DONE);
+    opens("reader again", reader, GELMUSZTA_DONE, GELMUSZTA_VIOLATED);
+    opens("writer again", writer, GELMUSZTA_VIOLATED, GELMUSZTA_DONE);
+}
+
 int main(void) {
     const size_t all = sizeof memory, node = 1, local = 2, segment = 5, size = 6;
     const uint8_t first_password[GELMUSZTA_PASSWORD] = {3}, second_password[GELMUSZTA_PASSWORD] = {4};
@@ -212,10 +252,13 @@ int main(void) {
     gelmuszta_start(image);
     expect("start", memcmp(image, none, sizeof image) == 0);
     expect("sound", gelmuszta_sound(image, all) && !gelmuszta_sound(image, all - 1));
+    expect("twins", gelmuszta_new_cluster(image, memory, all, node, local, none, none, reader, writer) == GELMUSZTA_TWINS);
     expect("new cluster", gelmuszta_new_cluster(image, memory, all, node, local, first_password, second_password, reader,
                                                 writer) == GELMUSZTA_DONE);
     expect("handles", reader[1] == node && reader[2] == local && reader[3] == 3 && writer[3] == 4 && writer[22] == 255);
     expect("new segment", gelmuszta_new_segment(image, memory, all, node, segment, size, writer) == GELMUSZTA_DONE);
+    one_handle(GELMUSZTA_MODE_WRITE, reader, writer);
+    one_handle(GELMUSZTA_MODE_READ, reader, writer);
     expect("write", gelmuszta_write(image, memory, all, segment, writer, (const uint8_t *)"guards", 6) == GELMUSZTA_DONE);
     expect("memory", memcmp(memory + 4096, "guards", 6) == 0);
     expect("weaken", gelmuszta_weaken(reader, mask, weaker, &count) == GELMUSZTA_DONE && count == 1);
