@@ -5,7 +5,7 @@
 use mathlib.Core.Path.{_≡_, refl, ap, _∙_}
 use mathlib.Core.Logic.{_⊎_, inl, inr}
 use Prim.Native.Nat.{ℕ, zero, suc, _+_}
-use mathlib.Core.Bool.{Bool, true, false, not, _&&_, _||_}
+use mathlib.Core.Bool.{Bool, true, false, not, _&&_}
 use mathlib.Core.List.{List, [], _∷_, _++_}
 use lib.Dec.{ltb, eqb}
 use lib.ListN.{length, take, drop}
@@ -43,6 +43,11 @@ placementBy p node size =
     ltb node nodes && inside (Present base size)
     && every clusters (λ l. every segments (λ i. apart (Present base size) (p (recordOf node l) i)))))
 
+-- the password of a mode is the same
+password : (a b : Store) → SameButMarks a b → (n mode : ℕ)
+    → primaryOf (clusterAt a n) mode ≡ primaryOf (clusterAt b n) mode
+password a b same n mode = λ j. elim (eqb mode readMode) [ true ↦ same .read n j | false ↦ same .write n j ]
+
 module _ (f : Name → List ℕ → ℕ → List ℕ) (x : Call) (a b : Store) (size : ℕ) (sa : sound a size ≡ true)
     (sb : sound b size ≡ true) (same : SameButMarks a b) (own : OwnMarks x a b) where
   place : placeFor x (tableAt a) ≡ placeFor x (tableAt b)
@@ -68,13 +73,7 @@ module _ (f : Name → List ℕ → ℕ → List ℕ) (x : Call) (a b : Store) (
       λ j.
       opens (x .kind)
       && anyOf
-      (λ h. not
-      (validates (widthOf h) (f (nameOf h))
-      (elim (eqb (needed x) readMode) [
-        | true ↦ same .read (recordNamed h) j
-        | false ↦ same .write (recordNamed h) j
-      ])
-      h))
+      (λ h. not (validates (widthOf h) (f (nameOf h)) (password a b same (recordNamed h) (needed x) j) h))
       (presented x)
 
   frozen-cluster : clusterFrozen x (tableAt a) ≡ clusterFrozen x (tableAt b)
@@ -95,11 +94,7 @@ module _ (f : Name → List ℕ → ℕ → List ℕ) (x : Call) (a b : Store) (
   twelve =
       λ j.
       among (9 ∷ []) (x .kind)
-      && samePassword (x .args .first)
-      (elim (eqb (x .args .mode) readMode) [
-        | true ↦ same .read (recordFor x) j
-        | false ↦ same .write (recordFor x) j
-      ])
+      && samePassword (x .args .first) (password a b same (recordFor x) (x .args .mode) j)
 
   thirteen : segmentPresent x (tableAt a) ≡ segmentPresent x (tableAt b)
   unfolding segmentPresent
@@ -172,13 +167,8 @@ module _ (f : Name → List ℕ → ℕ → List ℕ) (x : Call) (a b : Store) (
   abbrev here : placeFor x (tableAt a) ≡ placeFor x (tableAt b)
   here = same .places (recordFor x) (x .args .segment)
 
-  password : primaryOf (clusterAt a (recordFor x)) (x .args .mode) ≡ primaryOf (clusterAt b (recordFor x)) (x .args .mode)
-  password =
-      λ j.
-      elim (eqb (x .args .mode) readMode) [
-        | true ↦ same .read (recordFor x) j
-        | false ↦ same .write (recordFor x) j
-      ]
+  abbrev own : primaryOf (clusterAt a (recordFor x)) (x .args .mode) ≡ primaryOf (clusterAt b (recordFor x)) (x .args .mode)
+  own = password a b same (recordFor x) (x .args .mode)
 
   same-given : (k : Kind) → given f k x (copyOf a m) ≡ given f k x (copyOf b m)
   unfolding given segmentRead segmentShown
@@ -196,14 +186,14 @@ module _ (f : Name → List ℕ → ℕ → List ℕ) (x : Call) (a b : Store) (
   same-given weaken = refl
   same-given reduce =
       ap (λ (p : List ℕ). handles (encoded (reduced (widthOf (handleOf x)) (f (nameOf (handleOf x))) (handleOf x) p)) zeroHandle 0)
-      password
+      own
   same-given newPassword = refl
   same-given freeze = refl
   same-given join =
       ap
       (λ (p : List ℕ).
       handles (encoded (joined (widthOf (handleOf x)) (f (nameOf (handleOf x))) (handleOf x) (otherOf x) p)) zeroHandle 0)
-      password
+      own
   same-given validate = refl
   same-given look =
       ap

@@ -2,7 +2,7 @@
 -- validates has the password of the mode, so that the new password is that one just where it is the handle's.
 -- Assumes nothing.
 use mathlib.Core.Path.{_≡_, refl, sym, ap, _∙_}
-use mathlib.Core.Logic.{_≢_, _⊎_, _↔_}
+use mathlib.Core.Logic.{_≢_, _↔_}
 use Prim.Native.Nat.{ℕ}
 use native.Mathlib.Decide.{ℕ-discrete}
 use native.Mathlib.Omega.{arith}
@@ -17,8 +17,8 @@ use Rattle.handle.specs.Handles.{Name, nameOf, samePassword, decoded, Row, firs
 use Rattle.handle.proofs.HandleLaws.{through-flat}
 use Rattle.store.specs.declared.Cluster.{Cluster}
 use Rattle.store.specs.declared.Store.{Store}
-use Rattle.store.specs.Records.{clusterAt, primaryOf}
-use Rattle.calls.specs.Calls.{Call, newPassword, among, reducing, renewing, validating, recordNamed}
+use Rattle.store.specs.Records.{primaryOf}
+use Rattle.calls.specs.Calls.{newPassword, among, reducing, renewing, validating}
 use Rattle.calls.specs.Numbers.{oldPassword, at, rows, number, tests}
 use Rattle.calls.specs.Clear.{Clear}
 use Rattle.calls.specs.Words.{SamePassword, clusterOf, Current}

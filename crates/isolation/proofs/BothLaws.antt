@@ -4,7 +4,7 @@
 use mathlib.Core.Path.{_≡_, refl, sym, ap, _∙_}
 use mathlib.Core.Logic.{_⊎_, inl, inr}
 use Prim.Native.Nat.{ℕ, _*_, _+_}
-use mathlib.Core.Bool.{Bool, true, false, not, _||_}
+use mathlib.Core.Bool.{Bool, false, not, _||_}
 use mathlib.Core.List.{List, [], _∷_}
 use lib.Dec.{leb}
 use lib.ListN.{length}
@@ -13,14 +13,14 @@ use Rattle.handle.specs.declared.Handle.{Handle}
 use Rattle.handle.specs.Handles.{Name, nameOf, decoded, Row, firstOf, noSuchPlace, validates}
 use Rattle.store.specs.declared.Cluster.{Cluster}
 use Rattle.store.specs.declared.Store.{Store}
-use Rattle.store.specs.Records.{clusterAt, primaryOf, withPassword}
+use Rattle.store.specs.Records.{clusterAt, withPassword}
 use Rattle.store.specs.Sound.{sound}
-use Rattle.calls.specs.Calls.{Copy, Call, newPassword, reducing, renewing, validating, recordNamed}
+use Rattle.calls.specs.Calls.{Copy, Call, reducing, renewing, validating, recordNamed}
 use Rattle.calls.specs.Clear.{Clear}
 use Rattle.calls.specs.Numbers.{unsound, valid, number}
 use Rattle.calls.specs.Words.{clusterOf}
 use Rattle.calls.specs.JoinWords.{Together}
-use Rattle.calls.specs.Steps.{Outcome, step, left}
+use Rattle.calls.specs.Steps.{Outcome, step}
 use Rattle.calls.proofs.FirstLaws.{first-clear}
 use Rattle.calls.proofs.StepLaws.{number-validate, step-number, step-done}
 use Rattle.calls.proofs.JoinNumberLaws.{gap, idle, oneRows, one-numbered, number-one}

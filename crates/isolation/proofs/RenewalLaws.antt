@@ -12,11 +12,9 @@ use lib.Dec.{eqb}
 use lib.ListN.{length}
 use Rattle.loops.specs.Below.{every}
 use Rattle.sizes.specs.Sizes.{nodes, records, segments, memory}
-use Rattle.handle.specs.declared.Handle.{Handle}
 use Rattle.handle.specs.Handles.{Name, decoded}
 use Rattle.store.specs.declared.Cluster.{Cluster}
-use Rattle.store.specs.declared.Store.{Store}
-use Rattle.store.specs.Records.{Tables, tableOf, clusterAt, tableAt, segmentOf, putRecord, primaryOf, withPassword}
+use Rattle.store.specs.Records.{Tables, tableOf, clusterAt, tableAt, segmentOf, primaryOf, withPassword}
 use Rattle.store.specs.Sound.{soundSegment, nodeApart, idle, settled, sound}
 use Rattle.store.proofs.ChangeLaws.{put-same, put-other}
 use Rattle.calls.specs.Calls.{Copy, Call, newPassword, renewing, recordNamed}
@@ -26,7 +24,7 @@ use Rattle.calls.proofs.CallLaws.{mode-known}
 use Rattle.calls.proofs.StepLaws.{step-refused, step-done}
 use Rattle.calls.proofs.DoneLaws.{done-active}
 use Rattle.calls.proofs.MadeWordLaws.{active-in}
-use Rattle.isolation.specs.Renewals.{SameButOther, Guess, guesses, Untold, OtherUntold, GuessesUntold}
+use Rattle.isolation.specs.Renewals.{SameButOther, Untold, OtherUntold, GuessesUntold}
 use Rattle.isolation.proofs.NumberLaws.{rows-number}
 
 -- ---- one password of one cluster
@@ -120,8 +118,7 @@ module _ (f : Name → List ℕ → ℕ → List ℕ) (m n : ℕ) (h p : List �
                 (λ j. elim (eqb m 1) [ true ↦ p | false ↦ same .read e j ]);
             write = λ e.
                 kept (λ (c : Cluster). c .write) n (same .write e)
-                (ap (λ (i : ℕ). withPassword (clusterAt (a .store) n) i p .write) e
-                ∙ sym (ap (λ (i : ℕ). withPassword (clusterAt (b .store) n) i p .write) e));
+                (λ j. elim (eqb m 1) [ true ↦ same .write e j | false ↦ p ]);
             memory = same .memory;
           }
         where
