@@ -89,7 +89,7 @@ module _ (f : Name → List ℕ → ℕ → List ℕ) where
 
     own : clusterOf h (after .store) ≡ withPassword (clusterOf h s) m p
     own =
-        ap (λ (o : Outcome). clusterOf h (o .copy .store)) (step-done f x c e) ∙ renewed f m 0 a p c e (recordNamed h) refl
+        ap (λ (o : Outcome). clusterOf h (o .copy .store)) (step-done f x c e) ∙ renewed f m a p c e (recordNamed h) refl
 
     equal : OtherFor m (clusterOf h s) p → clusterOf h (after .store) .read ≡ clusterOf h (after .store) .write
     equal o = ap (λ (d : Cluster). d .read) own ∙ go o ∙ sym (ap (λ (d : Cluster). d .write) own)

@@ -14,6 +14,7 @@ use Rattle.loops.specs.Below.{every}
 use Rattle.sizes.specs.Sizes.{nodes, records, segments, memory}
 use Rattle.handle.specs.Handles.{Name, decoded}
 use Rattle.store.specs.declared.Cluster.{Cluster}
+use Rattle.store.specs.declared.Store.{Store}
 use Rattle.store.specs.Records.{Tables, tableOf, clusterAt, tableAt, segmentOf, primaryOf, withPassword}
 use Rattle.store.specs.Sound.{soundSegment, nodeApart, idle, settled, sound}
 use Rattle.store.proofs.ChangeLaws.{put-same, put-other}
@@ -66,26 +67,33 @@ module _ (m n : ℕ) (a b : Copy) (same : SameButOther m n a b) where
       && every nodes (nodeApart (tables j))
       && every records (λ k. settles k j)
 
-module _ (f : Name → List ℕ → ℕ → List ℕ) (m n : ℕ) (h p : List ℕ) where
+module _ (f : Name → List ℕ → ℕ → List ℕ) (m : ℕ) (h p : List ℕ) where
   abbrev x : Call
   x = renewing m h p
 
+  abbrev own : ℕ
+  own = recordNamed (decoded h)
+
+  abbrev after : Copy → Store
+  after c = left newPassword x c .store
+
+  abbrev Done : Copy → Type 0
+  Done c = number f x (c .store) (length (c .memory)) ≡ 0
+
   -- what call 9 leaves of each record
-  module _ (c : Copy) (e : number f x (c .store) (length (c .memory)) ≡ 0) where
-    pub renewed : (k : ℕ) → k ≡ recordNamed (decoded h)
-        → clusterAt (left newPassword x c .store) k ≡ withPassword (clusterAt (c .store) k) m p
+  module _ (c : Copy) (e : Done c) where
+    pub renewed : (k : ℕ) → k ≡ own → clusterAt (after c) k ≡ withPassword (clusterAt (c .store) k) m p
     unfolding left passwordReplaced
     renewed k q =
-        ap (clusterAt (left newPassword x c .store)) q
-        ∙ put-same (c .store) (recordNamed (decoded h)) _
-        (active-in (c .store) (recordNamed (decoded h)) (done-active f x (c .store) (length (c .memory)) e refl))
+        ap (clusterAt (after c)) q
+        ∙ put-same (c .store) own _ (active-in (c .store) own (done-active f x (c .store) (length (c .memory)) e refl))
         ∙ ap (λ (i : ℕ). withPassword (clusterAt (c .store) i) m p) (sym q)
 
-    apart : (k : ℕ) → k ≢ recordNamed (decoded h) → clusterAt (left newPassword x c .store) k ≡ clusterAt (c .store) k
+    apart : (k : ℕ) → k ≢ own → clusterAt (after c) k ≡ clusterAt (c .store) k
     unfolding left passwordReplaced
-    apart k q = put-other (c .store) (recordNamed (decoded h)) _ k q
+    apart k q = put-other (c .store) own _ k q
 
-  module _ (a b : Copy) (same : SameButOther m n a b) where
+  module _ (n : ℕ) (a b : Copy) (same : SameButOther m n a b) where
     number-same : number f x (a .store) (length (a .memory)) ≡ number f x (b .store) (length (b .memory))
     number-same =
         rows-number f x (a .store) (b .store) (length (a .memory)) (sounds m n a b same (length (a .memory)))
@@ -93,15 +101,14 @@ module _ (f : Name → List ℕ → ℕ → List ℕ) (m n : ℕ) (h p : List �
         (λ place even fields o k i. inl (passwords m n a b same (mode-known x fields) (recordNamed k)))
         ∙ ap (λ (l : List ℕ). number f x (b .store) (length l)) (same .memory)
 
-    -- what is the same of a record before and after, and with a new password, is the same of what is left
-    module _ (ea : number f x (a .store) (length (a .memory)) ≡ 0) (eb : number f x (b .store) (length (b .memory)) ≡ 0) where
-      kept : {A : Type 0} (g : Cluster → A) (k : ℕ)
-          → g (clusterAt (a .store) k) ≡ g (clusterAt (b .store) k)
+    module _ (ea : Done a) (eb : Done b) where
+      -- what is the same of a record as it was, and with the new password, is the same of what is left
+      kept : {A : Type 0} (g : Cluster → A) (k : ℕ) → g (clusterAt (a .store) k) ≡ g (clusterAt (b .store) k)
           → g (withPassword (clusterAt (a .store) k) m p) ≡ g (withPassword (clusterAt (b .store) k) m p)
-          → g (clusterAt (left newPassword x a .store) k) ≡ g (clusterAt (left newPassword x b .store) k)
-      kept g k e w = go (ℕ-discrete k (recordNamed (decoded h)))
+          → g (clusterAt (after a) k) ≡ g (clusterAt (after b) k)
+      kept g k e w = go (ℕ-discrete k own)
         where
-          go : Dec (k ≡ recordNamed (decoded h)) → g (clusterAt (left newPassword x a .store) k) ≡ g (clusterAt (left newPassword x b .store) k)
+          go : Dec (k ≡ own) → g (clusterAt (after a) k) ≡ g (clusterAt (after b) k)
           go (yes q) = ap g (renewed a ea k q) ∙ w ∙ ap g (sym (renewed b eb k q))
           go (no q) = ap g (apart a ea k q) ∙ e ∙ ap g (sym (apart b eb k q))
 
@@ -109,7 +116,7 @@ module _ (f : Name → List ℕ → ℕ → List ℕ) (m n : ℕ) (h p : List �
       unfolding left passwordReplaced
       left-same =
           record {
-            active = go (ℕ-discrete n (recordNamed (decoded h)));
+            active = go (ℕ-discrete n own);
             others = λ k q.
                 kept (λ (c : Cluster). c) k (same .others k q) (ap (λ (c : Cluster). withPassword c m p) (same .others k q));
             table = kept tableOf n (same .table) (same .table);
@@ -122,7 +129,7 @@ module _ (f : Name → List ℕ → ℕ → List ℕ) (m n : ℕ) (h p : List �
             memory = same .memory;
           }
         where
-          go : Dec (n ≡ recordNamed (decoded h)) → clusterAt (left newPassword x a .store) n .active ≡ true
+          go : Dec (n ≡ own) → clusterAt (after a) n .active ≡ true
           go (yes q) = ap (λ (c : Cluster). c .active) (renewed a ea n q) ∙ same .active
           go (no q) = ap (λ (c : Cluster). c .active) (apart a ea n q) ∙ same .active
 
@@ -150,7 +157,7 @@ module _ (f : Name → List ℕ → ℕ → List ℕ) (m n : ℕ) (h p : List �
 
 module _ (f : Name → List ℕ → ℕ → List ℕ) where
   pub other-untold : OtherUntold f
-  other-untold m n h p a b same = untold f m n h p a b same
+  other-untold m n h p a b same = untold f m h p n a b same
 
   pub guesses-untold : GuessesUntold f
   guesses-untold m n [] a b same = refl
