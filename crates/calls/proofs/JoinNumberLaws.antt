@@ -17,10 +17,11 @@ use Rattle.handle.proofs.JoinLaws.{or-swapped, joins}
 use Rattle.store.specs.declared.Store.{Store}
 use Rattle.store.specs.Records.{clusterAt, primaryOf, readMode, writeMode}
 use Rattle.store.specs.Sound.{sound}
-use Rattle.calls.specs.Calls.{joining, reducing, recordNamed}
+use Rattle.calls.specs.Calls.{joining, reducing, validating, recordNamed}
 use Rattle.calls.specs.Numbers.{number, tests}
 use Rattle.calls.specs.Clear.{Clear}
 use Rattle.calls.proofs.FirstLaws.{Numbered, first-clear}
+use Rattle.calls.proofs.StepLaws.{number-validate}
 use Rattle.calls.proofs.CallLaws.{or-left, or-right}
 
 -- ---- names
@@ -41,9 +42,9 @@ same-name h k n l =
 pub record-same : (h k : Handle) → sameName h k ≡ true → recordNamed h ≡ recordNamed k
 record-same h k e = ap (λ (n : Name). n .node * 8 + n .local) (name-same h k e)
 
--- ---- the rows of a join, and of a reduction, on the records of the handles
+-- ---- the rows of a join, and of a reduction or a validation, on the records of the handles
 
-abbrev row : ℕ → Bool → Row
+abbrev pub row : ℕ → Bool → Row
 row n t = record { number = n; applies = t }
 
 abbrev pub noMode : ℕ → Bool
@@ -95,6 +96,9 @@ module _ (f : Name → List ℕ → ℕ → List ℕ) (s : Store) (size m : ℕ)
   pub number-one : (a : List ℕ) → number f (reducing m a) s size ≡ firstOf (oneRows (decoded a))
   unfolding number tests
   number-one a = simp or-false
+
+  pub valid-one : (a : List ℕ) → number f (validating m a) s size ≡ firstOf (oneRows (decoded a))
+  valid-one a = number-validate f (reducing m a .args) s size ∙ number-one a
 
   -- the rows are the same either way round
   pub number-swapped : (a b : List ℕ) → number f (joining m a b) s size ≡ number f (joining m b a) s size

@@ -5,7 +5,7 @@ use mathlib.Core.Path.{_≡_, sym, ap, _∙_, subst}
 use mathlib.Core.Logic.{_≢_, _⊎_, inl, inr, _↔_}
 use Prim.Native.Nat.{ℕ, _<_}
 use native.Mathlib.Omega.{arith}
-use mathlib.Core.Bool.{Bool, true, false, cond, false≢true}
+use mathlib.Core.Bool.{Bool, false, cond, false≢true}
 use mathlib.Core.List.{List, []}
 use lib.Dec.{leb}
 use lib.ListN.{length}
@@ -23,18 +23,18 @@ use Rattle.handle.proofs.SelectorLaws.{references-flat}
 use Rattle.handle.proofs.JoinLaws.{joins}
 use Rattle.store.specs.declared.Store.{Store}
 use Rattle.store.specs.Records.{clusterAt, primaryOf}
-use Rattle.calls.specs.Calls.{Copy, joining, reducing, validating, recordNamed}
+use Rattle.calls.specs.Calls.{Copy, joining, validating, recordNamed}
 use Rattle.calls.specs.Numbers.{number}
 use Rattle.calls.specs.Steps.{Outcome, handles, zeroHandle, step, left, given}
 use Rattle.calls.specs.Literals.{none, told}
 use Rattle.calls.specs.JoinWords.{Together, Covering, Primary, PrimaryFor, JoinNeeds, JoinWhole, JoinedInWords}
 use Rattle.calls.specs.JoinWords.{JoinInWords}
 use Rattle.calls.proofs.FirstLaws.{first-clear}
-use Rattle.calls.proofs.StepLaws.{number-validate, step-done, step-number}
+use Rattle.calls.proofs.StepLaws.{step-done, step-number}
 use Rattle.calls.proofs.TestLaws.{Is, off-is, or-is}
 use Rattle.calls.proofs.SelectorWords.{references-is, whole-is, four}
 use Rattle.calls.proofs.CallLaws.{or-left, or-right}
-use Rattle.calls.proofs.JoinNumberLaws.{name-same, same-name, idle, eachRows, oneRows, one-numbered, number-each, number-one}
+use Rattle.calls.proofs.JoinNumberLaws.{name-same, same-name, idle, eachRows, oneRows, one-numbered, number-each, valid-one}
 use Rattle.calls.proofs.JoinNumberLaws.{Cleared, cleared, cleared-first, cleared-second}
 
 module _ (f : Name → List ℕ → ℕ → List ℕ) (m : ℕ) (a b : List ℕ) (la : length a ≡ 23) (lb : length b ≡ 23) where
@@ -50,17 +50,14 @@ module _ (f : Name → List ℕ → ℕ → List ℕ) (m : ℕ) (a b : List ℕ)
   -- ---- the numbers
 
   module _ (s : Store) (size : ℕ) where
-    valid-one : (c : List ℕ) → number f (validating m c) s size ≡ firstOf (oneRows f s size m (decoded c))
-    valid-one c = number-validate f (reducing m c .args) s size ∙ number-one f s size m c
-
     abbrev Both : Type 0
     Both = (number f (validating m a) s size ≡ 0) × (number f (validating m b) s size ≡ 0)
 
     -- where both validate and have one name, row 23 is left
     both-left : Both → Together h k → firstOf (eachRows f s size m h k) ≡ cond (wholeUnion 8 (h .selector) (k .selector)) 23 0
     both-left v t =
-        let p = first-clear (oneRows f s size m h) (one-numbered f s size m h) (sym (valid-one a) ∙ v .0) in
-        let q = first-clear (oneRows f s size m k) (one-numbered f s size m k) (sym (valid-one b) ∙ v .1) in
+        let p = first-clear (oneRows f s size m h) (one-numbered f s size m h) (sym (valid-one f s size m a) ∙ v .0) in
+        let q = first-clear (oneRows f s size m k) (one-numbered f s size m k) (sym (valid-one f s size m b) ∙ v .1) in
         simp (
           p .0,
           p .1 .0,
@@ -86,8 +83,8 @@ module _ (f : Name → List ℕ → ℕ → List ℕ) (m : ℕ) (a b : List ℕ)
             let c = clear e in
             let n : nameOf h ≡ nameOf k = name-same h k (c .together) in (
               (
-                valid-one a ∙ cleared-first f s size m h k c,
-                valid-one b ∙ cleared-second f s size m h k c,
+                valid-one f s size m a ∙ cleared-first f s size m h k c,
+                valid-one f s size m b ∙ cleared-second f s size m h k c,
               ),
               (ap (λ (n : Name). n .node) n, ap (λ (n : Name). n .local) n),
               λ w. false≢true (sym (c .some) ∙ covering-is .into w),
@@ -200,7 +197,7 @@ module _ (f : Name → List ℕ → ℕ → List ℕ) (m : ℕ) (a b : List ℕ)
 
     validates-again : number f (validating m out) s size ≡ 0
     validates-again =
-        valid-one s size out ∙ ap (λ (q : Handle). firstOf (oneRows f s size m q)) back ∙ clear-one
+        valid-one f s size m out ∙ ap (λ (q : Handle). firstOf (oneRows f s size m q)) back ∙ clear-one
 
     in-words : JoinedInWords f m a b c
     in-words =

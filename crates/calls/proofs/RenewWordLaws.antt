@@ -18,20 +18,19 @@ use Rattle.handle.proofs.HandleLaws.{through-flat}
 use Rattle.store.specs.declared.Cluster.{Cluster}
 use Rattle.store.specs.declared.Store.{Store}
 use Rattle.store.specs.Records.{primaryOf}
-use Rattle.calls.specs.Calls.{newPassword, among, reducing, renewing, validating}
+use Rattle.calls.specs.Calls.{newPassword, among, renewing, validating}
 use Rattle.calls.specs.Numbers.{oldPassword, at, rows, number, tests}
 use Rattle.calls.specs.Clear.{Clear}
 use Rattle.calls.specs.Words.{SamePassword, clusterOf, Current}
 use Rattle.calls.specs.JoinWords.{Primary}
 use Rattle.calls.specs.RenewWords.{Holder, RenewInWords, OldOnly}
 use Rattle.calls.proofs.FirstLaws.{first-holding, first-above, first-clear}
-use Rattle.calls.proofs.StepLaws.{number-validate}
 use Rattle.calls.proofs.TestLaws.{Is, off-is}
 use Rattle.calls.proofs.KindLaws.{kind-is, only-kind}
 use Rattle.calls.proofs.SelectorWords.{primary-is, password-is, four}
 use Rattle.calls.proofs.WordLaws.{current-is}
 use Rattle.calls.proofs.DoneLaws.{done-mode}
-use Rattle.calls.proofs.JoinNumberLaws.{oneRows, one-numbered, number-one}
+use Rattle.calls.proofs.JoinNumberLaws.{row, oneRows, one-numbered, valid-one}
 
 -- only the row of 12 has that number, and it is about call 9
 pub old-only : (f : Name → List ℕ → ℕ → List ℕ) → OldOnly f
@@ -70,8 +69,7 @@ module _ (f : Name → List ℕ → ℕ → List ℕ) (m : ℕ) (a p : List ℕ)
   old = samePassword p (primaryOf c m)
 
   abbrev lower : List Row
-  lower =
-      record { number = 10; applies = not (allFlat 8 (h .selector)) } ∷ record { number = 12; applies = old } ∷ []
+  lower = row 10 (not (allFlat 8 (h .selector))) ∷ row 12 old ∷ []
 
   abbrev told : ℕ
   told = number f (renewing m a p) s size
@@ -80,7 +78,7 @@ module _ (f : Name → List ℕ → ℕ → List ℕ) (m : ℕ) (a p : List ℕ)
   valid = number f (validating m a) s size
 
   valid-is : valid ≡ firstOf upper
-  valid-is = number-validate f (reducing m a .args) s size ∙ number-one f s size m a
+  valid-is = valid-one f s size m a
 
   told-is : told ≡ firstOf (upper ++ lower)
   unfolding number tests

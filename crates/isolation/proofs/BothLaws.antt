@@ -4,26 +4,26 @@
 use mathlib.Core.Path.{_≡_, refl, sym, ap, _∙_}
 use mathlib.Core.Logic.{_⊎_, inl, inr}
 use Prim.Native.Nat.{ℕ, _*_, _+_}
-use mathlib.Core.Bool.{Bool, false, not, _||_}
+use mathlib.Core.Bool.{false, not, _||_}
 use mathlib.Core.List.{List, [], _∷_}
 use lib.Dec.{leb}
 use lib.ListN.{length}
 use borrow.Author.Tests.{not-false}
 use Rattle.handle.specs.declared.Handle.{Handle}
-use Rattle.handle.specs.Handles.{Name, nameOf, decoded, Row, firstOf, noSuchPlace, validates}
+use Rattle.handle.specs.Handles.{Name, nameOf, decoded, firstOf, noSuchPlace, validates}
 use Rattle.store.specs.declared.Cluster.{Cluster}
 use Rattle.store.specs.declared.Store.{Store}
 use Rattle.store.specs.Records.{clusterAt, withPassword}
 use Rattle.store.specs.Sound.{sound}
-use Rattle.calls.specs.Calls.{Copy, Call, reducing, renewing, validating, recordNamed}
+use Rattle.calls.specs.Calls.{Copy, Call, renewing, validating, recordNamed}
 use Rattle.calls.specs.Clear.{Clear}
 use Rattle.calls.specs.Numbers.{unsound, valid, number}
 use Rattle.calls.specs.Words.{clusterOf}
 use Rattle.calls.specs.JoinWords.{Together}
 use Rattle.calls.specs.Steps.{Outcome, step}
 use Rattle.calls.proofs.FirstLaws.{first-clear}
-use Rattle.calls.proofs.StepLaws.{number-validate, step-number, step-done}
-use Rattle.calls.proofs.JoinNumberLaws.{gap, idle, oneRows, one-numbered, number-one}
+use Rattle.calls.proofs.StepLaws.{step-number, step-done}
+use Rattle.calls.proofs.JoinNumberLaws.{row, gap, idle, oneRows, one-numbered, valid-one}
 use Rattle.calls.proofs.RenewWordLaws.{renew-in-words}
 use Rattle.calls.proofs.DoneLaws.{no-row, done-mode}
 use Rattle.isolation.specs.Copies.{SoundCopy}
@@ -37,32 +37,29 @@ module _ (f : Name → List ℕ → ℕ → List ℕ) where
   abbrev validated : ℕ → List ℕ → Copy → ℕ
   validated m a c = number f (validating m a) (c .store) (length (c .memory))
 
-  valid-one : (m : ℕ) (a : List ℕ) (c : Copy)
-      → validated m a c ≡ firstOf (oneRows f (c .store) (length (c .memory)) m (decoded a))
-  valid-one m a c =
-      number-validate f (reducing m a .args) (c .store) (length (c .memory))
-      ∙ number-one f (c .store) (length (c .memory)) m a
-
   -- where the passwords are one, so is what validation gets
   same-modes : (b : List ℕ) (c : Copy) → clusterOf (decoded b) (c .store) .read ≡ clusterOf (decoded b) (c .store) .write
       → validated 1 b c ≡ validated 2 b c
   same-modes b c e =
-      valid-one 1 b c
+      valid-one f s size 1 b
       ∙ ap
       (λ (p : List ℕ).
       firstOf
-      (row 1 (not (sound (c .store) (length (c .memory))))
+      (row 1 (not (sound s size))
       ∷ row 2 (noSuchPlace h)
       ∷ row 3 false
-      ∷ row 4 (gap f (c .store) (length (c .memory)) 1 h)
-      ∷ row 8 (idle f (c .store) (length (c .memory)) 1 h)
+      ∷ row 4 (gap f s size 1 h)
+      ∷ row 8 (idle f s size 1 h)
       ∷ row 9 (not (validates 8 (f (nameOf h)) p h))
       ∷ []))
       e
-      ∙ sym (valid-one 2 b c)
+      ∙ sym (valid-one f s size 2 b)
     where
-      row : ℕ → Bool → Row
-      row n t = record { number = n; applies = t }
+      s : Store
+      s = c .store
+
+      size : ℕ
+      size = length (c .memory)
 
       h : Handle
       h = decoded b
@@ -116,7 +113,7 @@ module _ (f : Name → List ℕ → ℕ → List ℕ) where
     clear : Clear (oneRows f s size m h)
     clear =
         first-clear (oneRows f s size m h) (one-numbered f s size m h)
-        (sym (valid-one m a c) ∙ renew-in-words f m a p la s size .done .0 e .0 .0)
+        (sym (valid-one f s size m a) ∙ renew-in-words f m a p la s size .done .0 e .0 .0)
 
     sound-after : SoundCopy after
     unfolding unsound
@@ -131,7 +128,7 @@ module _ (f : Name → List ℕ → ℕ → List ℕ) where
     given-valid : validated m given after ≡ 0
     unfolding valid
     given-valid =
-        valid-one m given after
+        valid-one f (after .store) (length (after .memory)) m given
         ∙ simp (
           sound-after,
           ap (λ (n : Name). leb 4 (n .node) || leb 8 (n .local)) name ∙ clear .1 .0,
