@@ -1,4 +1,4 @@
-/* Calls every function of the library once or twice, with arguments that all differ, and checks what it gives. */
+/* Calls every function of the library, with arguments that all differ, and checks what it gives. */
 #include "gelmuszta.h"
 #include <stdio.h>
 #include <string.h>

@@ -14,6 +14,7 @@ use Rattle.store.specs.Sound.{sound}
 use Rattle.calls.specs.Calls.{Call}
 use Rattle.calls.specs.Numbers.{number, tests}
 use Rattle.calls.specs.Cases.{added, sample, marked, Case, calls, named, damaged, refusals, frozen, NumbersGiven}
+use Rattle.calls.specs.NearCases.{nears, NearGiven}
 use Rattle.calls.specs.JoinCases.{joins, joinsApart, JoinsGiven}
 use Rattle.calls.specs.Orders as order
 use Rattle.calls.proofs.Computing.{computing, sounding}
@@ -43,6 +44,10 @@ asked os = map (λ (o : order.Order). o .call) os
 refusals-below : below sample (calls refusals) ≡ named refusals
 unfolding tests computing
 refusals-below = refl
+
+nears-below : below sample (calls nears) ≡ named nears
+unfolding tests computing
+nears-below = refl
 
 joins-below : below sample (calls joins) ≡ named joins
 unfolding tests computing
@@ -92,6 +97,9 @@ numbers-given =
       refusals = numbers-below sample sample-sound (calls refusals) ∙ refusals-below;
       frozen = numbers-below marked marked-sound (calls frozen) ∙ frozen-below;
     }
+
+pub near-given : NearGiven
+near-given = numbers-below sample sample-sound (calls nears) ∙ nears-below
 
 pub joins-given : JoinsGiven
 joins-given =

@@ -18,12 +18,12 @@ use Rattle.handle.proofs.HandleLaws.{through-flat}
 use Rattle.store.specs.declared.Cluster.{Cluster}
 use Rattle.store.specs.declared.Store.{Store}
 use Rattle.store.specs.Records.{primaryOf}
-use Rattle.calls.specs.Calls.{newPassword, among, renewing, validating}
+use Rattle.calls.specs.Calls.{newPassword, among, validating}
 use Rattle.calls.specs.Numbers.{oldPassword, at, rows, number, tests}
 use Rattle.calls.specs.Clear.{Clear}
 use Rattle.calls.specs.Words.{SamePassword, clusterOf, Current}
 use Rattle.calls.specs.JoinWords.{Primary}
-use Rattle.calls.specs.RenewWords.{Holder, RenewInWords, OldOnly}
+use Rattle.calls.specs.RenewWords.{validated, Holder, renewed, RenewInWords, OldOnly}
 use Rattle.calls.proofs.FirstLaws.{first-holding, first-above, first-clear}
 use Rattle.calls.proofs.TestLaws.{Is, off-is}
 use Rattle.calls.proofs.KindLaws.{kind-is, only-kind}
@@ -55,7 +55,7 @@ two-done true true e = absurd (omega arith)
 two-done true false e = (refl, refl)
 two-done false u e = absurd (omega arith)
 
-module _ (f : Name → List ℕ → ℕ → List ℕ) (m : ℕ) (a p : List ℕ) (long : length a ≡ 23) (s : Store) (size : ℕ) where
+module _ (f : Name → List ℕ → ℕ → List ℕ) (m : ℕ) (a : List ℕ) (s : Store) (size : ℕ) (p : List ℕ) where
   abbrev h : Handle
   h = decoded a
 
@@ -72,10 +72,10 @@ module _ (f : Name → List ℕ → ℕ → List ℕ) (m : ℕ) (a p : List ℕ)
   lower = row 10 (not (allFlat 8 (h .selector))) ∷ row 12 old ∷ []
 
   abbrev told : ℕ
-  told = number f (renewing m a p) s size
+  told = renewed f m a s size p
 
   abbrev valid : ℕ
-  valid = number f (validating m a) s size
+  valid = validated f m a s size
 
   valid-is : valid ≡ firstOf upper
   valid-is = valid-one f s size m a
@@ -99,54 +99,56 @@ module _ (f : Name → List ℕ → ℕ → List ℕ) (m : ℕ) (a p : List ℕ)
   other-number : valid ≢ 12
   other-number e = false≢true (first-holding upper 12 (omega arith) (sym valid-is ∙ e))
 
-  flat-is : Is (allFlat 8 (h .selector)) (Primary h)
-  flat-is = primary-is h (four a long)
-
   old-is : valid ≡ 0 → Is old (Current m c p)
   old-is e = current-is m c p (done-mode f (validating m a) s size e)
 
-  -- of a holder
-  module _ (v : valid ≡ 0) (q : Primary h) where
-    last : told ≡ cond old 12 0
-    last = below v ∙ ap (λ (t : Bool). two t old) (flat-is .into q)
-
-    -- the handle's password is that of the mode
-    in-hand : SamePassword (primaryOf c m) (h .password)
-    unfolding validates
-    in-hand =
-        password-is (primaryOf c m) (h .password) .out
-        (ap (λ (r : List ℕ). samePassword r (h .password))
-        (sym (through-flat 8 (f (nameOf h)) (h .selector) (primaryOf c m) (flat-is .into q)))
-        ∙ not-false (validates 8 (f (nameOf h)) (primaryOf c m) h)
-        (clear v .1 .1 .1 .1 .1 .0))
-
-    own : Current m c p ↔ SamePassword p (h .password)
-    own = (
-      λ w k l. password-is p (primaryOf c m) .out (old-is v .into w) k l ∙ in-hand k l,
-      λ w. old-is v .out (password-is p (primaryOf c m) .into (λ k l. w k l ∙ sym (in-hand k l))),
-    )
-
-  pub renew-in-words : RenewInWords f m a p s size
-  renew-in-words =
-      record {
-        above = above;
-        weak = λ v n. below v ∙ ap (λ (t : Bool). two t old) (off-is flat-is n);
-        old = (out-old (ℕ-discrete valid 0), λ r. given (r .0) (old-is (r .0 .0) .into (r .1)));
-        done = (out-done (ℕ-discrete valid 0), λ r. given (r .0) (off-is (old-is (r .0 .0)) (r .1)));
-        own = λ r. own (r .0) (r .1);
-      }
+  -- a call 9 that is done has shown that the handle validates, is primary, and brings another password
+  pub renew-done : told ≡ 0 → (valid ≡ 0) × (allFlat 8 (h .selector) ≡ true) × (old ≡ false)
+  renew-done e = go (ℕ-discrete valid 0)
     where
-      given : {t : Bool} → Holder f m a p s size → old ≡ t → told ≡ cond t 12 0
-      given r e = last (r .0) (r .1) ∙ ap (λ (t : Bool). cond t 12 0) e
+      go : Dec (valid ≡ 0) → (valid ≡ 0) × (allFlat 8 (h .selector) ≡ true) × (old ≡ false)
+      go (yes v) = let r = two-done (allFlat 8 (h .selector)) old (sym (below v) ∙ e) in (v, r .0, r .1)
+      go (no v) = absurd (v (sym (above v) ∙ e))
 
-      out-old : Dec (valid ≡ 0) → told ≡ 12 → Holder f m a p s size × Current m c p
-      out-old (yes v) e =
-          let r = two-old (allFlat 8 (h .selector)) old (sym (below v) ∙ e) in
-          ((v, flat-is .out (r .0)), old-is v .out (r .1))
-      out-old (no v) e = absurd (other-number (sym (above v) ∙ e))
+  -- where it validates and is primary, its password is that of the mode
+  pub in-hand : valid ≡ 0 → allFlat 8 (h .selector) ≡ true → SamePassword (primaryOf c m) (h .password)
+  unfolding validates
+  in-hand v t =
+      password-is (primaryOf c m) (h .password) .out
+      (ap (λ (r : List ℕ). samePassword r (h .password))
+      (sym (through-flat 8 (f (nameOf h)) (h .selector) (primaryOf c m) t))
+      ∙ not-false (validates 8 (f (nameOf h)) (primaryOf c m) h) (clear v .1 .1 .1 .1 .1 .0))
 
-      out-done : Dec (valid ≡ 0) → told ≡ 0 → Holder f m a p s size × ¬ Current m c p
-      out-done (yes v) e =
-          let r = two-done (allFlat 8 (h .selector)) old (sym (below v) ∙ e) in
-          ((v, flat-is .out (r .0)), λ w. false≢true (sym (r .1) ∙ old-is v .into w))
-      out-done (no v) e = absurd (v (sym (above v) ∙ e))
+  module _ (long : length a ≡ 23) where
+    flat-is : Is (allFlat 8 (h .selector)) (Primary h)
+    flat-is = primary-is h (four a long)
+
+    pub renew-in-words : RenewInWords f m a s size p
+    renew-in-words =
+        record {
+          above = above;
+          weak = λ v n. below v ∙ ap (λ (t : Bool). two t old) (off-is flat-is n);
+          old = (out-old (ℕ-discrete valid 0), λ r. given (r .0) (old-is (r .0 .0) .into (r .1)));
+          done = (out-done, λ r. given (r .0) (off-is (old-is (r .0 .0)) (r .1)));
+          own = λ r. own (r .0) (in-hand (r .0) (flat-is .into (r .1)));
+        }
+      where
+        given : {t : Bool} → Holder f m a s size → old ≡ t → told ≡ cond t 12 0
+        given r e = below (r .0) ∙ (λ j. two (flat-is .into (r .1) j) (e j))
+
+        out-old : Dec (valid ≡ 0) → told ≡ 12 → Holder f m a s size × Current m c p
+        out-old (yes v) e =
+            let r = two-old (allFlat 8 (h .selector)) old (sym (below v) ∙ e) in
+            ((v, flat-is .out (r .0)), old-is v .out (r .1))
+        out-old (no v) e = absurd (other-number (sym (above v) ∙ e))
+
+        out-done : told ≡ 0 → Holder f m a s size × ¬ Current m c p
+        out-done e =
+            let r = renew-done e in
+            ((r .0, flat-is .out (r .1)), λ w. false≢true (sym (r .2) ∙ old-is (r .0) .into w))
+
+        own : valid ≡ 0 → SamePassword (primaryOf c m) (h .password) → Current m c p ↔ SamePassword p (h .password)
+        own v g = (
+          λ w k l. password-is p (primaryOf c m) .out (old-is v .into w) k l ∙ g k l,
+          λ w. old-is v .out (password-is p (primaryOf c m) .into (λ k l. w k l ∙ sym (g k l))),
+        )

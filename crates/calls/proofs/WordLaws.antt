@@ -26,8 +26,8 @@ use Rattle.store.specs.SoundWords.{SoundInWords}
 use Rattle.store.specs.PlacementWords.{Room}
 use Rattle.store.proofs.SoundWordLaws.{sound-in-words}
 use Rattle.store.proofs.PlacementWordLaws.{placement-in-words}
-use Rattle.calls.specs.Calls.{Call, newSegment, read, write, weaken, newPassword}
-use Rattle.calls.specs.Calls.{among, isLook, uses, handleOf, otherOf}
+use Rattle.calls.specs.Calls.{Call, Kind, call, newSegment, read, write, weaken, newPassword}
+use Rattle.calls.specs.Calls.{among, isLook, uses, needed, handleOf, otherOf}
 use Rattle.calls.specs.Calls.{buffer, recordNamed}
 use Rattle.calls.specs.Numbers.{unsound, noPlace, badMode, badSegment, badSize, badField, gappedHandle, joinApart, elsewhere}
 use Rattle.calls.specs.Numbers.{inUse, twins, inactiveCluster, joinWhole, notPrimary, clusterFrozen, notReferenced, oldPassword}
@@ -35,9 +35,10 @@ use Rattle.calls.specs.Numbers.{segmentPresent, segmentAbsent, segmentFr
 use Rattle.calls.specs.Words.{Named, Handled, Joining, Taken, GappedHandle, SamePassword, clusterOf, Current, place, Unsound, NoSuchPlace, Field}
 use Rattle.calls.specs.Words.{Gapped, Apart, Whole, Elsewhere, InUse, Twins, Inactive, NotPrimary, NotReferenced, OldPassword}
 use Rattle.calls.specs.Words.{ClusterFrozen, SegmentPresent, SegmentAbsent, SegmentFrozen, Short, NoRoom, Empty, Spent}
-use Rattle.calls.proofs.TestLaws.{Is, map-is, same-is, not-is, then-is, and-is, or-is, three-is, holds-is}
+use Rattle.calls.proofs.TestLaws.{Is, map-is, same-is, off-is, not-is, then-is, and-is, or-is, three-is, holds-is}
 use Rattle.calls.proofs.TestLaws.{fails-is, eq-is, le-is, lt-is, some-is}
-use Rattle.calls.proofs.KindLaws.{kind-is, but-is, other-kind}
+use Rattle.calls.proofs.KindLaws.{kind-is, only-kind, but-is, other-kind}
+use Rattle.calls.proofs.CallLaws.{mode-known}
 use Rattle.calls.proofs.SelectorWords.{references-is, other-is, gapped-is, empty-is, spent-is, whole-is, password-is, four}
 use Rattle.calls.proofs.PresentedWords.{local-is, opens-is, own-record, handle-record, handle-node, handle-place}
 use Rattle.calls.proofs.PresentedWords.{presented-is, alone-is}
@@ -167,15 +168,9 @@ module _ (x : Call) where
 
   -- call 9 names one of the two modes, where row 3 does not apply
   renewal-mode : ¬ Field x → Named (newPassword ∷ []) x → (x .args .mode ≡ 1) ⊎ (x .args .mode ≡ 2)
-  unfolding Named
-  renewal-mode c n = go n (ℕ-discrete (x .args .mode) 1) (ℕ-discrete (x .args .mode) 2)
-    where
-      go : Named (newPassword ∷ []) x → Dec (x .args .mode ≡ 1) → Dec (x .args .mode ≡ 2)
-          → (x .args .mode ≡ 1) ⊎ (x .args .mode ≡ 2)
-      go n (yes e) q = inl e
-      go n (no p) (yes e) = inr e
-      go (inl n) (no p) (no q) = absurd (c (inl (inr (inl n), p, q)))
-      go (inr n) (no p) (no q) = absurd n
+  renewal-mode c n =
+      subst (λ (m : ℕ). (m ≡ 1) ⊎ (m ≡ 2)) (ap (λ (k : Kind). needed (call k (x .args))) (only-kind newPassword x n))
+      (mode-known x (off-is badField-is c))
 
   module _ (s : Store) where
     pub unsound-is : (size : ℕ) → Is (unsound size x s) (Unsound size x s)

@@ -15,8 +15,8 @@
 --     beside b                  the primary handle of that cluster
 --     Case, gives               a number and a call that gets it
 --     damaged                   a call of every kind on a slice that lacks a byte: weakening alone does not get 1
---     refusals                  for each number from 2 on but 22, a call of each kind that its row names; a look and a
---                               freeze done
+--     refusals                  for each number from 2 on but 22, a call of each kind that its row names; a look, a freeze
+--                               and new passwords done
 --     frozen                    where the segment is frozen: 22 for each call that its rows name, and all others as ever
 --     toldOn s size cs          the numbers that the calls of the cases cs get on a store
 --     calls cs, named cs        the calls of the cases, and the numbers that they name

@@ -15,6 +15,7 @@ pub mod EmptyWords
 pub mod Examples
 pub mod Cases
 pub mod JoinCases
+pub mod NearCases
 pub mod Orders
 pub mod Bounds
 pub mod Written

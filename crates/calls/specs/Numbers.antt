@@ -1,7 +1,7 @@
 -- Document 01, "Numbers a call may be turned down with": the rows 1 to 17, and document 02's 21 to 24, a test for each, in
 -- the order in which they are looked at; 22 stands in two places. Where a row names call 5, a look is meant too, except in
 -- row 15; and a look has row 5. Call 10 has the rows that document 01 gives to call 4. Of call 11 rows 2, 4, 8 and 9 apply
--- if they apply to either of its handles.
+-- if they apply to either of its handles. Row 12 is as document 02 narrows it.
 --     unsound              1, all but 7: the store is not sound
 --     noPlace              2: a node above 3 or a local number above 7, in a handle or in the call
 --     badField             3: badMode, not 1 or 2; badSegment, above 7; badSize, 0 or above 4,096

@@ -1,9 +1,9 @@
 -- Document 01, "Numbers a call may be turned down with", row by row in the table's own words and numbers, with document
--- 02's 21; its 22, in two places; its call 10, which has the rows of call 4; its call 11, of two handles, with 23 and 24; and
--- the look, which has the rows of call 5 but 15, and row 5. Nothing here is a test, and `number` (Numbers) is held to it
--- both ways. The calls that a row names are listed by kind, in the order of their codes, validation and the look last;
--- validation stands with call 8, whose number it gives. The cluster of node v and local number l is record v * 8 + l. Bits,
--- subselectors and references are the handle crate's words.
+-- 02's 21; its 22, in two places; its call 10, which has the rows of call 4; its call 11, of two handles, with 23 and 24;
+-- its 12, of one mode; and the look, which has the rows of call 5 but 15, and row 5. Nothing here is a test, and `number`
+-- (Numbers) is held to it both ways. The calls that a row names are listed by kind, in the order of their codes, validation
+-- and the look last; validation stands with call 8, whose number it gives. The cluster of node v and local number l is
+-- record v * 8 + l. Bits, subselectors and references are the handle crate's words.
 --     Named ks x           the call x is of one of the kinds ks
 --     Handled x            the call takes a handle: all but 1
 --     Joining x            it takes a second one: 11

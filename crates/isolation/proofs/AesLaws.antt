@@ -13,7 +13,7 @@ use Rattle.isolation.specs.Witness.{one, two, tries, Concluded, Bites}
 use Rattle.isolation.specs.ReaderWitness.{Unharmed}
 use Rattle.isolation.specs.Frozen.{FrozenStays, FixedFromThenOn}
 use Rattle.isolation.specs.FrozenWitness.{Standing}
-use Rattle.isolation.specs.Renewals.{OtherUntold, GuessesUntold, BothOpened}
+use Rattle.isolation.specs.Renewals.{OtherUntold, GuessesUntold, BothOpened, Revoked}
 use Rattle.isolation.specs.Checks.{ValidationJudges}
 use Rattle.isolation.proofs.KeptLaws.{sound-kept}
 use Rattle.isolation.proofs.TwoCopies.{two-copies}
@@ -24,7 +24,7 @@ use Rattle.isolation.proofs.ReaderWitnessLaws.{unharmed}
 use Rattle.isolation.proofs.FrozenLaws.{frozen-stays, fixed-from-then-on}
 use Rattle.isolation.proofs.FrozenWitnessLaws.{standing}
 use Rattle.isolation.proofs.RenewalLaws.{other-untold, guesses-untold}
-use Rattle.isolation.proofs.BothLaws.{both-opened}
+use Rattle.isolation.proofs.RenewedLaws.{revoked, both-opened}
 
 pub aes-sixteen : SixteenBytes product
 aes-sixteen n = length-conversion
@@ -52,6 +52,9 @@ aes-guesses-untold = guesses-untold product
 
 pub aes-both-opened : BothOpened product
 aes-both-opened = both-opened product
+
+pub aes-revoked : Revoked product
+aes-revoked = revoked product
 
 pub aes-validation-judges : ValidationJudges product
 aes-validation-judges = validation-judges product aes-sixteen

@@ -16,7 +16,7 @@ pub mod ReaderWitnessLaws
 pub mod FrozenWitnessLaws
 pub mod GivenLaws
 pub mod RenewalLaws
-pub mod BothLaws
+pub mod RenewedLaws
 pub mod RenewalReplyLaws
 pub mod EffectLaws
 pub mod ReadLaws

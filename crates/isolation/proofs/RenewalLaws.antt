@@ -25,6 +25,7 @@ use Rattle.calls.proofs.CallLaws.{mode-known}
 use Rattle.calls.proofs.StepLaws.{step-refused, step-done}
 use Rattle.calls.proofs.DoneLaws.{done-active}
 use Rattle.calls.proofs.MadeWordLaws.{active-in}
+use Rattle.isolation.specs.Copies.{Done}
 use Rattle.isolation.specs.Renewals.{SameButOther, Untold, OtherUntold, GuessesUntold}
 use Rattle.isolation.proofs.NumberLaws.{rows-number}
 
@@ -77,11 +78,8 @@ module _ (f : Name → List ℕ → ℕ → List ℕ) (m : ℕ) (h p : List ℕ)
   abbrev after : Copy → Store
   after c = left newPassword x c .store
 
-  abbrev Done : Copy → Type 0
-  Done c = number f x (c .store) (length (c .memory)) ≡ 0
-
   -- what call 9 leaves of each record
-  module _ (c : Copy) (e : Done c) where
+  module _ (c : Copy) (e : Done f x c) where
     pub renewed : (k : ℕ) → k ≡ own → clusterAt (after c) k ≡ withPassword (clusterAt (c .store) k) m p
     unfolding left passwordReplaced
     renewed k q =
@@ -101,7 +99,7 @@ module _ (f : Name → List ℕ → ℕ → List ℕ) (m : ℕ) (h p : List ℕ)
         (λ place even fields o k i. inl (passwords m n a b same (mode-known x fields) (recordNamed k)))
         ∙ ap (λ (l : List ℕ). number f x (b .store) (length l)) (same .memory)
 
-    module _ (ea : Done a) (eb : Done b) where
+    module _ (ea : Done f x a) (eb : Done f x b) where
       -- what is the same of a record as it was, and with the new password, is the same of what is left
       kept : {A : Type 0} (g : Cluster → A) (k : ℕ) → g (clusterAt (a .store) k) ≡ g (clusterAt (b .store) k)
           → g (withPassword (clusterAt (a .store) k) m p) ≡ g (withPassword (clusterAt (b .store) k) m p)

@@ -1,17 +1,18 @@
 -- Document 02, §6, as computed lists, from the starting store; handles and replies are written out.
 --     weak b                    a handle of node 1 and local number 2 that references segment 5 alone: its password is
 --                               sixteen bytes b and 32, the parameter that keeps segment 5
---     renewCalls, renewReplies  12 for the password of the mode named, in each mode. The read password as a new write password
---                               is taken: then one handle reads and writes, weakened too, and is reduced and joined in both
---                               modes, and 12 is still for the own password. Another password ends it; the write password as
---                               a new read password is taken as well. Two equal passwords for a new cluster are still twins
+--     renewCalls, renewReplies  12 for the password of the mode named, in each mode. The read password as a new write
+--                               password is taken: then one handle is good for every kind of call, weakened too, and in
+--                               both modes, and 12 is still for the own password. Another password ends it; the write
+--                               password as a new read password is taken as well. Two equal passwords for a new cluster
+--                               are still twins
 --     BothDone                  they are the replies, by the conversion of the numbers' lists, and both passwords of the
 --                               record that is left are sixteen bytes 6
 --     alone r w                 the copy with one cluster, node 1 and local number 2, of the passwords sixteen r and w
---     tries                     new passwords for its mode 1, among them both write passwords below
---     Guessed                   two copies that differ in the write password alone, and the same for mode 2 and the read
---                               password: the hypothesis on copies of which nothing is told can be met; and the replies to
---                               these tries, for every conversion
+--     tries, answers            new passwords for one mode of it, among them both that the other mode has in the copies
+--                               below; and the replies
+--     Guessed                   two copies that differ in the write password alone, and two that differ in the read password
+--                               alone, are what the theorem speaks of; by every conversion these are the replies
 -- Assumes nothing.
 use mathlib.Core.Path.{_≡_}
 use Prim.Native.Nat.{ℕ, _+_}
@@ -21,11 +22,11 @@ use lib.ListN.{replicate}
 use Rattle.handle.specs.Handles.{Name}
 use Rattle.store.specs.declared.Place.the-variants.{Absent}
 use Rattle.store.specs.Records.{startingStore, clusterAt, putRecord}
-use Rattle.calls.specs.Calls.{Copy, start, Call, makingCluster, makingSegment, reading, writing, reducing, renewing, joining}
-use Rattle.calls.specs.Calls.{validating}
+use Rattle.calls.specs.Calls.{Copy, start, Call, makingCluster, deletingCluster, makingSegment, deletingSegment, reading}
+use Rattle.calls.specs.Calls.{writing, reducing, renewing, freezing, joining, validating, looking}
 use Rattle.calls.specs.Steps.{Reply, Ran, run}
 use Rattle.calls.specs.Cases.{added}
-use Rattle.calls.specs.Literals.{sixteen, handle, primary, none, told}
+use Rattle.calls.specs.Literals.{sixteen, handle, primary, none, told, shows}
 use Rattle.isolation.specs.Renewals.{SameButOther, Guess, guesses}
 
 abbrev weak : ℕ → List ℕ
@@ -51,6 +52,10 @@ renewCalls =
     ∷ reducing 2 (weak 3)
     ∷ joining 1 (weak 3) (weak 3)
     ∷ joining 2 (weak 3) (weak 3)
+    ∷ makingSegment 1 6 2 (primary 1 2 3)
+    ∷ deletingSegment 1 6 (primary 1 2 3)
+    ∷ freezing 1 5 (primary 1 2 3)
+    ∷ looking 1 5 (primary 1 2 3)
     -- the own password, while the two are equal
     ∷ renewing 1 (primary 1 2 3) (sixteen 3)
     ∷ renewing 2 (primary 1 2 3) (sixteen 3)
@@ -63,6 +68,10 @@ renewCalls =
     ∷ validating 1 (primary 1 2 3)
     ∷ validating 1 (primary 1 2 6)
     ∷ validating 2 (primary 1 2 6)
+    -- a cluster is deleted with such a handle, and is not made with two equal passwords
+    ∷ makingCluster 1 3 (sixteen 6) (sixteen 7)
+    ∷ renewing 1 (primary 1 3 6) (sixteen 7)
+    ∷ deletingCluster 1 (primary 1 3 7)
     ∷ makingCluster 1 3 (sixteen 6) (sixteen 6)
     ∷ []
 
@@ -85,6 +94,10 @@ renewReplies =
     ∷ told 0 (weak 3) none 0 0 []
     ∷ told 0 (weak 3) none 0 0 []
     ∷ told 0 (weak 3) none 0 0 []
+    ∷ told 0 none none 0 0 []
+    ∷ told 0 none none 0 0 []
+    ∷ told 0 none none 0 0 []
+    ∷ shows 0 (4 ∷ 5 ∷ 6 ∷ [])
     ∷ told 12 none none 0 0 []
     ∷ told 12 none none 0 0 []
     ∷ told 0 (primary 1 2 6) none 0 0 []
@@ -93,6 +106,9 @@ renewReplies =
     ∷ told 0 (primary 1 2 6) none 0 0 []
     ∷ told 9 none none 0 0 []
     ∷ told 0 none none 0 0 []
+    ∷ told 0 none none 0 0 []
+    ∷ told 0 (primary 1 3 6) (primary 1 3 7) 0 0 []
+    ∷ told 0 (primary 1 3 7) none 0 0 []
     ∷ told 0 none none 0 0 []
     ∷ told 7 none none 0 0 []
     ∷ []
