@@ -37,7 +37,7 @@ pub enum Renewal {
     ByWeaker(Use),
 }
 
-/// What a primary handle is not joined with anything for.
+/// All but a join, which is never done with a primary handle.
 const USES: [Use; 8] = [
     Read,
     Look,

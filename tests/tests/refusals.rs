@@ -144,7 +144,7 @@ fn not_referenced_before_absent() {
 
 #[test]
 fn violated_protection_and_not_primary_before_old_password() {
-    let mut bench = Bench::with_segment();
+    let mut state = Bench::with_segment();
     let both = [reader(), writer()];
     for (mode, own, other) in [
         (READ_MODE, reader(), writer()),
@@ -152,12 +152,12 @@ fn violated_protection_and_not_primary_before_old_password() {
     ] {
         let weaker = own.weaken(0x0f).unwrap();
         for password in both.map(|handle| handle.password) {
-            let number = |bench: &mut Bench, handle| bench.number(renew(mode, handle, password));
-            assert_eq!(number(&mut bench, other), 9);
-            assert_eq!(number(&mut bench, other.weaken(0x0f).unwrap()), 9);
-            assert_eq!(number(&mut bench, weaker), 10);
+            let number = |state: &mut Bench, handle| state.number(renew(mode, handle, password));
+            assert_eq!(number(&mut state, other), 9);
+            assert_eq!(number(&mut state, other.weaken(0x0f).unwrap()), 9);
+            assert_eq!(number(&mut state, weaker), 10);
         }
-        assert_eq!(bench.number(renew(mode, own, own.password)), 12);
+        assert_eq!(state.number(renew(mode, own, own.password)), 12);
     }
 }
 

@@ -17,28 +17,28 @@ const NEAR: Password = [1, 1, 1, 1, 1, 1, 1, 1, 1, 1, 1, 1, 1, 1, 1, 0];
 const FEW: [Password; 5] = [[0; 16], [1; 16], NEAR, [2; 16], [3; 16]];
 
 /// Cluster 2 of node 0 with a segment, and with these passwords for `mode` and for the other one.
-fn bench(mode: Mode, own: Password, other: Password) -> Bench {
-    let mut bench = Bench::with_segment();
-    let cluster = &mut bench.store.clusters[0][2];
+fn state(mode: Mode, own: Password, other: Password) -> Bench {
+    let mut state = Bench::with_segment();
+    let cluster = &mut state.store.clusters[0][2];
     (
         *cluster.primary_mut(mode),
         *cluster.primary_mut(mode.other()),
     ) = (own, other);
-    bench
+    state
 }
 
 /// The number that both give; their replies are equal. Afterwards each has the other mode's password that it had, and
 /// but for these nothing differs.
 fn number(mode: Mode, own: Password, others: [Password; 2], call: Call) -> u8 {
-    let mut benches = others.map(|other| bench(mode, own, other));
-    let [one, two] = benches.each_mut().map(|bench| bench.reply(call));
+    let mut states = others.map(|other| state(mode, own, other));
+    let [one, two] = states.each_mut().map(|state| state.reply(call));
     assert_eq!(one, two, "{own:?} {others:?} {call:?}");
-    let left = benches.each_mut().map(|bench| {
-        let cluster = &mut bench.store.clusters[0][2];
+    let left = states.each_mut().map(|state| {
+        let cluster = &mut state.store.clusters[0][2];
         std::mem::take(cluster.primary_mut(mode.other()))
     });
     assert_eq!(left, others, "{own:?} {call:?}");
-    assert!(benches[0] == benches[1], "{own:?} {others:?} {call:?}");
+    assert!(states[0] == states[1], "{own:?} {others:?} {call:?}");
     one.number
 }
 

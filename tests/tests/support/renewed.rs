@@ -98,7 +98,7 @@ fn with(choices: [usize; 10]) -> Renewed {
     }
 }
 
-/// The cluster beside it has the same passwords, and that of the starting place another one in both modes.
+/// The cluster beside it has the same passwords, and cluster 0 of node 0 has the third in both modes.
 fn store(mode: Mode, other: Password) -> Store {
     let active = Cluster {
         active: true,
