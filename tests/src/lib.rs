@@ -14,6 +14,7 @@
 //! - [`nothing`]: the ways to a handle that would reference nothing, for those who count what was met.
 //! - [`frozen`]: whether what is frozen stays, and what calls come to there, for those who watch them.
 //! - [`joins`]: how the two handles of a join meet, for those who count what was met.
+//! - [`renewals`]: what a new password meets, and what is done by a handle that opens both modes, for the same.
 //! - [`random`], [`generate`]: lists made by chance from a seed.
 //! - [`program`], [`streams`]: a program run, with its input and output in every way that they can come.
 
@@ -29,6 +30,7 @@ pub mod model;
 pub mod nothing;
 pub mod program;
 pub mod random;
+pub mod renewals;
 pub mod sizes;
 pub mod store;
 pub mod streams;

@@ -89,18 +89,34 @@ impl Extent {
     }
 }
 
-#[derive(Clone, Copy, Debug, PartialEq, Eq)]
+#[derive(Clone, Copy, Debug, PartialEq, Eq, PartialOrd, Ord)]
 pub enum Mode {
     Read,
     Write,
 }
 
 impl Mode {
+    pub const ALL: [Mode; 2] = [Mode::Read, Mode::Write];
+
     pub fn from_number(number: u32) -> Option<Mode> {
         match number {
             1 => Some(Mode::Read),
             2 => Some(Mode::Write),
             _ => None,
+        }
+    }
+
+    pub fn number(self) -> u32 {
+        match self {
+            Mode::Read => 1,
+            Mode::Write => 2,
+        }
+    }
+
+    pub fn other(self) -> Mode {
+        match self {
+            Mode::Read => Mode::Write,
+            Mode::Write => Mode::Read,
         }
     }
 }
@@ -135,6 +151,12 @@ impl Cluster {
         let zero = [0; PASSWORD_BYTES];
         let keeps_nothing = self.read == zero && self.write == zero && !self.has_segments();
         (self.active || keeps_nothing) && self.segments.iter().all(Segment::is_sound)
+    }
+
+    /// Whether it is active and one handle opens both its modes: call 1 makes no such cluster, but
+    /// call 9 may leave one.
+    pub fn has_equal_passwords(&self) -> bool {
+        self.active && self.read == self.write
     }
 
     pub fn primary(&self, mode: Mode) -> &Password {

@@ -6,14 +6,22 @@ use model::joins::Meeting;
 use model::list::{chain, output, reachable, records, request, run, Request, Session, CODE_AT};
 use model::nothing::Way;
 use model::random::Random;
+use model::renewals::Renewal;
 use model::sizes::MEMORY_BYTES;
 use std::collections::BTreeSet;
 
 const LISTS: usize = 300;
+/// So many reach all that has to be reached.
+const REACHING: usize = 500;
+
+/// As many as are taken.
+fn all(seed: u64) -> impl Iterator<Item = Vec<u8>> {
+    let mut seeds = Random::from_seed(seed);
+    std::iter::repeat_with(move || generate::list(&mut Random::from_seed(seeds.number())))
+}
 
 fn lists(seed: u64) -> impl Iterator<Item = Vec<u8>> {
-    let mut seeds = Random::from_seed(seed);
-    (0..LISTS).map(move |_| generate::list(&mut Random::from_seed(seeds.number())))
+    all(seed).take(LISTS)
 }
 
 #[test]
@@ -28,8 +36,9 @@ fn lists_reach_what_can_be_reached() {
     let mut ways = BTreeSet::new();
     let mut cases = BTreeSet::new();
     let mut meetings = BTreeSet::new();
+    let mut renewals = BTreeSet::new();
     let mut refused = BTreeSet::new();
-    for list in lists(1) {
+    for list in all(1).take(REACHING) {
         let text = run(&list, |found, record, reply| match request(record) {
             Request::BadCode => {}
             Request::Overlong(call) | Request::Call(call) => {
@@ -37,6 +46,7 @@ fn lists_reach_what_can_be_reached() {
                 ways.extend(Way::of(&call, reply.number));
                 cases.extend(Case::of(found, &call, reply.number));
                 meetings.extend(Meeting::of(found, &call, reply.number));
+                renewals.extend(Renewal::of(found, &call, reply.number));
             }
         });
         refused.extend(text.strip_prefix(b"list ").map(<[u8]>::to_vec));
@@ -45,6 +55,7 @@ fn lists_reach_what_can_be_reached() {
     assert_eq!(ways, Way::in_lists().collect());
     assert_eq!(cases, Case::in_lists().collect());
     assert!(meetings.is_superset(&Meeting::all().collect()));
+    assert_eq!(renewals, Renewal::in_lists().collect());
     assert_eq!(refused.len(), 3);
 }
 

@@ -143,17 +143,21 @@ fn not_referenced_before_absent() {
 }
 
 #[test]
-fn old_password_is_either_of_the_two() {
-    let mut bench = Bench::with_segment();
-    for (mode, handle) in [(READ_MODE, reader()), (WRITE_MODE, writer())] {
-        for password in [READ_SECRET, WRITE_SECRET] {
-            let call = Call::NewPassword {
-                mode,
-                handle,
-                password,
-            };
-            assert_eq!(bench.number(call), 12);
+fn violated_protection_and_not_primary_before_old_password() {
+    let mut state = Bench::with_segment();
+    let both = [reader(), writer()];
+    for (mode, own, other) in [
+        (READ_MODE, reader(), writer()),
+        (WRITE_MODE, writer(), reader()),
+    ] {
+        let weaker = own.weaken(0x0f).unwrap();
+        for password in both.map(|handle| handle.password) {
+            let number = |state: &mut Bench, handle| state.number(renew(mode, handle, password));
+            assert_eq!(number(&mut state, other), 9);
+            assert_eq!(number(&mut state, other.weaken(0x0f).unwrap()), 9);
+            assert_eq!(number(&mut state, weaker), 10);
         }
+        assert_eq!(state.number(renew(mode, own, own.password)), 12);
     }
 }
 

@@ -17,7 +17,7 @@ const ROWS: usize = 60;
 const ROW_CALLS: usize = 500;
 
 /// A call about one of two clusters, by a handle that opens it; few segments and small sizes, so that calls
-/// meet.
+/// meet. A new password is often the other mode's, so that one handle opens both.
 fn valid_call(random: &mut Random, bench: &Bench) -> Call {
     let local = random.below(2) as u8;
     let cluster = bench.store.clusters[0][usize::from(local)];
@@ -27,32 +27,39 @@ fn valid_call(random: &mut Random, bench: &Bench) -> Call {
     let other = handle.weaken(random.byte() | 2).expect("all are flat");
     let (node, segment, mode) = (0, random.below(4) as u32, WRITE_MODE);
     let password: Password = random.bytes();
+    let [read, write] = [cluster.write, cluster.read].map(|other| match random.one_in(2) {
+        true => other,
+        false => password,
+    });
     let size = 1 + random.below(40) as u32;
     #[rustfmt::skip]
-    let call = match random.below(41) {
+    let call = match random.below(42) {
         0..=3 => Call::NewCluster { node, local: local.into(), read: random.bytes(), write: password },
         4..=7 => Call::DeleteCluster { node, handle },
         8..=17 => Call::NewSegment { node, segment, size, handle },
         18..=23 => Call::DeleteSegment { node, segment, handle },
         24..=29 => Call::Write { segment, handle },
         30 | 31 => Call::Write { segment, handle: weaker },
-        32 => Call::NewPassword { mode, handle, password },
-        33 => Call::Reduce { mode, handle: weaker },
-        34 => Call::Weaken { mask: random.byte(), handle },
-        35 => Call::Read { segment, handle: reader },
-        36 => Call::Look { node, segment, handle: reader },
-        37 => Call::Validate { mode, handle },
-        38 => Call::Join { mode, handle: weaker, other },
+        32 => renew(WRITE_MODE, handle, write),
+        33 => renew(READ_MODE, reader, read),
+        34 => Call::Reduce { mode, handle: weaker },
+        35 => Call::Weaken { mask: random.byte(), handle },
+        36 => Call::Read { segment, handle: reader },
+        37 => Call::Look { node, segment, handle: reader },
+        38 => Call::Validate { mode, handle },
+        39 => Call::Join { mode, handle: weaker, other },
         _ => Call::Freeze { node, segment, handle },
     };
     call
 }
 
-/// Counts the calls that came to 22, and gives how many segments were frozen.
+/// Counts the calls that came to 22, and those of them by a handle that opens both modes; gives how many segments were
+/// frozen.
 fn row(random: &mut Random, refused: &mut BTreeMap<&'static str, usize>) -> usize {
     let (mut bench, mut watch) = (Bench::starting(), Watch::default());
     for _ in 0..ROW_CALLS {
         let call = valid_call(random, &bench);
+        let equal = bench.store.clusters[0].map(|cluster| cluster.has_equal_passwords());
         let mut buffer: [u8; 40] = random.bytes();
         let reply = bench.ask(call, &mut buffer);
         assert_eq!(watch.see(&bench.store, &bench.memory), Ok(()), "{call:?}");
@@ -64,6 +71,10 @@ fn row(random: &mut Random, refused: &mut BTreeMap<&'static str, usize>) -> usiz
             _ => "another call",
         };
         *refused.entry(name).or_default() += usize::from(reply.number == 22);
+        let by_both = call
+            .handle()
+            .is_some_and(|handle| equal[usize::from(handle.local)]);
+        *refused.entry("by both").or_default() += usize::from(reply.number == 22 && by_both);
     }
     watch.met()
 }
@@ -75,7 +86,7 @@ fn long_rows_by_handles_that_open_the_cluster() {
     let met: usize = (0..ROWS).map(|_| row(random, &mut refused)).sum();
     assert!(met > 2 * ROWS, "{met}");
     assert_eq!(refused.remove("another call"), Some(0));
-    assert_eq!(refused.len(), 3);
+    assert_eq!(refused.len(), 4);
     assert!(refused.values().all(|&count| count > ROWS), "{refused:?}");
 }
 

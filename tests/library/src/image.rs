@@ -2,7 +2,7 @@
 
 use model::handle::Password;
 use model::sizes::{CLUSTERS, NODES, PASSWORD_BYTES, SEGMENTS};
-use model::store::{Cluster, Place, Segment, Store};
+use model::store::{Cluster, Mode, Place, Segment, Store};
 use std::ops::Range;
 
 pub const READ_AT: usize = 1;
@@ -38,6 +38,16 @@ pub fn segment_at(node: usize, local: usize, segment: usize) -> Range<usize> {
 pub fn passwords_at(node: usize, local: usize) -> Range<usize> {
     let start = record_at(node, local).start;
     start + READ_AT..start + SEGMENTS_AT
+}
+
+/// Where a cluster's password for one mode lies.
+pub fn password_at(node: usize, local: usize, mode: Mode) -> Range<usize> {
+    let start = record_at(node, local).start
+        + match mode {
+            Mode::Read => READ_AT,
+            Mode::Write => WRITE_AT,
+        };
+    start..start + PASSWORD_BYTES
 }
 
 /// The image of a store. A present segment of length zero has none: it is written down all the

@@ -6,10 +6,10 @@
 //! - [`compare`]: one question put to both, and everything that has to be equal afterwards.
 //! - [`chance`]: stores, damage, handles and questions made by chance from a seed.
 //! - [`single`], [`runs`], [`edges`], [`batch`], [`copies`], [`published`]: what is compared.
-//! - [`stays`], [`laws`]: whether what is frozen stays, and what holds of joins, judged by the library's side
-//!   alone.
+//! - [`stays`], [`laws`], [`untold`]: whether what is frozen stays, what holds of joins, and what the reply to a new
+//!   password does not tell, judged by the library's side alone.
 //! - [`tally`], [`damages`], [`sights`]: which answers, fills, selectors, modes, damages, ways to nothing,
-//!   frozen segments, looks, freezes and joins were met.
+//!   frozen segments, looks, freezes, joins and new passwords were met.
 
 pub mod batch;
 pub mod chance;
@@ -28,3 +28,4 @@ pub mod sights;
 pub mod single;
 pub mod stays;
 pub mod tally;
+pub mod untold;

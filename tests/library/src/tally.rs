@@ -1,5 +1,5 @@
-//! Which answers, fills, damages, selectors, ways to nothing, frozen segments, looks, freezes and joins were met,
-//! and which still have to be.
+//! Which answers, fills, damages, selectors, ways to nothing, frozen segments, looks, freezes, joins and new passwords
+//! were met, and which still have to be.
 
 use crate::chance::damage::Damage;
 use crate::chance::stores::Fill;
@@ -12,6 +12,7 @@ use model::frozen::Case;
 use model::handle::FLAT;
 use model::joins::Meeting;
 use model::nothing::Way;
+use model::renewals::Renewal;
 use model::sizes::SUBSELECTORS;
 use model::table::{
     word, Found, ABSENT, APART, DONE, ELSEWHERE, EMPTY, FIELD, FROZEN, GAPPED, INACTIVE, IN_USE,
@@ -97,6 +98,7 @@ pub struct Tally {
     ways: BTreeMap<Way, u64>,
     cases: BTreeMap<Case, u64>,
     meetings: BTreeMap<Meeting, u64>,
+    renewals: BTreeMap<Renewal, u64>,
     sights: Sights,
     /// The numbers of weakenings beside a damaged store.
     beside_damage: BTreeMap<u8, u64>,
@@ -138,6 +140,9 @@ impl Tally {
         }
         for meeting in Meeting::of(&found, &question.call, answer.reply.number) {
             *self.meetings.entry(meeting).or_default() += 1;
+        }
+        if let Some(renewal) = Renewal::of(&found, &question.call, answer.reply.number) {
+            *self.renewals.entry(renewal).or_default() += 1;
         }
     }
 
@@ -208,6 +213,9 @@ impl Tally {
         let meetings = Meeting::all()
             .filter(|meeting| !self.meetings.contains_key(meeting))
             .map(|meeting| format!("not tried: a join, {meeting:?}"));
+        let renewals = Renewal::all()
+            .filter(|renewal| !self.renewals.contains_key(renewal))
+            .map(|renewal| format!("not tried: passwords, {renewal:?}"));
         let beside_damage = WEAKENING
             .iter()
             .filter(|number| !self.beside_damage.contains_key(number))
@@ -221,6 +229,7 @@ impl Tally {
             .chain(beside_damage)
             .chain(cases)
             .chain(meetings)
+            .chain(renewals)
             .chain(self.sights.missing())
     }
 }
@@ -251,6 +260,7 @@ impl fmt::Display for Tally {
         writeln!(to, "ways to nothing: {:?}", self.ways)?;
         writeln!(to, "something frozen: {:?}", self.cases)?;
         writeln!(to, "joins: {:?}", self.meetings)?;
+        writeln!(to, "passwords: {:?}", self.renewals)?;
         writeln!(to, "{}", self.sights)?;
         let beside = &self.beside_damage;
         writeln!(

@@ -8,8 +8,8 @@ use library::compare::is_sound;
 use library::copies::{Count, Kept};
 use library::image::{decode, encode, IMAGE_BYTES};
 use library::question::LOOK;
-use library::stays;
 use library::tally::Tally;
+use library::{stays, untold};
 use model::random::Random;
 use model::sizes::{CLUSTERS, MEMORY_BYTES, NODES, NODE_BYTES, NODE_SEGMENTS};
 use model::store::Store;
@@ -34,12 +34,16 @@ fn images_have_the_header_s_size_and_read_back() {
 #[test]
 fn stores_are_sound_and_as_full_as_they_say() {
     let mut random = Random::from_seed(2);
-    let mut marks = [0; 3];
+    let (mut marks, mut equal) = ([0; 3], [0; 2]);
     for _ in 0..TIMES {
         for fill in Fill::ALL {
             let store = store(&mut random, fill);
             assert!(store.is_sound(MEMORY_BYTES));
             note_marks(&store, &mut marks);
+            let active = store.clusters.as_flattened().iter();
+            for cluster in active.filter(|cluster| cluster.active) {
+                equal[usize::from(cluster.has_equal_passwords())] += 1;
+            }
             for node in 0..NODES {
                 let taken: usize = extents(&store, node).iter().map(|part| part.length).sum();
                 let free: usize = gaps(&store, node).iter().map(|part| part.length).sum();
@@ -57,6 +61,7 @@ fn stores_are_sound_and_as_full_as_they_say() {
         }
     }
     assert!(marks.iter().all(|&count| count > TIMES / 8), "{marks:?}");
+    assert!(equal[0] > 2 * equal[1] && equal[1] > TIMES, "{equal:?}");
 }
 
 /// Counts stores with segments none of which is frozen, with some that are, and with all of them frozen.
@@ -148,6 +153,13 @@ fn what_is_not_reached_is_told() {
         "not tried: a join, Overlapping",
         "not tried: a join, Given(9, Second)",
         "not tried: a join, Before((2, Second), (4, First))",
+        "not tried: passwords, MadeEqual(Write)",
+        "not tried: passwords, MadeUnequal(Read)",
+        "not tried: passwords, Own(Write)",
+        "not tried: passwords, OwnAndOther(Read)",
+        "not tried: passwords, Before(10, Write)",
+        "not tried: passwords, ByPrimary(Look)",
+        "not tried: passwords, ByWeaker(Join(Read))",
     ] {
         assert!(faults.contains(&fault.to_string()), "{fault}");
     }
@@ -173,21 +185,28 @@ fn what_is_not_reached_is_told() {
 #[test]
 fn what_two_copies_do_not_come_to_is_told() {
     let mut count = Count::default();
-    assert_eq!(count.faults().len(), 12);
+    assert_eq!(count.faults().len(), 18);
     (count.calls, count.done, count.naming) = (4, 2, 1);
     (count.frozen, count.frozen_apart, count.by_the_first) = (1, 1, 1);
+    (count.made_equal, count.by_both) = (1, 1);
     let kept = |apart| Kept { done: 1, apart };
     (count.looks, count.freezes, count.joins) = (kept(0), kept(0), kept(0));
+    count.renewals = kept(0);
     let told = |what| format!("not tried: two copies, a {what} the cluster set apart");
     let expected = [
         told("look that the password alone keeps from"),
         told("freeze that the password alone keeps from"),
         told("join that the two passwords alone keep from"),
+        told("new password that the password alone keeps from"),
         told("join of which the second handle alone names"),
+        "not tried: two copies, a cluster set apart with equal passwords in one copy alone".into(),
+        "not tried: two copies, a new password that the cluster set apart has in one copy alone"
+            .into(),
     ];
     assert_eq!(count.faults(), expected);
     (count.looks, count.freezes, count.joins) = (kept(1), kept(1), kept(1));
-    count.by_the_second = 1;
+    (count.renewals, count.by_the_second) = (kept(1), 1);
+    (count.equal_in_one, count.guessed) = (1, 1);
     assert!(count.faults().is_empty());
 }
 
@@ -199,4 +218,20 @@ fn what_rows_on_frozen_segments_do_not_come_to_is_told() {
     let what = "a call refused with 22 (frozen)";
     let told = format!("not tried: what is frozen stays, {what}");
     assert_eq!(count.faults(), [told]);
+}
+
+#[test]
+fn what_new_passwords_in_two_images_do_not_come_to_is_told() {
+    let mut count = untold::Count::default();
+    assert_eq!(count.faults().len(), 5);
+    (count.asked, count.done, count.old) = (4, 2, 1);
+    (count.guessed, count.equal) = ([1, 0], [0, 1]);
+    let told = |what| format!("not tried: new passwords in two images, {what}");
+    let expected = [
+        told("the read password taken for writing"),
+        told("one for reading, the two equal in one image"),
+    ];
+    assert_eq!(count.faults(), expected);
+    (count.guessed, count.equal) = ([1, 1], [1, 1]);
+    assert!(count.faults().is_empty());
 }

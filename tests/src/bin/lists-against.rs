@@ -9,6 +9,7 @@ use model::list::{reachable, request, run, Request, CODE_AT};
 use model::nothing::Way;
 use model::program::{Outcome, Program};
 use model::random::Random;
+use model::renewals::Renewal;
 use model::table::{word, APART, EMPTY, LIST_LENGTH, LOOP, SPENT};
 use std::collections::BTreeMap;
 use std::ffi::OsString;
@@ -30,7 +31,7 @@ struct Task {
 }
 
 /// How often each call came to each number, how often one went each way to nothing or met something frozen,
-/// how the two handles of joins met, and each number that lists were refused with.
+/// how the two handles of joins met, what new passwords met, and each number that lists were refused with.
 #[derive(Default)]
 struct Tally {
     calls: u64,
@@ -38,6 +39,7 @@ struct Tally {
     ways: BTreeMap<Way, u64>,
     cases: BTreeMap<Case, u64>,
     meetings: BTreeMap<Meeting, u64>,
+    renewals: BTreeMap<Renewal, u64>,
     refused: BTreeMap<u8, u64>,
 }
 
@@ -56,6 +58,9 @@ impl Tally {
         let meetings = Meeting::all()
             .filter(|meeting| !self.meetings.contains_key(meeting))
             .map(|meeting| format!("a join, {meeting:?}"));
+        let renewals = Renewal::in_lists()
+            .filter(|renewal| !self.renewals.contains_key(renewal))
+            .map(|renewal| format!("passwords, {renewal:?}"));
         let refused = (LIST_LENGTH..=LOOP)
             .filter(|number| !self.refused.contains_key(number))
             .map(|number| format!("a list refused with {}", in_words(number)));
@@ -63,6 +68,7 @@ impl Tally {
             .chain(ways)
             .chain(cases)
             .chain(meetings)
+            .chain(renewals)
             .chain(refused)
             .collect()
     }
@@ -101,6 +107,9 @@ fn expected(list: &[u8], tally: &mut Tally) -> Vec<u8> {
                 }
                 for meeting in Meeting::of(found, &call, reply.number) {
                     *tally.meetings.entry(meeting).or_default() += 1;
+                }
+                if let Some(renewal) = Renewal::of(found, &call, reply.number) {
+                    *tally.renewals.entry(renewal).or_default() += 1;
                 }
                 record[CODE_AT]
             }
@@ -167,6 +176,7 @@ fn print_tally(tally: &Tally) {
     println!("ways to nothing: {:?}", tally.ways);
     println!("something frozen: {:?}", tally.cases);
     println!("joins: {:?}", tally.meetings);
+    println!("passwords: {:?}", tally.renewals);
     for (number, count) in &tally.refused {
         println!("lists refused with {}: {count}", in_words(*number));
     }

@@ -230,10 +230,21 @@ impl Maker {
             primary,
             segments,
         };
-        self.put_handle(record, wish);
+        let handle = self.put_handle(record, wish);
         record[MODE_AT] = self.near(number_of(mode), 2);
-        let password = self.password();
+        let password = self.next_password(&handle);
         record[FIRST_PASSWORD_AT..SECOND_PASSWORD_AT].copy_from_slice(&password);
+    }
+
+    /// Often one of the two that the handle's cluster has.
+    fn next_password(&mut self, handle: &Handle) -> Password {
+        let (node, local) = (usize::from(handle.node), usize::from(handle.local));
+        let cluster = self.session.store.cluster(node, local).copied();
+        match (cluster, self.random.below(5)) {
+            (Some(cluster), 0) => cluster.read,
+            (Some(cluster), 1) => cluster.write,
+            _ => self.password(),
+        }
     }
 
     /// Call 11. One in four has handles as other calls have them, the second mostly one that was given for the
@@ -274,8 +285,5 @@ fn put(record: &mut Record, at: usize, handle: &Handle) {
 }
 
 fn number_of(mode: Mode) -> u8 {
-    match mode {
-        Mode::Read => 1,
-        Mode::Write => 2,
-    }
+    mode.number() as u8
 }

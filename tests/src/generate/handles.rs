@@ -32,12 +32,13 @@ pub fn is_inactive(cluster: &Cluster) -> bool {
     !cluster.active
 }
 
-/// An active cluster, mostly as it is wished for.
+/// An active cluster, mostly as it is wished for; sometimes one that a single handle opens in both modes.
 fn active_place(random: &mut Random, store: &Store, wish: Wish) -> Option<(u16, u8)> {
     let wished = |cluster: &Cluster| cluster.active && cluster.has_segments() == wish.segments;
-    let chosen = match random.one_in(5) {
-        true => None,
-        false => place(random, store, wished),
+    let chosen = match random.below(20) {
+        0..=3 => None,
+        4..=6 => place(random, store, Cluster::has_equal_passwords),
+        _ => place(random, store, wished),
     };
     chosen.or_else(|| place(random, store, |cluster| cluster.active))
 }

@@ -5,7 +5,7 @@ use super::handles::{gapped, is_inactive, place};
 use crate::handle::{Handle, Selector, FLAT};
 use crate::random::Random;
 use crate::sizes::{CLUSTERS, NODES, PASSWORD_BYTES, SEGMENTS, SUBSELECTORS};
-use crate::store::{Mode, Store};
+use crate::store::{Cluster, Mode, Store};
 
 /// What a join is asked with.
 pub struct Join {
@@ -45,9 +45,13 @@ impl Fault {
     ];
 }
 
-/// None where no cluster is active.
+/// None where no cluster is active. Sometimes the cluster is one whose handles open both modes.
 pub fn join(random: &mut Random, store: &Store) -> Option<Join> {
-    let (node, local) = place(random, store, |cluster| cluster.active)?;
+    let equal = match random.one_in(5) {
+        true => place(random, store, Cluster::has_equal_passwords),
+        false => None,
+    };
+    let (node, local) = equal.or_else(|| place(random, store, |cluster| cluster.active))?;
     let mode = match random.one_in(2) {
         true => Mode::Read,
         false => Mode::Write,
@@ -211,13 +215,12 @@ fn with_a_gap(random: &mut Random, store: &Store, handle: &Handle, mode: Mode) -
     }
 }
 
-/// The handle as if it were given for the other mode, or with another password.
+/// The handle as if it were given for the other mode, or with another password; always the latter where the two modes
+/// have equal passwords.
 fn not_valid(random: &mut Random, store: &Store, handle: &Handle, mode: Mode) -> Handle {
-    if random.one_in(2) {
-        return match mode {
-            Mode::Read => moved(store, handle, handle.name(), Mode::Write),
-            Mode::Write => moved(store, handle, handle.name(), Mode::Read),
-        };
+    let other = moved(store, handle, handle.name(), mode.other());
+    if random.one_in(2) && other != *handle {
+        return other;
     }
     let mut forged = *handle;
     forged.password[random.below(PASSWORD_BYTES as u64) as usize] ^= 1 << random.below(8);

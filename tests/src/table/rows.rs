@@ -98,10 +98,12 @@ pub fn not_referenced(call: &Call, _: &Found) -> bool {
     }
 }
 
+/// By the current password of the mode that the call names alone: whoever changes one mode's learns
+/// nothing of the other's.
 pub fn old_password(call: &Call, found: &Found) -> bool {
-    match (call, found.named_cluster(call)) {
-        (Call::NewPassword { password, .. }, Some(cluster)) => {
-            *password == cluster.read || *password == cluster.write
+    match (call, call.needed_mode(), found.named_cluster(call)) {
+        (Call::NewPassword { password, .. }, Some(mode), Some(cluster)) => {
+            password == cluster.primary(mode)
         }
         _ => false,
     }

@@ -10,6 +10,7 @@ use model::store::Store;
 pub mod faults;
 pub mod joint;
 pub mod naive;
+pub mod renewed;
 
 pub const READ_SECRET: Password = [0x11; 16];
 pub const WRITE_SECRET: Password = [0x22; 16];
@@ -146,6 +147,14 @@ pub fn freeze(segment: u32) -> Call {
         node: 0,
         segment,
         handle: writer(),
+    }
+}
+
+pub fn renew(mode: u32, handle: Handle, password: Password) -> Call {
+    Call::NewPassword {
+        mode,
+        handle,
+        password,
     }
 }
 

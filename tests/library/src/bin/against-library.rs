@@ -10,14 +10,17 @@ use library::runs::{self, RUN_CALLS};
 use library::single;
 use library::stays;
 use library::tally::Tally;
+use library::untold;
 use std::process::ExitCode;
 
 const USAGE: &str = "usage: against-library [SEED] [CALLS]";
 const BAD_USAGE: u8 = 2;
 const USUAL_SEED: u64 = 1;
 const USUAL_CALLS: u64 = 100_000;
-/// There is one join of which laws are judged for so many calls, one batch of validations, and one pair of copies.
+/// There is one join of which laws are judged for so many calls, one pair of images for new passwords, one batch of
+/// validations, and one pair of copies.
 const CALLS_PER_JOIN: u64 = 10;
+const CALLS_PER_IMAGES: u64 = 50;
 const CALLS_PER_BATCH: u64 = 100;
 const CALLS_PER_PAIR: u64 = 250;
 
@@ -59,6 +62,7 @@ fn compare(task: &Task, tally: &mut Tally) -> Result<Vec<String>, String> {
     let joins = calls.div_ceil(CALLS_PER_JOIN);
     let done = laws::compare(guard::ask, seed, joins).map_err(named("laws of joins"))?;
     println!("laws of joins: {joins} joins, {done} of them done");
+    let not_told = new_passwords(task)?;
 
     let count = calls.div_ceil(CALLS_PER_BATCH);
     let validations =
@@ -69,7 +73,7 @@ fn compare(task: &Task, tally: &mut Tally) -> Result<Vec<String>, String> {
 
     let lines = published::confirm(published::TEXT)?;
     println!("published handles: {lines} lines confirmed");
-    Ok([not_frozen, not_copied].concat())
+    Ok([not_frozen, not_told, not_copied].concat())
 }
 
 fn what_is_frozen(task: &Task) -> Result<Vec<String>, String> {
@@ -79,6 +83,21 @@ fn what_is_frozen(task: &Task) -> Result<Vec<String>, String> {
     println!(
         "what is frozen stays: {rows} rows, with {} frozen segments, {} calls done, {} refused with 22",
         count.frozen, count.done, count.refused
+    );
+    Ok(count.faults())
+}
+
+fn new_passwords(task: &Task) -> Result<Vec<String>, String> {
+    let pairs = task.calls.div_ceil(CALLS_PER_IMAGES);
+    let count = untold::compare(guard::ask, task.seed, pairs)
+        .map_err(named("new passwords in two images"))?;
+    println!(
+        "new passwords in two images: {pairs} pairs, with {} calls, {} of them done, {} refused with 12",
+        count.asked, count.done, count.old
+    );
+    println!(
+        "new passwords in two images, done for reading and for writing: {:?} the other mode's, {:?} with the two equal in one image",
+        count.guessed, count.equal
     );
     Ok(count.faults())
 }
@@ -111,6 +130,7 @@ fn two_copies(task: &Task) -> Result<Vec<String>, String> {
         ("looks", count.looks),
         ("freezes", count.freezes),
         ("joins", count.joins),
+        ("new passwords", count.renewals),
     ] {
         println!(
             "{what} in two copies: {} done, {} kept from the cluster set apart by passwords alone",
@@ -124,6 +144,10 @@ fn two_copies(task: &Task) -> Result<Vec<String>, String> {
     println!(
         "frozen in two copies: {} calls refused with 22, {} clusters set apart with some",
         count.frozen, count.frozen_apart
+    );
+    println!(
+        "passwords in two copies: {} clusters set apart with equal ones in one copy, {} guessed in one copy, {} made equal, {} calls by a handle of both modes",
+        count.equal_in_one, count.guessed, count.made_equal, count.by_both
     );
     Ok(count.faults())
 }

@@ -1,14 +1,14 @@
 //! Looks and freezes by chance. What speaks against one of them seldom meets by itself, so that half of them
 //! are made from one that would be done: none, one or two things are made wrong in it.
 
-use super::below;
 use super::handles::{self, gapped};
 use super::questions::Maker;
+use super::{below, near};
 use crate::question::BEYOND;
 use model::call::Call;
 use model::handle::Handle;
 use model::random::Random;
-use model::sizes::{NODES, PASSWORD_BYTES, SEGMENTS};
+use model::sizes::{NODES, SEGMENTS};
 use model::store::{Cluster, Mode, Segment, Store};
 
 /// What a call about one segment of a node is asked with.
@@ -139,15 +139,18 @@ impl Aimed {
                 let weaker = self.handle.weaken(!(1 << self.segment));
                 self.handle = weaker.unwrap_or(self.handle);
             }
-            Fault::NotValid if random.one_in(2) && self.handle.selector.is_primary() => {
+            // Where the two passwords are equal, the other mode's is no fault.
+            Fault::NotValid
+                if random.one_in(2)
+                    && self.handle.selector.is_primary()
+                    && !own.has_equal_passwords() =>
+            {
                 self.handle.password = match self.handle.password == own.read {
                     true => own.write,
                     false => own.read,
                 };
             }
-            Fault::NotValid => {
-                self.handle.password[below(random, PASSWORD_BYTES)] ^= 1 << random.below(8);
-            }
+            Fault::NotValid => self.handle.password = near(random, self.handle.password),
             Fault::Inactive => self.go_to_an_inactive_cluster(random, store),
             Fault::Elsewhere => {
                 let further = 1 + below(random, NODES - 1);

@@ -1,6 +1,6 @@
 //! Handles by chance: right ones for the store as it is, old ones, and ones with something wrong.
 
-use super::{below, password};
+use super::{below, near, password};
 use model::generate::to_nothing;
 use model::handle::{Handle, Selector, FLAT};
 use model::random::Random;
@@ -46,7 +46,11 @@ pub fn place(
 /// A handle that validates, mostly in the mode that is wished for, if any cluster is active.
 fn right(random: &mut Random, store: &Store, wish: Wish) -> Handle {
     let wished = |cluster: &Cluster| cluster.active && cluster.has_segments() == wish.segments;
-    let chosen = place(random, store, wished);
+    // Sometimes one that a single handle opens in both modes.
+    let chosen = match random.one_in(12) {
+        true => place(random, store, Cluster::has_equal_passwords),
+        false => place(random, store, wished),
+    };
     let Some((node, local)) = chosen.or_else(|| place(random, store, |cluster| cluster.active))
     else {
         return nowhere_active(random);
@@ -99,7 +103,7 @@ fn weakened(random: &mut Random, mut handle: Handle) -> Handle {
 /// The handle with one thing changed, or another one.
 fn wrong(random: &mut Random, store: &Store, mut handle: Handle) -> Handle {
     match random.below(12) {
-        0 => handle.password[below(random, PASSWORD_BYTES)] ^= 1 << random.below(8),
+        0 => handle.password = near(random, handle.password),
         1 => handle.password = password(random),
         2 => handle.node = random.number() as u16,
         3 => handle.node = (NODES + below(random, 2)) as u16,

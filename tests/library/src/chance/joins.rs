@@ -1,12 +1,11 @@
 //! Joins by chance: most are made as in lists, with modes that a list cannot name besides.
 
 use super::questions::Maker;
-use crate::question::{BEYOND, READ_MODE, WRITE_MODE};
+use crate::question::{BEYOND, WRITE_MODE};
 use model::call::Call;
 use model::generate::joins;
 use model::handle::Handle;
 use model::random::Random;
-use model::store::Mode;
 
 impl Maker<'_> {
     pub(super) fn join(&mut self) -> Call {
@@ -18,10 +17,7 @@ impl Maker<'_> {
             return self.as_other_calls();
         };
         let [handle, other] = join.handles;
-        let right = match join.mode {
-            Mode::Read => READ_MODE,
-            Mode::Write => WRITE_MODE,
-        };
+        let right = join.mode.number();
         let mode = match join.is_a_mode {
             true => right,
             false => no_mode(self.random, right),

@@ -24,6 +24,21 @@ pub fn password(random: &mut Random) -> Password {
     }
 }
 
+/// Those of an active cluster, read before write: sometimes equal, as call 9 may leave them.
+pub fn passwords(random: &mut Random) -> (Password, Password) {
+    let read = password(random);
+    match random.one_in(8) {
+        true => (read, read),
+        false => (read, password(random)),
+    }
+}
+
+/// The password with one bit changed.
+pub fn near(random: &mut Random, mut password: Password) -> Password {
+    password[below(random, PASSWORD_BYTES)] ^= 1 << random.below(8);
+    password
+}
+
 /// Tries `case` as often as told, each time with chance of its own. An `Err` comes back with the
 /// number of its case, which the seed repeats.
 pub fn cases(

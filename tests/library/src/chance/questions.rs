@@ -2,7 +2,7 @@
 
 use super::handles::{self, Wish};
 use super::stores::gaps;
-use super::{below, bytes, password};
+use super::{below, bytes, near, password};
 use crate::question::{Question, BEYOND, LOOK, READ_MODE, VALIDATION, WRITE_MODE};
 use model::call::{self, Call};
 use model::handle::{Handle, Password, FLAT};
@@ -276,11 +276,13 @@ impl Maker<'_> {
         }
     }
 
-    /// Sometimes one of those that the handle's cluster has already.
+    /// Often one of those that the handle's cluster has already, or one bit off.
     fn next_password(&mut self, handle: &Handle) -> Password {
-        match (self.cluster(handle).copied(), self.random.below(8)) {
-            (Some(cluster), 0) => cluster.read,
-            (Some(cluster), 1) => cluster.write,
+        match (self.cluster(handle).copied(), self.random.below(12)) {
+            (Some(cluster), 0 | 1) => cluster.read,
+            (Some(cluster), 2 | 3) => cluster.write,
+            (Some(cluster), 4) => near(self.random, cluster.read),
+            (Some(cluster), 5) => near(self.random, cluster.write),
             _ => password(self.random),
         }
     }

@@ -1,7 +1,7 @@
 //! Sound stores by chance, from empty ones to ones in which nothing is left.
 
 use super::words::WORD;
-use super::{below, bytes, password};
+use super::{below, bytes, passwords};
 use crate::image::encode;
 use crate::question::Held;
 use model::random::Random;
@@ -137,10 +137,11 @@ fn activate(random: &mut Random, clusters: &mut [Cluster; CLUSTERS], wanted: usi
 
 /// An active cluster without segments.
 pub fn active(random: &mut Random) -> Cluster {
+    let (read, write) = passwords(random);
     Cluster {
         active: true,
-        read: password(random),
-        write: password(random),
+        read,
+        write,
         ..Cluster::INACTIVE
     }
 }

@@ -3,7 +3,10 @@
 use super::Pair;
 use crate::question::{Answer, Question};
 use model::call::Call;
-use model::table::FROZEN;
+use model::renewals::Renewal;
+use model::sizes::MEMORY_BYTES;
+use model::store::Store;
+use model::table::{Found, FROZEN};
 
 /// Calls of one kind that were done, and those that nothing but passwords kept from the cluster set apart: with
 /// passwords that open it for each handle, the call would be done.
@@ -13,9 +16,9 @@ pub struct Kept {
     pub apart: u64,
 }
 
-/// How many calls there were, how many were done, and how many named the cluster set apart; looks, freezes and joins;
-/// joins of which one handle alone names the cluster set apart, the first or the second; how many calls were refused
-/// for something frozen, and in how many pairs the cluster set apart had a frozen segment.
+/// How many calls there were, how many were done, and how many named the cluster set apart; looks, freezes, joins and new
+/// passwords; joins of which one handle alone names the cluster set apart, the first or the second; how many calls were
+/// refused for something frozen, and in how many pairs the cluster set apart had a frozen segment.
 #[derive(Debug, Default)]
 pub struct Count {
     pub calls: u64,
@@ -24,14 +27,41 @@ pub struct Count {
     pub looks: Kept,
     pub freezes: Kept,
     pub joins: Kept,
+    pub renewals: Kept,
     pub by_the_first: u64,
     pub by_the_second: u64,
     pub frozen: u64,
     pub frozen_apart: u64,
+    /// Pairs in which the cluster set apart has equal passwords in one copy and not in the other.
+    pub equal_in_one: u64,
+    /// New passwords for the cluster set apart that its mode has already, in one copy and not in the other.
+    pub guessed: u64,
+    /// Calls done that make the two passwords of another cluster equal, and by a handle that opens both its modes.
+    pub made_equal: u64,
+    pub by_both: u64,
 }
 
 impl Count {
-    pub(super) fn note(&mut self, pair: &Pair, question: &Question, answer: &Answer) {
+    pub(super) fn note_pair(&mut self, pair: &Pair) {
+        let (node, local) = pair.apart;
+        let apart = |store: Store| store.clusters[node][local];
+        let Ok([first, second]) = pair.stores().map(|stores| stores.map(apart)) else {
+            return;
+        };
+        self.frozen_apart += u64::from(first.has_frozen());
+        let [one, other] = [first, second].map(|cluster| cluster.has_equal_passwords());
+        self.equal_in_one += u64::from(one != other);
+    }
+
+    /// The copies were `stores` before the call.
+    pub(super) fn note(
+        &mut self,
+        pair: &Pair,
+        stores: &[Store; 2],
+        question: &Question,
+        answer: &Answer,
+    ) {
+        self.note_passwords(stores, question, answer);
         let done = answer.reply.is_done();
         self.calls += 1;
         self.naming += u64::from(pair.names_apart(question));
@@ -46,10 +76,29 @@ impl Count {
                 self.by_the_second += u64::from(second && !first);
                 &mut self.joins
             }
+            Call::NewPassword { .. } => &mut self.renewals,
             _ => return,
         };
         kept.done += u64::from(done);
         kept.apart += u64::from(pair.kept_by_the_passwords(question, answer));
+    }
+
+    /// What is met in the two copies differs where the cluster set apart is concerned, and there alone.
+    fn note_passwords(&mut self, stores: &[Store; 2], question: &Question, answer: &Answer) {
+        let [first, second] = stores.each_ref().map(|store| {
+            let found = Found {
+                store,
+                memory_bytes: MEMORY_BYTES,
+                buffer_bytes: question.buffer.len(),
+            };
+            Renewal::of(&found, &question.call, answer.reply.number)
+        });
+        self.guessed += u64::from(first != second);
+        match first {
+            Some(Renewal::MadeEqual(_)) => self.made_equal += 1,
+            Some(Renewal::ByPrimary(_) | Renewal::ByWeaker(_)) => self.by_both += 1,
+            _ => {}
+        }
     }
 
     /// What lists have to come to, and these did not.
@@ -72,6 +121,11 @@ impl Count {
                 self.joins.apart,
                 "a join that the two passwords alone keep from the cluster set apart",
             ),
+            (self.renewals.done, "a new password done"),
+            (
+                self.renewals.apart,
+                "a new password that the password alone keeps from the cluster set apart",
+            ),
             (
                 self.by_the_first,
                 "a join of which the first handle alone names the cluster set apart",
@@ -84,6 +138,19 @@ impl Count {
             (
                 self.frozen_apart,
                 "a cluster set apart with a frozen segment",
+            ),
+            (
+                self.equal_in_one,
+                "a cluster set apart with equal passwords in one copy alone",
+            ),
+            (
+                self.guessed,
+                "a new password that the cluster set apart has in one copy alone",
+            ),
+            (self.made_equal, "a new password that makes two equal"),
+            (
+                self.by_both,
+                "a call done by a handle that opens both modes",
             ),
         ];
         let missing = due.iter().filter(|(count, _)| *count == 0);

@@ -5,7 +5,7 @@ mod count;
 
 use crate::chance::questions::{Maker, FILLING};
 use crate::chance::stores::{self, Fill};
-use crate::chance::{below, cases, fill, handles, password};
+use crate::chance::{below, cases, fill, handles, password, passwords};
 use crate::compare::{by_model, same_answer, same_bytes, same_shown, Guard};
 use crate::image::{decode, encode, passwords_at, record_at};
 use crate::question::{Answer, Held, Question, READ_MODE, WRITE_MODE};
@@ -36,11 +36,12 @@ pub fn compare(guard: Guard, seed: u64, pairs: u64) -> Result<Count, String> {
 
 fn one(guard: Guard, random: &mut Random, count: &mut Count) -> Result<(), String> {
     let mut pair = by_chance(random);
-    count.frozen_apart += u64::from(pair.has_frozen_apart());
+    count.note_pair(&pair);
     let start = pair.copies.clone();
     let mut given = Vec::new();
     for at in 1..=LIST_CALLS {
-        let question = pair.question(random, &given)?;
+        let stores = pair.stores()?;
+        let question = pair.question(random, &stores, &given);
         let [first, second] = pair.copies.each_mut().map(|copy| guard(copy, &question));
         let [one, other] = &pair.copies;
         let same = same_answer(&first, &second)
@@ -48,7 +49,7 @@ fn one(guard: Guard, random: &mut Random, count: &mut Count) -> Result<(), Strin
         same.map_err(|what| {
             format!("call {at} of the list: {what}\n  asked:  {question}\n  first:  {first}\n  second: {second}")
         })?;
-        count.note(&pair, &question, &first);
+        count.note(&pair, &stores, &question, &first);
         given.extend(first.handles(&question));
     }
     pair.agree()?;
@@ -63,7 +64,7 @@ fn by_chance(random: &mut Random) -> Pair {
     let own = parts_of(&store, apart);
     let first = stores::held(random, &store);
     let cluster = &mut store.clusters[apart.0][apart.1];
-    (cluster.read, cluster.write) = (password(random), password(random));
+    (cluster.read, cluster.write) = passwords(random);
     let mut second = Held {
         image: encode(&store),
         memory: first.memory.clone(),
@@ -87,14 +88,9 @@ fn parts_of(store: &Store, (node, local): (usize, usize)) -> Vec<Range<usize>> {
 impl Pair {
     /// A question that a list of calls may have: each handle of the cluster set apart that it
     /// presents validates in neither mode and in neither copy. Weakening may present any.
-    fn question(&self, random: &mut Random, given: &[Handle]) -> Result<Question, String> {
-        let stores = self.copies.each_ref().map(|copy| decode(&copy.image));
-        let [Some(first), Some(second)] = stores else {
-            return Err("a copy is damaged".to_string());
-        };
-        let seen = [&first, &second];
+    fn question(&self, random: &mut Random, stores: &[Store; 2], given: &[Handle]) -> Question {
         loop {
-            let store = seen[below(random, seen.len())];
+            let store = &stores[below(random, stores.len())];
             let maker = &mut Maker {
                 random,
                 store,
@@ -107,7 +103,7 @@ impl Pair {
             let weakening = matches!(question.call, Call::Weaken { .. });
             let opens = |handle: &Handle| self.is_apart(handle) && self.opens(handle);
             if weakening || !question.call.presented().any(opens) {
-                return Ok(question);
+                return question;
             }
         }
     }
@@ -143,9 +139,12 @@ impl Pair {
         }
     }
 
-    fn has_frozen_apart(&self) -> bool {
-        let store = decode(&self.copies[0].image);
-        store.is_some_and(|store| store.clusters[self.apart.0][self.apart.1].has_frozen())
+    /// The copies as they are.
+    fn stores(&self) -> Result<[Store; 2], String> {
+        match self.copies.each_ref().map(|copy| decode(&copy.image)) {
+            [Some(first), Some(second)] => Ok([first, second]),
+            _ => Err("a copy is damaged".to_string()),
+        }
     }
 
     /// Whether the handle names the cluster set apart.

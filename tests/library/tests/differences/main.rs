@@ -8,4 +8,5 @@ mod joins;
 mod looks;
 mod modes;
 mod nothing;
+mod renewals;
 mod seen;

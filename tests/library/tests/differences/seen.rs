@@ -12,7 +12,7 @@ use model::store::{Cluster, Segment, Store};
 
 pub const SEED: u64 = 7;
 pub const CALLS: u64 = 20_000;
-pub const RUNS: u64 = 20;
+pub const RUNS: u64 = 60;
 
 /// What single calls and long rows say of a guard.
 pub fn told_twice(guard: Guard) -> [String; 2] {

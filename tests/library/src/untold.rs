@@ -1,0 +1,174 @@
+//! What the reply to a new password does not tell, judged by the library's side alone: two images that differ in one
+//! cluster's password for the other mode get the same reply, and are left differing in that password alone.
+
+use crate::chance::handles::{self, Wish};
+use crate::chance::stores::{self, active, Fill};
+use crate::chance::{below, cases, password};
+use crate::compare::{same_answer, same_bytes, Guard};
+use crate::image::{encode, password_at};
+use crate::question::{Held, Question};
+use model::call::Call;
+use model::handle::{Handle, Password};
+use model::random::Random;
+use model::sizes::{CLUSTERS, NODES};
+use model::store::{Mode, Store};
+use model::table::OLD_PASSWORD;
+
+/// How many new passwords were asked for, how many were done and how many refused with 12. Of those done, by mode: how
+/// many were the other mode's in one of the images, and how many were put to a pair of which one image had equal
+/// passwords.
+#[derive(Debug, Default)]
+pub struct Count {
+    pub asked: u64,
+    pub done: u64,
+    pub old: u64,
+    pub guessed: [u64; 2],
+    pub equal: [u64; 2],
+}
+
+impl Count {
+    /// What pairs have to come to, and these did not.
+    pub fn faults(&self) -> Vec<String> {
+        let [read, write] = [0, 1].map(|mode| (self.guessed[mode], self.equal[mode]));
+        let due = [
+            (self.old, "one refused with 12 (old password)"),
+            (read.0, "the write password taken for reading"),
+            (write.0, "the read password taken for writing"),
+            (read.1, "one for reading, the two equal in one image"),
+            (write.1, "one for writing, the two equal in one image"),
+        ];
+        let missing = due.iter().filter(|(count, _)| *count == 0);
+        missing
+            .map(|(_, what)| format!("not tried: new passwords in two images, {what}"))
+            .collect()
+    }
+}
+
+/// Two images, and a cluster whose password for the other mode than this one is all that they differ in.
+struct Pair {
+    images: [Held; 2],
+    place: (usize, usize),
+    mode: Mode,
+    own: Password,
+    others: [Password; 2],
+}
+
+pub fn compare(guard: Guard, seed: u64, pairs: u64) -> Result<Count, String> {
+    let mut count = Count::default();
+    cases(seed, pairs, |random| one(guard, random, &mut count))?;
+    Ok(count)
+}
+
+/// Four new passwords, each put to the pair as it is: the mode's own, the other mode's in either image, and any.
+fn one(guard: Guard, random: &mut Random, count: &mut Count) -> Result<(), String> {
+    let fill = Fill::by_chance(random);
+    let mut store = stores::store(random, fill);
+    let pair = by_chance(random, &mut store);
+    let handle = pair.handle(random, &store);
+    let [first, second] = pair.others;
+    for password in [pair.own, first, second, password(random)] {
+        let call = Call::NewPassword {
+            mode: pair.mode.number(),
+            handle,
+            password,
+        };
+        let number = pair.asked(guard, &Question::of(call))?;
+        count.note(&pair, &password, number);
+    }
+    Ok(())
+}
+
+impl Count {
+    fn note(&mut self, pair: &Pair, password: &Password, number: u8) {
+        let mode = pair.mode as usize;
+        let done = number == 0;
+        self.asked += 1;
+        self.done += u64::from(done);
+        self.old += u64::from(number == OLD_PASSWORD);
+        self.guessed[mode] += u64::from(done && pair.others.contains(password));
+        self.equal[mode] += u64::from(done && pair.others.contains(&pair.own));
+    }
+}
+
+fn by_chance(random: &mut Random, store: &mut Store) -> Pair {
+    let chosen = handles::place(random, store, |cluster| cluster.active);
+    let place = chosen.unwrap_or((below(random, NODES), below(random, CLUSTERS)));
+    let cluster = &mut store.clusters[place.0][place.1];
+    if !cluster.active {
+        *cluster = active(random);
+    }
+    let mode = Mode::ALL[below(random, Mode::ALL.len())];
+    let own = *cluster.primary(mode);
+    let mut others = [password(random), password(random)];
+    if random.one_in(3) {
+        others[below(random, 2)] = own;
+    }
+    while others[0] == others[1] {
+        others[1] = password(random);
+    }
+    let first = stores::held(random, store);
+    let images = others.map(|other| {
+        let cluster = &mut store.clusters[place.0][place.1];
+        *cluster.primary_mut(mode.other()) = other;
+        Held {
+            image: encode(store),
+            memory: first.memory.clone(),
+        }
+    });
+    Pair {
+        images,
+        place,
+        mode,
+        own,
+        others,
+    }
+}
+
+impl Pair {
+    /// Mostly the mode's primary handle; else a weaker one, one of the other mode in either image, or any.
+    fn handle(&self, random: &mut Random, store: &Store) -> Handle {
+        let (node, local) = (self.place.0 as u16, self.place.1 as u8);
+        let primary = |password| Handle::primary(node, local, password);
+        match random.below(8) {
+            0 => primary(self.own)
+                .weaken(random.byte())
+                .unwrap_or(primary(self.own)),
+            1 => primary(self.others[below(random, 2)]),
+            2 => {
+                let wish = Wish {
+                    mode: self.mode,
+                    primary: true,
+                    segments: true,
+                };
+                handles::handle(random, store, &[], wish)
+            }
+            _ => primary(self.own),
+        }
+    }
+
+    /// The number that both images get.
+    fn asked(&self, guard: Guard, question: &Question) -> Result<u8, String> {
+        let mut after = self.images.clone();
+        let [first, second] = after.each_mut().map(|held| guard(held, question));
+        let same = same_answer(&first, &second).and_then(|()| self.agree(&after));
+        same.map_err(|what| {
+            format!("{what}\n  asked:  {question}\n  first:  {first}\n  second: {second}")
+        })?;
+        Ok(first.reply.number)
+    }
+
+    /// Each image has the other mode's password that it had, and but for that the two are equal.
+    fn agree(&self, after: &[Held; 2]) -> Result<(), String> {
+        let (node, local) = self.place;
+        let other = password_at(node, local, self.mode.other());
+        let mut images = after.each_ref().map(|held| held.image);
+        for (image, before) in images.iter_mut().zip(&self.others) {
+            let found = &mut image[other.clone()];
+            same_bytes("the other mode's passwords", before, found)?;
+            found.fill(0);
+        }
+        let [first, second] = after;
+        same_bytes("the two images", &images[0], &images[1])?;
+        same_bytes("the two memories", &first.memory, &second.memory)
+    }
+}

@@ -1,0 +1,265 @@
+//! New passwords: 12 by the current one of the mode and by no other, so that the two of a cluster may become equal. What
+//! one handle is good for then, and how that ends.
+
+mod support;
+
+use model::call::{Call, Reply};
+use model::handle::{Handle, Password};
+use support::renewed::{self, LOCAL, NODE};
+use support::*;
+
+/// Both modes, each with its primary handle and the other mode's.
+fn modes() -> [(u32, Handle, Handle); 2] {
+    [
+        (READ_MODE, reader(), writer()),
+        (WRITE_MODE, writer(), reader()),
+    ]
+}
+
+/// Cluster 2 of node 0 with a segment, after `mode` has got the other mode's password, and the one handle that is
+/// primary in both modes then.
+fn equal(mode: u32) -> (Bench, Handle) {
+    let mut state = Bench::with_segment();
+    let (own, other) = match mode {
+        READ_MODE => (reader(), writer()),
+        _ => (writer(), reader()),
+    };
+    let reply = state.reply(renew(mode, own, other.password));
+    assert_eq!(reply, Reply::with_handle(&other));
+    (state, other)
+}
+
+/// The same password with one bit changed, for each of its bits.
+fn neighbours(password: Password) -> impl Iterator<Item = Password> {
+    (0..128).map(move |bit| {
+        let mut changed = password;
+        changed[bit / 8] ^= 1 << (bit % 8);
+        changed
+    })
+}
+
+fn validates(state: &mut Bench, mode: u32, handle: Handle) -> bool {
+    let number = state.number(Call::Validate { mode, handle });
+    assert!(number == 0 || number == 9);
+    number == 0
+}
+
+/// In which modes a handle validates: to read, to write.
+fn opens(state: &mut Bench, handle: Handle) -> [bool; 2] {
+    [READ_MODE, WRITE_MODE].map(|mode| validates(state, mode, handle))
+}
+
+/// The primary handle and what is made from it: weakened once and twice, reduced, joined. All but the first reference
+/// segment 5 and not segment 0.
+fn family(state: &mut Bench, mode: u32, primary: Handle) -> Vec<Handle> {
+    let once = primary.weaken(0xfe).unwrap();
+    let twice = once.weaken(0x60).unwrap();
+    let reduce = Call::Reduce {
+        mode,
+        handle: twice,
+    };
+    let joined = join(mode, twice, primary.weaken(0x08).unwrap());
+    let made = [reduce, joined].map(|call| Handle::from_bytes(&state.reply(call).first));
+    assert_eq!(made.map(|handle| handle.selector.0[0]), [0x60, 0x68]);
+    [vec![primary, once, twice], made.to_vec()].concat()
+}
+
+// 12.
+
+#[test]
+fn by_the_mode_s_own_password_alone() {
+    let start = Bench::with_segment();
+    let mut refused = 0;
+    for (mode, own, other) in modes() {
+        let alike = (0..=255).map(|byte| [byte; 16]);
+        let near = [own, other].map(|handle| neighbours(handle.password));
+        for password in alike.chain(near.into_iter().flatten()) {
+            let mut state = start.clone();
+            let reply = state.reply(renew(mode, own, password));
+            let mut expected = start.clone();
+            if password == own.password {
+                assert_eq!(reply, Reply::refused(12));
+                refused += 1;
+            } else {
+                let renewed = Handle::primary(0, 2, password);
+                assert_eq!(reply, Reply::with_handle(&renewed));
+                let cluster = &mut expected.store.clusters[0][2];
+                match mode {
+                    READ_MODE => cluster.read = password,
+                    _ => cluster.write = password,
+                }
+            }
+            assert!(state == expected, "{mode} {password:?}");
+        }
+    }
+    assert_eq!(refused, 2);
+}
+
+/// Where the two are equal, that one password is 12 in either mode, and any other is taken.
+#[test]
+fn by_the_one_password_of_both_modes() {
+    for made in [READ_MODE, WRITE_MODE] {
+        let (start, both) = equal(made);
+        assert!(start.store.clusters[0][2].has_equal_passwords());
+        for mode in [READ_MODE, WRITE_MODE] {
+            let mut state = start.clone();
+            let reply = state.reply(renew(mode, both, both.password));
+            assert_eq!(reply, Reply::refused(12));
+            assert_eq!(state, start);
+            for password in [[0; 16], [0x33; 16]] {
+                let renewed = Reply::with_handle(&Handle { password, ..both });
+                assert_eq!(start.clone().reply(renew(mode, both, password)), renewed);
+            }
+        }
+    }
+}
+
+/// Every set of faults: alone each gives its number, and of several the first is given.
+#[test]
+fn numbers_in_their_order() {
+    let (mut asked, mut done) = (0, 0);
+    for renewed in renewed::all() {
+        let mut state = Bench {
+            store: renewed.store.clone(),
+            memory: vec![0x77; renewed.memory_bytes],
+        };
+        let mut expected = state.clone();
+        let reply = match renewed.number() {
+            0 => {
+                let node = &mut expected.store.clusters[usize::from(NODE)];
+                *node[usize::from(LOCAL)].primary_mut(renewed.mode) = renewed.password;
+                Reply::with_handle(&renewed.given())
+            }
+            number => Reply::refused(number),
+        };
+        assert_eq!(state.ask(renewed.call, &mut []), reply, "{renewed:?}");
+        assert!(state == expected, "{renewed:?}");
+        asked += 1;
+        done += usize::from(reply.is_done());
+    }
+    // Done in either mode: two new passwords where the two differ, one where they are equal.
+    assert_eq!((asked, done), (128 * 12, 6));
+}
+
+/// A new cluster never begins with one password for both.
+#[test]
+fn call_1_still_refuses_twins() {
+    for made in [READ_MODE, WRITE_MODE] {
+        let (mut state, both) = equal(made);
+        let new_cluster = |local, write| Call::NewCluster {
+            node: 0,
+            local,
+            read: both.password,
+            write,
+        };
+        assert_eq!(state.number(new_cluster(2, both.password)), 6);
+        for local in [0, 3] {
+            let twins = state.reply(new_cluster(local, both.password));
+            assert_eq!(twins, Reply::refused(7));
+        }
+        assert_eq!(state.number(new_cluster(3, [0x44; 16])), 0);
+        let delete = Call::DeleteCluster {
+            node: 0,
+            handle: both,
+        };
+        assert_eq!(state.number(delete), 0);
+        assert_eq!(state.number(new_cluster(2, both.password)), 7);
+    }
+}
+
+// One handle for both modes.
+
+#[test]
+fn it_reads_and_writes_and_so_does_what_is_made_from_it() {
+    for made in [READ_MODE, WRITE_MODE] {
+        let (mut state, both) = equal(made);
+        for mode in [READ_MODE, WRITE_MODE] {
+            for (at, handle) in family(&mut state, mode, both).into_iter().enumerate() {
+                assert_eq!(opens(&mut state, handle), [true; 2], "{handle:?}");
+                let data = [b'a' + at as u8; 4];
+                assert_eq!(state.write(5, &data, handle), 0);
+                assert_eq!(state.read(5, handle), Ok(data.to_vec()));
+                assert_eq!(state.look(0, 5, handle), Ok(data.to_vec()));
+                let not_referenced = match at {
+                    0 => 14,
+                    _ => 11,
+                };
+                assert_eq!(state.read(0, handle), Err(not_referenced));
+                assert_eq!(state.write(0, &data, handle), not_referenced);
+            }
+        }
+    }
+}
+
+/// Reducing and joining give the same in either mode.
+#[test]
+fn the_same_is_made_from_it_in_either_mode() {
+    let (mut state, both) = equal(READ_MODE);
+    let [reads, writes] = [READ_MODE, WRITE_MODE].map(|mode| family(&mut state, mode, both));
+    assert_eq!(reads, writes);
+    for call in [
+        |mode, handle| Call::Reduce { mode, handle },
+        |mode, handle| join(mode, handle, handle),
+    ] {
+        for &handle in &reads {
+            let [one, other] = [READ_MODE, WRITE_MODE].map(|mode| state.reply(call(mode, handle)));
+            assert_eq!(one, other);
+        }
+    }
+}
+
+#[test]
+fn it_does_all_that_a_write_primary_handle_does() {
+    for made in [READ_MODE, WRITE_MODE] {
+        let (mut state, handle) = equal(made);
+        let (node, segment, size) = (0, 6, 3);
+        #[rustfmt::skip]
+        let calls = [
+            Call::NewSegment { node, segment, size, handle },
+            Call::DeleteSegment { node, segment, handle },
+            Call::NewSegment { node, segment, size, handle },
+            Call::Read { segment, handle },
+            Call::DeleteSegment { node, segment, handle },
+            Call::Freeze { node, segment: 5, handle },
+            Call::Read { segment: 5, handle },
+        ];
+        for call in calls {
+            assert_eq!(state.number(call), 0, "{call:?}");
+        }
+        assert_eq!(state.number(Call::DeleteCluster { node, handle }), 22);
+        let weaker = handle.weaken(0x20).unwrap();
+        assert_eq!(state.number(freeze(5)), u8::from(made == WRITE_MODE) * 9);
+        let by_the_weaker = Call::DeleteSegment {
+            node,
+            segment: 5,
+            handle: weaker,
+        };
+        assert_eq!(state.number(by_the_weaker), 10);
+    }
+}
+
+/// Whichever mode's password is changed then, what was made from the old one opens the other mode alone.
+#[test]
+fn a_change_of_one_mode_ends_it() {
+    for made in [READ_MODE, WRITE_MODE] {
+        for changed in [READ_MODE, WRITE_MODE] {
+            let (mut state, both) = equal(made);
+            let old = family(&mut state, changed, both);
+            let reply = state.reply(renew(changed, both, [0x33; 16]));
+            let renewed = Handle::primary(0, 2, [0x33; 16]);
+            assert_eq!(reply, Reply::with_handle(&renewed));
+            let reads = changed == READ_MODE;
+            for handle in old {
+                assert_eq!(opens(&mut state, handle), [!reads, reads], "{handle:?}");
+            }
+            for handle in family(&mut state, changed, renewed) {
+                assert_eq!(opens(&mut state, handle), [reads, !reads], "{handle:?}");
+            }
+            // The other mode's own is still 12 there, and is taken back here.
+            let other = 3 - changed;
+            assert_eq!(state.number(renew(other, both, both.password)), 12);
+            assert_eq!(state.number(renew(changed, renewed, both.password)), 0);
+            assert_eq!(opens(&mut state, both), [true; 2]);
+        }
+    }
+}

@@ -1,0 +1,124 @@
+//! New passwords with every set of faults, in either mode, where the cluster's two passwords differ and where they are
+//! equal: what each has to be refused with is known from the set alone.
+#![allow(dead_code)] // each test file uses its own part
+
+use model::call::Call;
+use model::handle::{Handle, Password, Selector};
+use model::sizes::MEMORY_BYTES;
+use model::store::{Cluster, Mode, Segment, Store};
+
+/// The cluster whose password is replaced where nothing is wrong.
+pub const NODE: u16 = 2;
+pub const LOCAL: u8 = 6;
+
+const OWN: Password = [0x11; 16];
+const OTHER: Password = [0x22; 16];
+/// Neither of the cluster's, but both of another's.
+const THIRD: Password = [0x33; 16];
+
+/// How many ways there are for: 1, 2, 3, 4, 8, 9, 10, the new password, the mode, the other mode's password.
+const WAYS: [usize; 10] = [2, 2, 2, 2, 2, 2, 2, 3, 2, 2];
+
+/// A new password, and what it is put to.
+#[derive(Debug)]
+pub struct Renewed {
+    pub faults: Vec<u8>,
+    pub store: Store,
+    pub memory_bytes: usize,
+    pub call: Call,
+    pub mode: Mode,
+    pub password: Password,
+}
+
+impl Renewed {
+    /// The first number that applies, or 0.
+    pub fn number(&self) -> u8 {
+        self.faults.first().copied().unwrap_or(0)
+    }
+
+    /// The primary handle that it gives where it is done.
+    pub fn given(&self) -> Handle {
+        Handle::primary(NODE, LOCAL, self.password)
+    }
+}
+
+/// The first is one that is done.
+pub fn all() -> impl Iterator<Item = Renewed> {
+    (0..WAYS.iter().product()).map(|at| {
+        let mut rest = at;
+        let choices = WAYS.map(|ways| {
+            let choice = rest % ways;
+            rest /= ways;
+            choice
+        });
+        with(choices)
+    })
+}
+
+fn with(choices: [usize; 10]) -> Renewed {
+    let [unsound, nowhere, field, gapped, inactive, violated, weaker, chosen, write, equal] =
+        choices;
+    let other = [OTHER, OWN][equal];
+    let password = [THIRD, other, OWN][chosen];
+    let applying = [
+        (unsound, 1),
+        (nowhere, 2),
+        (field, 3),
+        (gapped, 4),
+        (inactive, 8),
+        (violated, 9),
+        (weaker, 10),
+        (usize::from(password == OWN), 12),
+    ];
+    let mode = [Mode::Read, Mode::Write][write];
+    let selector = match (gapped, weaker) {
+        (1, _) => Selector([255, 0x7e, 255, 255]),
+        (_, 1) => Selector([0x7e, 255, 255, 255]),
+        _ => Selector::PRIMARY,
+    };
+    let mut handle = Handle::converted(NODE, LOCAL, &OWN, selector);
+    handle.password[15] ^= u8::from(violated == 1);
+    handle.local -= u8::from(inactive == 1);
+    handle.node += 4 * u16::from(nowhere == 1);
+    Renewed {
+        faults: applying
+            .iter()
+            .filter(|(fault, _)| *fault != 0)
+            .map(|(_, number)| *number)
+            .collect(),
+        store: store(mode, other),
+        memory_bytes: MEMORY_BYTES - unsound,
+        call: Call::NewPassword {
+            mode: [1, 2, 0, 3][2 * field + write],
+            handle,
+            password,
+        },
+        mode,
+        password,
+    }
+}
+
+/// The cluster beside it has the same passwords, and cluster 0 of node 0 has the third in both modes.
+fn store(mode: Mode, other: Password) -> Store {
+    let active = Cluster {
+        active: true,
+        ..Cluster::INACTIVE
+    };
+    let mut own = active;
+    (*own.primary_mut(mode), *own.primary_mut(mode.other())) = (OWN, other);
+    let mut store = Store::starting();
+    let node = usize::from(NODE);
+    for (at, cluster) in store.clusters[node][usize::from(LOCAL)..]
+        .iter_mut()
+        .enumerate()
+    {
+        *cluster = own;
+        cluster.segments[at] = Segment::present(10 * at as u16, 9);
+    }
+    store.clusters[0][0] = Cluster {
+        read: THIRD,
+        write: THIRD,
+        ..active
+    };
+    store
+}
