@@ -170,8 +170,8 @@ uint8_t gelmuszta_reduce(const uint8_t image[GELMUSZTA_IMAGE], const uint8_t *me
  *
  * The new password is compared with the current one of that mode, and GELMUSZTA_OLD_PASSWORD says that they are equal. The
  * other mode's is not looked at: whether the call is done, and what it gives, tells nothing of it. So the cluster's two
- * passwords may become equal, and a handle then opens both modes, for as long as they are.
- * Whoever wants the two to differ has to see to it. */
+ * passwords may become equal, and a handle then opens both modes for as long as they are. Whoever wants the two to differ
+ * has to see to it. */
 uint8_t gelmuszta_new_password(uint8_t image[GELMUSZTA_IMAGE], const uint8_t *memory, size_t memory_length,
                                size_t mode, const uint8_t handle[GELMUSZTA_HANDLE],
                                const uint8_t password[GELMUSZTA_PASSWORD], uint8_t given[GELMUSZTA_HANDLE]);
