@@ -16,13 +16,24 @@ use Rattle.sizes.specs.Sizes.{clusters}
 use Rattle.handle.specs.declared.Handle.{Handle}
 use Rattle.handle.specs.Selectors.{gapped}
 use Rattle.handle.specs.Handles.{Name, nodeOf, widthOf}
+use Rattle.store.specs.declared.Cluster.{Cluster}
 use Rattle.store.specs.declared.Store.{Store}
-use Rattle.store.specs.Records.{recordOf, readMode, writeMode}
+use Rattle.store.specs.Records.{recordOf, clusterAt, readMode, writeMode}
 use Rattle.calls.specs.Calls.{Call, opens, needed, handleOf, presented, recordFor, recordNamed}
 use Rattle.calls.specs.Numbers.{valid, number}
 use Rattle.calls.proofs.CallLaws.{opened, Presents, none-of, InRange, guarded, record-is}
 use Rattle.calls.proofs.DoneLaws.{done-mode, each-range, done-even, done-valid}
 use Rattle.isolation.specs.Copies.{setApart, names, keyed, Shut}
+
+-- where two stores differ in one record alone, what is the same of that record is the same of all
+pub same-records : {A : Type 0} (g : Cluster → A) (n : ℕ) (a b : Store)
+    → ((k : ℕ) → k ≢ n → clusterAt a k ≡ clusterAt b k) → g (clusterAt a n) ≡ g (clusterAt b n)
+    → (k : ℕ) → g (clusterAt a k) ≡ g (clusterAt b k)
+same-records g n a b others e k = go (ℕ-discrete k n)
+  where
+    go : Dec (k ≡ n) → g (clusterAt a k) ≡ g (clusterAt b k)
+    go (yes p) = ap (λ (i : ℕ). g (clusterAt a i)) p ∙ e ∙ ap (λ (i : ℕ). g (clusterAt b i)) (sym p)
+    go (no p) = ap g (others k p)
 
 -- a place in range is the cluster set apart, or has another record
 pub named : (node local : ℕ) → local < clusters → (n l : ℕ) → InRange n l

@@ -29,11 +29,11 @@ use Rattle.store.specs.declared.Store.{Store}
 use Rattle.store.specs.Records.{started, recordOf, clusterAt, putRecord, withPassword}
 use Rattle.store.proofs.ChangeLaws.{put-same}
 use Rattle.store.specs.Records.{readMode, writeMode, primaryOf}
-use Rattle.calls.specs.Calls.{Call, call, newCluster, weaken, reduce, newPassword, join}
+use Rattle.calls.specs.Calls.{Copy, Call, call, Arguments, newCluster, weaken, reduce, newPassword, join}
 use Rattle.calls.specs.Calls.{handleOf, nodeFor, localFor, recordFor, recordNamed}
 use Rattle.calls.specs.Numbers.{gappedHandle, spentHandle, joinWhole, valid}
 use Rattle.calls.specs.Steps.{about, clusterMade, passwordReplaced, left, given}
-use Rattle.isolation.specs.Copies.{SixteenBytes}
+use Rattle.isolation.specs.Copies.{Done, SixteenBytes}
 use Rattle.isolation.specs.Effects.{Made, MadeOpens, otherMode, Renewed, RenewedOpens, Reduced, ReducedOpens}
 use Rattle.isolation.specs.Effects.{Joined, JoinedOpens, Weakened, WeakenedOpens, Refers}
 use Rattle.calls.proofs.CallLaws.{or-left, InRange}
@@ -113,6 +113,27 @@ module _ (f : Name → List ℕ → ℕ → List ℕ) where
           put-same (c .store) (recordFor x) (started (g .first) (g .second))
           (omega (arith, shape .records, v .node-low, v .local-low))
 
+  -- what call 9 leaves of its record, and the password of the mode in it
+  module _ (g : Arguments) (c : Copy) (e : Done f (call newPassword g) c) where
+    abbrev renewing : Call
+    renewing = call newPassword g
+
+    abbrev renewal : Cluster
+    renewal = withPassword (about renewing c) (g .mode) (g .first)
+
+    pub renewed-record : clusterAt (left newPassword renewing c .store) (recordFor renewing) ≡ renewal
+    unfolding left passwordReplaced
+    renewed-record =
+        put-same (c .store) (recordFor renewing) renewal
+        (active-in (c .store) (recordFor renewing) (done-active f renewing (c .store) (length (c .memory)) e refl))
+
+    pub renewed-password : primaryOf renewal (g .mode) ≡ g .first
+    renewed-password = go (done-mode f renewing (c .store) (length (c .memory)) e)
+      where
+        go : (g .mode ≡ readMode) ⊎ (g .mode ≡ writeMode) → primaryOf renewal (g .mode) ≡ g .first
+        go (inl q) = ap (λ (m : ℕ). primaryOf (withPassword (about renewing c) m (g .first)) m) q
+        go (inr q) = ap (λ (m : ℕ). primaryOf (withPassword (about renewing c) m (g .first)) m) q
+
   pub renewed-opens : RenewedOpens f
   unfolding left given passwordReplaced
   renewed-opens g c lp e =
@@ -120,35 +141,20 @@ module _ (f : Name → List ℕ → ℕ → List ℕ) where
         handle = primary-refers (nameOf (handleOf x)) (g .first) (v .node-low) (v .local-low) lp;
         opens =
             primary-valid (nameOf (handleOf x)) (g .mode) (g .first) s (v .node-low) (v .local-low) lp
-            (ap (λ (d : Cluster). primaryOf d (g .mode)) here ∙ new mode);
+            (ap (λ (d : Cluster). primaryOf d (g .mode)) (renewed-record g c e) ∙ renewed-password g c e);
         other =
-            ap (λ (d : Cluster). primaryOf d (otherMode (g .mode))) here
-            ∙ other-stays (about x c) (g .mode) (g .first) mode;
+            ap (λ (d : Cluster). primaryOf d (otherMode (g .mode))) (renewed-record g c e)
+            ∙ other-stays (about x c) (g .mode) (g .first) (done-mode f x (c .store) (length (c .memory)) e);
       })
     where
       x : Call
       x = call newPassword g
 
-      d : Cluster
-      d = withPassword (about x c) (g .mode) (g .first)
-
       s : Store
-      s = putRecord (c .store) (recordFor x) d
+      s = putRecord (c .store) (recordFor x) (withPassword (about x c) (g .mode) (g .first))
 
       v : InRange (nodeFor x) (localFor x)
       v = done-range f x (c .store) (length (c .memory)) e
-
-      here : clusterAt s (recordFor x) ≡ d
-      here =
-          put-same (c .store) (recordFor x) d
-          (active-in (c .store) (recordFor x) (done-active f x (c .store) (length (c .memory)) e refl))
-
-      mode : (g .mode ≡ readMode) ⊎ (g .mode ≡ writeMode)
-      mode = done-mode f x (c .store) (length (c .memory)) e
-
-      new : (g .mode ≡ readMode) ⊎ (g .mode ≡ writeMode) → primaryOf d (g .mode) ≡ g .first
-      new (inl q) = ap (λ (m : ℕ). primaryOf (withPassword (about x c) m (g .first)) m) q
-      new (inr q) = ap (λ (m : ℕ). primaryOf (withPassword (about x c) m (g .first)) m) q
 
   -- ---- handles made from a handle
 

@@ -5,7 +5,6 @@
 use mathlib.Core.Path.{_≡_, refl, sym, ap, _∙_, fun-ext}
 use mathlib.Core.Logic.{_≢_, _⊎_, inl, inr}
 use Prim.Native.Nat.{ℕ, _<_}
-use native.Mathlib.Decide.{ℕ-discrete}
 use mathlib.Core.Bool.{Bool, true, false, not, _&&_, true≢false}
 use mathlib.Core.List.{List, [], _∷_}
 use lib.ListN.{length}
@@ -26,7 +25,7 @@ use Rattle.isolation.specs.Copies.{SoundCopy, setApart, Alike, Shut}
 use Rattle.calls.proofs.FirstLaws.{Agree, _▸_, first-agree}
 use Rattle.calls.proofs.CallLaws.{Presents, any-same, opened, handle-range, mode-known, record-is, ungapped-is, valid-is}
 use Rattle.calls.proofs.KindLaws.{kind-is, only-kind}
-use Rattle.isolation.proofs.AwayLaws.{named, not-keyed}
+use Rattle.isolation.proofs.AwayLaws.{same-records, named, not-keyed}
 
 -- ---- the rows of two stores with the same tables, both sound or both not
 
@@ -37,6 +36,11 @@ module _ (f : Name → List ℕ → ℕ → List ℕ) (x : Call) (a b : Store) w
   Level h =
       (primaryOf (clusterAt a (recordNamed h)) (needed x) ≡ primaryOf (clusterAt b (recordNamed h)) (needed x))
       ⊎ ((valid f (needed x) h a ≡ false) × (valid f (needed x) h b ≡ false))
+
+  same-valid : (h : Handle) → Level h → valid f (needed x) h a ≡ valid f (needed x) h b
+  unfolding valid
+  same-valid h (inl e) = ap (λ (p : List ℕ). validates (widthOf h) (f (nameOf h)) p h) e
+  same-valid h (inr (p, q)) = p ∙ sym q
 
   module _ (size : ℕ) (sounds : sound a size ≡ sound b size) (same : tableAt a ≡ tableAt b)
       (level : noPlace x ≡ false → gappedHandle x ≡ false → badField x ≡ false → opens (x .kind) ≡ true
@@ -52,11 +56,6 @@ module _ (f : Name → List ℕ → ℕ → List ℕ) (x : Call) (a b : Store) w
     same-sound = ap (λ (t : Bool). not (among (7 ∷ []) (x .kind)) && not t) sounds
 
     module _ (place : noPlace x ≡ false) (even : gappedHandle x ≡ false) (fields : badField x ≡ false) where
-      same-valid : (h : Handle) → Level h → valid f (needed x) h a ≡ valid f (needed x) h b
-      unfolding valid
-      same-valid h (inl e) = ap (λ (p : List ℕ). validates (widthOf h) (f (nameOf h)) p h) e
-      same-valid h (inr (p, q)) = p ∙ sym q
-
       same-violated : violated f x a ≡ violated f x b
       unfolding violated
       same-violated = go (opens (x .kind)) refl
@@ -128,11 +127,8 @@ module _ (f : Name → List ℕ → ℕ → List ℕ) (x : Call) (a b : Store) w
 -- ---- two copies that are alike
 
 pub alike-tables : (node local : ℕ) (a b : Copy) → Alike node local a b → tableAt (a .store) ≡ tableAt (b .store)
-alike-tables node local a b al = fun-ext (λ n. go n (ℕ-discrete n (setApart node local)))
-  where
-    go : (n : ℕ) → Dec (n ≡ setApart node local) → tableAt (a .store) n ≡ tableAt (b .store) n
-    go n (yes p) = ap (tableAt (a .store)) p ∙ al .table ∙ ap (tableAt (b .store)) (sym p)
-    go n (no p) = ap tableOf (al .others n p)
+alike-tables node local a b al =
+    fun-ext (same-records tableOf (setApart node local) (a .store) (b .store) (al .others) (al .table))
 
 module _ (node local : ℕ) (low : local < clusters) (f : Name → List ℕ → ℕ → List ℕ) (a b : Copy)
     (al : Alike node local a b) where

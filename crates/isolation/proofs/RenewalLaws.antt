@@ -17,29 +17,25 @@ use Rattle.store.specs.declared.Cluster.{Cluster}
 use Rattle.store.specs.declared.Store.{Store}
 use Rattle.store.specs.Records.{Tables, tableOf, clusterAt, tableAt, segmentOf, primaryOf, withPassword}
 use Rattle.store.specs.Sound.{soundSegment, nodeApart, idle, settled, sound}
-use Rattle.store.proofs.ChangeLaws.{put-same, put-other}
+use Rattle.store.proofs.ChangeLaws.{put-other}
 use Rattle.calls.specs.Calls.{Copy, Call, newPassword, renewing, recordNamed}
 use Rattle.calls.specs.Numbers.{number}
 use Rattle.calls.specs.Steps.{Reply, Outcome, step, left, given, passwordReplaced}
 use Rattle.calls.proofs.CallLaws.{mode-known}
 use Rattle.calls.proofs.StepLaws.{step-refused, step-done}
-use Rattle.calls.proofs.DoneLaws.{done-active}
-use Rattle.calls.proofs.MadeWordLaws.{active-in}
 use Rattle.isolation.specs.Copies.{Done}
 use Rattle.isolation.specs.Renewals.{SameButOther, Untold, OtherUntold, GuessesUntold}
 use Rattle.isolation.proofs.NumberLaws.{rows-number}
+use Rattle.isolation.proofs.AwayLaws.{same-records}
+use Rattle.isolation.proofs.GivenLaws.{renewed-record}
 
 -- ---- one password of one cluster
 
 module _ (m n : ℕ) (a b : Copy) (same : SameButOther m n a b) where
-  -- what is the same of each record by itself, is the same of both copies
+  -- what is the same of that record is the same of all
   each : {A : Type 0} (g : Cluster → A) → g (clusterAt (a .store) n) ≡ g (clusterAt (b .store) n) → (k : ℕ)
       → g (clusterAt (a .store) k) ≡ g (clusterAt (b .store) k)
-  each g e k = go (ℕ-discrete k n)
-    where
-      go : Dec (k ≡ n) → g (clusterAt (a .store) k) ≡ g (clusterAt (b .store) k)
-      go (yes p) = ap (λ (i : ℕ). g (clusterAt (a .store) i)) p ∙ e ∙ ap (λ (i : ℕ). g (clusterAt (b .store) i)) (sym p)
-      go (no p) = ap g (same .others k p)
+  each g = same-records g n (a .store) (b .store) (same .others)
 
   tables : tableAt (a .store) ≡ tableAt (b .store)
   tables = fun-ext (each tableOf (same .table))
@@ -80,11 +76,10 @@ module _ (f : Name → List ℕ → ℕ → List ℕ) (m : ℕ) (h p : List ℕ)
 
   -- what call 9 leaves of each record
   module _ (c : Copy) (e : Done f x c) where
-    pub renewed : (k : ℕ) → k ≡ own → clusterAt (after c) k ≡ withPassword (clusterAt (c .store) k) m p
-    unfolding left passwordReplaced
+    renewed : (k : ℕ) → k ≡ own → clusterAt (after c) k ≡ withPassword (clusterAt (c .store) k) m p
     renewed k q =
         ap (clusterAt (after c)) q
-        ∙ put-same (c .store) own _ (active-in (c .store) own (done-active f x (c .store) (length (c .memory)) e refl))
+        ∙ renewed-record f (x .args) c e
         ∙ ap (λ (i : ℕ). withPassword (clusterAt (c .store) i) m p) (sym q)
 
     apart : (k : ℕ) → k ≢ own → clusterAt (after c) k ≡ clusterAt (c .store) k

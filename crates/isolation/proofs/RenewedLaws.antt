@@ -19,7 +19,7 @@ use Rattle.store.specs.declared.Cluster.{Cluster}
 use Rattle.store.specs.declared.Store.{Store}
 use Rattle.store.specs.Records.{clusterAt, primaryOf, withPassword}
 use Rattle.store.specs.Sound.{sound}
-use Rattle.calls.specs.Calls.{Copy, Call, renewing, recordNamed}
+use Rattle.calls.specs.Calls.{Copy, Call, renewing}
 use Rattle.calls.specs.Clear.{Clear}
 use Rattle.calls.specs.Numbers.{unsound, valid}
 use Rattle.calls.specs.Words.{clusterOf}
@@ -36,8 +36,7 @@ use Rattle.isolation.specs.Copies.{SoundCopy, Done}
 use Rattle.isolation.specs.Effects.{Renewed}
 use Rattle.isolation.specs.Renewals.{OtherFor, after, handed, checked, BothOpen, BothOpened, Revoked}
 use Rattle.isolation.proofs.KeptLaws.{step-sound}
-use Rattle.isolation.proofs.GivenLaws.{renewed-opens}
-use Rattle.isolation.proofs.RenewalLaws.{renewed}
+use Rattle.isolation.proofs.GivenLaws.{renewed-record, renewed-password, renewed-opens}
 
 module _ (f : Name → List ℕ → ℕ → List ℕ) where
   -- where the passwords are one, so is what validation gets
@@ -93,7 +92,7 @@ module _ (f : Name → List ℕ → ℕ → List ℕ) where
 
     own : clusterOf h s′ ≡ withPassword (clusterOf h s) m p
     own =
-        ap (λ (o : Outcome). clusterOf h (o .copy .store)) (step-done f x c e) ∙ renewed f m a p c e (recordNamed h) refl
+        ap (λ (o : Outcome). clusterOf h (o .copy .store)) (step-done f x c e) ∙ renewed-record f (x .args) c e
 
     -- a handle of the cluster meets its record, which is active still
     still-active : (n : Name) → n ≡ nameOf h → not (clusterAt s′ (n .node * 8 + n .local) .active) ≡ false
@@ -105,11 +104,7 @@ module _ (f : Name → List ℕ → ℕ → List ℕ) where
     -- ---- the handle presented
 
     new : primaryOf (clusterOf h s′) m ≡ p
-    new = ap (λ (d : Cluster). primaryOf d m) own ∙ go mode
-      where
-        go : (m ≡ 1) ⊎ (m ≡ 2) → primaryOf (withPassword (clusterOf h s) m p) m ≡ p
-        go (inl q) = ap (λ (i : ℕ). primaryOf (withPassword (clusterOf h s) i p) i) q
-        go (inr q) = ap (λ (i : ℕ). primaryOf (withPassword (clusterOf h s) i p) i) q
+    new = ap (λ (d : Cluster). primaryOf d m) own ∙ renewed-password f (x .args) c e
 
     another : samePassword p (h .password) ≡ false
     another =
