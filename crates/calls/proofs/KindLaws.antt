@@ -4,7 +4,7 @@
 use mathlib.Core.Path.{_≡_, refl, sym, ap, _∙_}
 use mathlib.Core.Logic.{_≢_, inl, inr}
 use Prim.Native.Nat.{ℕ}
-use mathlib.Core.Bool.{Bool, false, not, _||_, false≢true}
+use mathlib.Core.Bool.{Bool, true, false, not, _||_, false≢true}
 use mathlib.Core.List.{List, [], _∷_, map}
 use lib.Dec.{eqb}
 use lib.ListN.{getD}
@@ -82,6 +82,15 @@ module _ (t : Kind → Bool) where
   same-kind : (u : Kind → Bool) → map t kinds ≡ map u kinds → (k : Kind) → t k ≡ u k
   same-kind u e k =
       sym (at-place t false k) ∙ ap (λ (l : List Bool). getD l (placeOf k) false) e ∙ at-place u false k
+
+  -- of which kinds the test holds, another one does
+  pub kind-then : (u : Kind → Bool) → map (λ k. not (t k) || u k) kinds ≡ map (λ k. true) kinds → (k : Kind) → t k ≡ true
+      → u k ≡ true
+  kind-then u e k h =
+      ap (λ (v : Bool). not v || u k) (sym h)
+      ∙ sym (at-place (λ k. not (t k) || u k) false k)
+      ∙ ap (λ (l : List Bool). getD l (placeOf k) false) e
+      ∙ at-place (λ (k : Kind). true) false k
 
   -- a test of the kinds that a list names, and of all kinds but one
   pub kind-is : (ks : List Kind) → map t kinds ≡ map (one ks) kinds → (x : Call) → Is (t (x .kind)) (Named ks x)

@@ -38,7 +38,9 @@
 --     outcome f n         what is left and given where the number is n: a refusal leaves the copy and the buffer alone
 --     step f              what a call leaves and gives on a copy
 --     followed r n        the reply r, and then the list's
---     run f               the replies of a list of calls, and the copy at its end
+--     runBy p             the replies of a list of calls, each carried out by p on the copy that the one before it left, and
+--                         the copy at its end
+--     run f               that list carried out by the step
 --     aesStep             the step by the product's conversion
 --     effects             a name that opens what each call leaves and gives
 -- Assumes nothing.
@@ -87,6 +89,10 @@ pub record Ran : Type 0 where
 
 abbrev pub followed : Reply → Ran → Ran
 followed r n = record { replies = r ∷ n .replies; copy = n .copy }
+
+abbrev pub runBy : (Call → Copy → Outcome) → List Call → Copy → Ran
+runBy p [] c = record { replies = []; copy = c }
+runBy p (x ∷ xs) c = followed (p x c .reply) (runBy p xs (p x c .copy))
 
 abbrev pub zeroHandle : List ℕ
 zeroHandle = replicate handleBytes 0
@@ -235,8 +241,7 @@ module _ (f : Name → List ℕ → ℕ → List ℕ) where
   step x c = outcome (number f x (c .store) (length (c .memory))) x c
 
   abbrev pub run : List Call → Copy → Ran
-  run [] c = record { replies = []; copy = c }
-  run (x ∷ xs) c = followed (step x c .reply) (run xs (step x c .copy))
+  run = runBy step
 
 abbrev pub aesStep : Call → Copy → Outcome
 aesStep = step product

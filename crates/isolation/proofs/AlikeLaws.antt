@@ -6,33 +6,34 @@ use mathlib.Core.Path.{_≡_, refl, sym, ap, _∙_, subst}
 use mathlib.Core.Logic.{_≢_}
 use Prim.Native.Nat.{ℕ, _+_, _-_, _≤_, _<_}
 use native.Mathlib.Omega.{arith}
-use native.Mathlib.Decide.{ℕ-discrete, decLt}
 use mathlib.Core.Bool.{true}
-use mathlib.Core.List.{List, _++_}
-use lib.ListN.{length, take, drop, replicate, length-set}
+use mathlib.Core.List.{List}
+use lib.ListN.{length, take, replicate, length-set}
 use Rattle.sizes.specs.Sizes.{nodes, clusters}
-use Rattle.handle.specs.Handles.{Name, nameOf, widthOf, encoded, reduced, joined}
+use Rattle.handle.specs.Handles.{Name}
 use Rattle.store.specs.declared.Place.the-variants.{Absent}
 use Rattle.store.specs.declared.Cluster.{Cluster}
 use Rattle.store.specs.declared.Store.{Store}
-use Rattle.store.specs.Records.{Table, Tables, inactive, started, tableOf, clusterAt, tableAt, placeOf, putRecord}
+use Rattle.store.specs.Records.{Table, Tables, inactive, started, tableOf, tableAt, placeOf, putRecord}
 use Rattle.store.specs.Records.{withPlace, withMark, lengthOf, primaryOf, withPassword}
-use Rattle.store.proofs.ChangeLaws.{put-other, put-same, put-out}
+use Rattle.store.proofs.ChangeLaws.{put-other}
 use Rattle.calls.specs.Calls.{Copy, Call, call, Arguments, Kind, newCluster, deleteCluster, newSegment, deleteSegment}
-use Rattle.calls.specs.Calls.{read, write, weaken, reduce, newPassword, freeze, join, validate, look, opens, uses, handleOf, otherOf}
-use Rattle.calls.specs.Calls.{nodeFor, localFor, recordFor, placeFor, startFor, partFor}
-use Rattle.calls.specs.Steps.{zeroHandle, handles, readReply, lookReply, within, putCluster, putBytes, about, newPlace}
+use Rattle.calls.specs.Calls.{read, write, weaken, reduce, newPassword, freeze, join, validate, look, opens}
+use Rattle.calls.specs.Calls.{nodeFor, localFor, recordFor, placeFor, startFor}
+use Rattle.calls.specs.Steps.{putCluster, putBytes, about, newPlace}
 use Rattle.calls.specs.Steps.{newStart}
 use Rattle.calls.specs.Steps.{clusterMade, clusterDeleted, segmentMade, segmentDeleted, segmentWritten}
 use Rattle.calls.specs.Steps.{passwordReplaced, segmentMarked}
-use Rattle.calls.specs.Steps.{left, segmentRead, segmentShown, given}
+use Rattle.calls.specs.Steps.{left, given}
 use Rattle.isolation.specs.Copies.{SoundCopy, Done, InPlace, setApart, Alike, Shut}
-use Rattle.calls.proofs.MemoryLaws.{length-overwritten, overwritten-both, part-same}
-use Rattle.isolation.proofs.AddressLaws.{in-place, place-outside}
+use Rattle.calls.proofs.MemoryLaws.{length-overwritten, overwritten-both}
+use Rattle.isolation.proofs.AddressLaws.{place-outside}
+use Rattle.calls.proofs.CallLaws.{InRange}
 use Rattle.calls.proofs.DoneLaws.{done-range, new-away}
 use Rattle.isolation.proofs.AwayLaws.{shut-away}
-use Rattle.isolation.proofs.KeptLaws.{tables, facts, segment-fits, low-segment, new-fits, write-fits}
+use Rattle.isolation.proofs.KeptLaws.{tables, facts, low-segment, new-fits, write-fits}
 use Rattle.isolation.proofs.NumberLaws.{alike-tables}
+use Rattle.isolation.proofs.PairLaws.{put-both, reads-segment, reading-opens, moded-opens, same-given}
 
 module _ (node local : ℕ) where
   pub put-table : (s : Store) (n : ℕ) (d : Cluster) → n ≢ setApart node local
@@ -42,28 +43,13 @@ module _ (node local : ℕ) where
   module _ (a b : Copy) (al : Alike node local a b) where
     -- ---- one record put, one part overwritten
 
-    put-others : (n : ℕ) (d : Cluster) (m : ℕ) → m ≢ setApart node local
-        → clusterAt (putRecord (a .store) n d) m ≡ clusterAt (putRecord (b .store) n d) m
-    put-others n d m mz = go (ℕ-discrete m n) (decLt n (length (a .store .clusters)))
-      where
-        same : length (a .store .clusters) ≡ length (b .store .clusters)
-        same = al .records
-
-        go : Dec (m ≡ n) → Dec (n < length (a .store .clusters))
-            → clusterAt (putRecord (a .store) n d) m ≡ clusterAt (putRecord (b .store) n d) m
-        go (no q) h = put-other (a .store) n d m q ∙ al .others m mz ∙ sym (put-other (b .store) n d m q)
-        go (yes q) (yes h) = rw q (put-same (a .store) n d h ∙ sym (put-same (b .store) n d (omega (arith, same))))
-        go (yes q) (no h) =
-            ap (λ (s : Store). clusterAt s m) (put-out (a .store) n d (omega arith))
-            ∙ al .others m mz
-            ∙ ap (λ (s : Store). clusterAt s m) (sym (put-out (b .store) n d (omega (arith, same))))
-
     alike-put : (n : ℕ) (d : Cluster) → n ≢ setApart node local → Alike node local (putCluster a n d) (putCluster b n d)
     alike-put n d ne =
         record {
           records = length-set (a .store .clusters) n d ∙ al .records ∙ sym (length-set (b .store .clusters) n d);
-          others = put-others n d;
-          table = put-table (a .store) n d ne ∙ al .table ∙ sym (put-table (b .store) n d ne);
+          others = λ m mz.
+              put-both (λ (c : Cluster). c) (a .store) (b .store) (al .records) n m d d (al .others m mz) (λ q. refl);
+          table = put-both tableOf (a .store) (b .store) (al .records) n _ d d (al .table) (λ q. refl);
           size = al .size;
           bytes = λ p out.
               al .bytes p
@@ -163,77 +149,21 @@ module _ (node local : ℕ) (high : node < nodes) (low : local < clusters) (f : 
   left-alike validate h e = al
   left-alike look h e = al
 
-  -- the segment that a call reads lies outside those of the cluster set apart
-  module _ (kind : Kind) (u : uses kind .segment ≡ true) (e : Done f (call kind g) a)
-      (ne : recordFor (call kind g) ≢ setApart node local) where
-    abbrev begins : ℕ
-    begins = startFor (call kind g) (tables a)
-
-    abbrev long : ℕ
-    long = lengthOf (placeFor (call kind g) (tables a))
-
-    part-alike : take long (drop begins (a .memory)) ≡ take long (drop begins (b .memory))
-    part-alike =
-        let x : Call = call kind g in
-        let v = done-range f x (a .store) (length (a .memory)) e in
-        let i = low-segment f g a k kind u e in
-        part-same (a .memory) (b .memory) begins long (segment-fits f g a k x v i) (al .size)
-        (λ p lo hi.
-        al .bytes p
-        (place-outside (a .store) (length (a .memory)) (facts a k) node local high low (nodeFor x) (localFor x)
-        (g .segment) (v .node-low) (v .local-low) i ne p (in-place (nodeFor x) (placeFor x (tables a)) p lo hi)))
-
-  read-alike : Done f (call read g) a → recordFor (call read g) ≢ setApart node local
-      → segmentRead (call read g) a ≡ segmentRead (call read g) b
-  unfolding segmentRead
-  read-alike e ne =
-      let x : Call = call read g in
-      let size : Tables → ℕ = λ ts. lengthOf (placeFor x ts) in
-      ap (λ (bs : List ℕ). readReply (size (tables a)) (bs ++ drop (size (tables a)) (g .bytes))) (part-alike read refl e ne)
-      ∙ ap
-      (λ (ts : Tables).
-      readReply (size ts) (take (size ts) (drop (startFor x ts) (b .memory)) ++ drop (size ts) (g .bytes)))
-      same-tables
-
-  look-alike : Done f (call look g) a → recordFor (call look g) ≢ setApart node local
-      → segmentShown (call look g) a ≡ segmentShown (call look g) b
-  unfolding segmentShown
-  look-alike e ne =
-      let x : Call = call look g in
-      let n : begins look refl e ne + long look refl e ne - begins look refl e ne ≡ long look refl e ne = omega arith in
-      ap (λ (k : ℕ). lookReply 0 (take k (drop (startFor x (tables a)) (a .memory)))) n
-      ∙ ap (lookReply 0) (part-alike look refl e ne)
-      ∙ ap (λ (k : ℕ). lookReply 0 (take k (drop (startFor x (tables a)) (b .memory)))) (sym n)
-      ∙ ap (λ (ts : Tables). lookReply 0 (within (partFor x ts) (b .memory))) same-tables
-
+  -- the segment that a call reads lies outside those of the cluster set apart, and a password is that of another cluster
   pub given-alike : (kind : Kind) → Closed kind → Done f (call kind g) a
       → given f kind (call kind g) a ≡ given f kind (call kind g) b
-  unfolding given
-  given-alike newCluster h e = refl
-  given-alike deleteCluster h e = refl
-  given-alike newSegment h e = refl
-  given-alike deleteSegment h e = refl
-  given-alike read h e = read-alike e (elsewhere read refl e h)
-  given-alike write h e = refl
-  given-alike weaken h e = refl
-  given-alike reduce h e =
-      let x : Call = call reduce g in
-      ap
-      (λ (d : Cluster).
-      handles
-      (encoded (reduced (widthOf (handleOf x)) (f (nameOf (handleOf x))) (handleOf x) (primaryOf d (g .mode))))
-      zeroHandle 0)
-      (al .others (recordFor x) (elsewhere reduce refl e h))
-  given-alike newPassword h e = refl
-  given-alike freeze h e = refl
-  given-alike join h e =
-      let x : Call = call join g in
-      ap
-      (λ (d : Cluster).
-      handles
-      (encoded
-      (joined (widthOf (handleOf x)) (f (nameOf (handleOf x))) (handleOf x) (otherOf x) (primaryOf d (g .mode))))
-      zeroHandle 0)
-      (al .others (recordFor x) (elsewhere join refl e h))
-  given-alike validate h e = refl
-  given-alike look h e = look-alike e (elsewhere look refl e h)
+  given-alike kind h e =
+      same-given f g a b k same-tables (al .size) kind e
+      (λ r p u.
+      al .bytes p
+      (place-outside (a .store) (length (a .memory)) (facts a k) node local high low (nodeFor x) (localFor x) (g .segment)
+      (v .node-low) (v .local-low) (low-segment f g a k kind (reads-segment kind r) e)
+      (elsewhere kind (reading-opens kind r) e h) p u))
+      (λ m.
+      ap (λ (d : Cluster). primaryOf d (g .mode)) (al .others (recordFor x) (elsewhere kind (moded-opens kind m) e h)))
+    where
+      x : Call
+      x = call kind g
+
+      v : InRange (nodeFor x) (localFor x)
+      v = done-range f x (a .store) (length (a .memory)) e

@@ -3,6 +3,7 @@ pub mod AwayLaws
 pub mod KeptLaws
 pub mod EntryLaws
 pub mod NumberLaws
+pub mod PairLaws
 pub mod AlikeLaws
 pub mod TwoCopies
 pub mod ReaderLaws

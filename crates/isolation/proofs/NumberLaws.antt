@@ -1,4 +1,4 @@
--- Both copies give a call the same number, and a look the same part. Rows that see the call alone, or the tables, agree at
+-- Both copies give a call the same number. Rows that see the call alone, or the tables, agree at
 -- once. The two rows that see passwords, 9 and 12, see those of the mode needed alone: it is enough that no handle which is
 -- presented can tell the copies apart. Row 12 is looked at only where row 9 did not apply.
 -- Assumes nothing.
@@ -17,7 +17,6 @@ use Rattle.store.specs.Records.{Tables, tableOf, clusterAt, tableAt, readMode, 
 use Rattle.store.specs.Sound.{sound}
 use Rattle.calls.specs.Calls.{Copy, Call, call, Kind, newPassword, among, opens, needed, handleOf, presented, anyOf, recordFor}
 use Rattle.calls.specs.Calls.{recordNamed}
-use Rattle.calls.specs.Looks.{lookedBy, looked}
 use Rattle.calls.specs.Numbers.{unsound, noPlace, badField, gappedHandle, inUse, inactiveCluster, valid, violated}
 use Rattle.calls.specs.Numbers.{oldPassword, clusterFrozen, segmentPresent, segmentAbsent, segmentFrozen, short, fullNode}
 use Rattle.calls.specs.Numbers.{byTables, byRecords, rows, number}
@@ -43,8 +42,8 @@ module _ (f : Name → List ℕ → ℕ → List ℕ) (x : Call) (a b : Store) w
   same-valid h (inr (p, q)) = p ∙ sym q
 
   module _ (size : ℕ) (sounds : sound a size ≡ sound b size) (same : tableAt a ≡ tableAt b)
-      (level : noPlace x ≡ false → gappedHandle x ≡ false → badField x ≡ false → opens (x .kind) ≡ true
-      → (h : Handle) → Presents x h → Level h) where
+      (level : noPlace x ≡ false → gappedHandle x ≡ false → badField x ≡ false → inactiveCluster x (tableAt a) ≡ false
+      → opens (x .kind) ≡ true → (h : Handle) → Presents x h → Level h) where
     tabled : (n : ℕ) (t : Call → Tables → Bool) → byTables n t x a ≡ byTables n t x b
     tabled n t = ap (λ (ts : Tables). record { number = n; applies = t x ts }) same
 
@@ -55,7 +54,8 @@ module _ (f : Name → List ℕ → ℕ → List ℕ) (x : Call) (a b : Store) w
     unfolding unsound
     same-sound = ap (λ (t : Bool). not (among (7 ∷ []) (x .kind)) && not t) sounds
 
-    module _ (place : noPlace x ≡ false) (even : gappedHandle x ≡ false) (fields : badField x ≡ false) where
+    module _ (place : noPlace x ≡ false) (even : gappedHandle x ≡ false) (fields : badField x ≡ false)
+        (active : inactiveCluster x (tableAt a) ≡ false) where
       same-violated : violated f x a ≡ violated f x b
       unfolding violated
       same-violated = go (opens (x .kind)) refl
@@ -65,7 +65,7 @@ module _ (f : Name → List ℕ → ℕ → List ℕ) (x : Call) (a b : Store) w
 
           go : (t : Bool) → opens (x .kind) ≡ t → (t && anyOf (wrong a) (presented x)) ≡ (t && anyOf (wrong b) (presented x))
           go true o =
-              any-same (wrong a) (wrong b) (presented x) (λ h i. ap not (same-valid h (level place even fields o h i)))
+              any-same (wrong a) (wrong b) (presented x) (λ h i. ap not (same-valid h (level place even fields active o h i)))
           go false o = refl
 
       same-old : violated f x a ≡ false → oldPassword x a ≡ oldPassword x b
@@ -92,7 +92,7 @@ module _ (f : Name → List ℕ → ℕ → List ℕ) (x : Call) (a b : Store) w
               let o : opens (x .kind) ≡ true = ap opens k in
               ap (samePassword (x .args .first))
               (kept o (ap (λ (j : Kind). needed (call j (x .args))) k)
-              (level place even fields o (handleOf x) (opened x o .presents)))
+              (level place even fields active o (handleOf x) (opened x o .presents)))
           go false e = refl
 
     same-rows : Agree x a b (rows f size)
@@ -106,12 +106,12 @@ module _ (f : Name → List ℕ → ℕ → List ℕ) (x : Call) (a b : Store) w
         tabled 6 inUse ▸ λ e6.
         refl ▸ λ e7.
         tabled 8 inactiveCluster ▸ λ e8.
-        told 9 (violated f) (same-violated e2 e4 e3) ▸ λ e9.
+        told 9 (violated f) (same-violated e2 e4 e3 e8) ▸ λ e9.
         refl ▸ λ e23.
         refl ▸ λ e10.
         tabled 22 clusterFrozen ▸ λ e22.
         refl ▸ λ e11.
-        told 12 oldPassword (same-old e2 e4 e3 e9) ▸ λ e12.
+        told 12 oldPassword (same-old e2 e4 e3 e8 e9) ▸ λ e12.
         tabled 13 segmentPresent ▸ λ e13.
         tabled 14 segmentAbsent ▸ λ e14.
         tabled 22 segmentFrozen ▸ λ q22.
@@ -134,9 +134,9 @@ module _ (node local : ℕ) (low : local < clusters) (f : Name → List ℕ → 
     (al : Alike node local a b) where
   -- a handle of the cluster set apart validates in neither copy, one of another cluster meets equal records
   alike-level : (x : Call) → Shut node local f x (a .store) → Shut node local f x (b .store) → noPlace x ≡ false
-      → gappedHandle x ≡ false → badField x ≡ false → opens (x .kind) ≡ true
+      → gappedHandle x ≡ false → badField x ≡ false → inactiveCluster x (tableAt (a .store)) ≡ false → opens (x .kind) ≡ true
       → (h : Handle) → Presents x h → Level f x (a .store) (b .store) h
-  alike-level x ha hb place even fields o h i =
+  alike-level x ha hb place even fields active o h i =
       go (named node local low (nodeOf h) (h .local) (handle-range x h i place))
     where
       invalid : (s : Store) → Shut node local f x s → nodeOf h ≡ node → h .local ≡ local → valid f (needed x) h s ≡ false
@@ -162,11 +162,3 @@ module _ (node local : ℕ) (low : local < clusters) (f : Name → List ℕ → 
       rows-number f x (a .store) (b .store) (length (a .memory)) (sa ∙ sym sb ∙ ap (sound (b .store)) (sym (al .size)))
       (alike-tables node local a b al) (alike-level x ha hb)
       ∙ ap (number f x (b .store)) (al .size)
-
-  -- so a look tells the same part: the number and the tables decide it
-  pub same-looked : (x : Call) → SoundCopy a → SoundCopy b → Shut node local f x (a .store)
-      → Shut node local f x (b .store)
-      → looked f x (a .store) (length (a .memory)) ≡ looked f x (b .store) (length (b .memory))
-  unfolding looked
-  same-looked x sa sb ha hb =
-      λ j. lookedBy (same-number x sa sb ha hb j) x (alike-tables node local a b al j)

@@ -1,11 +1,10 @@
 -- What call 9 tells of the other mode's password: nothing. The tables of the two copies are the same, and a call in a mode
 -- meets the passwords of that mode alone, in row 9 and in row 12; soundness looks at the passwords of inactive clusters alone.
 -- Assumes nothing.
-use mathlib.Core.Path.{_≡_, refl, sym, ap, ap₂, _∙_, subst, fun-ext}
+use mathlib.Core.Path.{_≡_, refl, sym, ap, ap₂, _∙_, fun-ext}
 use mathlib.Core.Logic.{_≢_, _⊎_, inl, inr}
-use Prim.Native.Nat.{ℕ, zero, suc}
+use Prim.Native.Nat.{ℕ}
 use native.Mathlib.Decide.{ℕ-discrete}
-use native.Mathlib.Omega.{arith}
 use mathlib.Core.Bool.{Bool, true, false, _&&_, _||_}
 use mathlib.Core.List.{List, [], _∷_}
 use lib.Dec.{eqb}
@@ -20,12 +19,12 @@ use Rattle.store.specs.Sound.{soundSegment, nodeApart, idle, settled, sound}
 use Rattle.store.proofs.ChangeLaws.{put-other}
 use Rattle.calls.specs.Calls.{Copy, Call, newPassword, renewing, recordNamed}
 use Rattle.calls.specs.Numbers.{number}
-use Rattle.calls.specs.Steps.{Reply, Outcome, step, left, given, passwordReplaced}
+use Rattle.calls.specs.Steps.{Reply, left, given, passwordReplaced}
 use Rattle.calls.proofs.CallLaws.{mode-known}
-use Rattle.calls.proofs.StepLaws.{step-refused, step-done}
 use Rattle.isolation.specs.Copies.{Done}
 use Rattle.isolation.specs.Renewals.{SameButOther, Untold, OtherUntold, GuessesUntold}
 use Rattle.isolation.proofs.NumberLaws.{rows-number}
+use Rattle.isolation.proofs.PairLaws.{same-step}
 use Rattle.isolation.proofs.AwayLaws.{same-records}
 use Rattle.isolation.proofs.GivenLaws.{renewed-record}
 
@@ -91,7 +90,7 @@ module _ (f : Name → List ℕ → ℕ → List ℕ) (m : ℕ) (h p : List ℕ)
     number-same =
         rows-number f x (a .store) (b .store) (length (a .memory)) (sounds m n a b same (length (a .memory)))
         (tables m n a b same)
-        (λ place even fields o k i. inl (passwords m n a b same (mode-known x fields) (recordNamed k)))
+        (λ place even fields active o k i. inl (passwords m n a b same (mode-known x fields) (recordNamed k)))
         ∙ ap (λ (l : List ℕ). number f x (b .store) (length l)) (same .memory)
 
     module _ (ea : Done f x a) (eb : Done f x b) where
@@ -126,27 +125,13 @@ module _ (f : Name → List ℕ → ℕ → List ℕ) (m : ℕ) (h p : List ℕ)
           go (yes q) = ap (λ (c : Cluster). c .active) (renewed a ea n q) ∙ same .active
           go (no q) = ap (λ (c : Cluster). c .active) (apart a ea n q) ∙ same .active
 
-    -- from what the two steps are
-    ends : (o u : Outcome) → step f x a ≡ o → step f x b ≡ u → o .reply ≡ u .reply → SameButOther m n (o .copy) (u .copy)
-        → Untold f m n x a b
-    ends o u eo eu r k =
-        record {
-          reply = ap (λ (t : Outcome). t .reply) eo ∙ r ∙ ap (λ (t : Outcome). t .reply) (sym eu);
-          left =
-              subst (λ (t : Outcome). SameButOther m n (t .copy) (step f x b .copy)) (sym eo)
-              (subst (λ (t : Outcome). SameButOther m n (o .copy) (t .copy)) (sym eu) k);
-        }
-
     untold : Untold f m n x a b
     unfolding given
-    untold = by (number f x (b .store) (length (b .memory))) refl
-      where
-        by : (k : ℕ) → number f x (b .store) (length (b .memory)) ≡ k → Untold f m n x a b
-        by zero e =
-            ends _ _ (step-done f x a (number-same ∙ e)) (step-done f x b e) refl (left-same (number-same ∙ e) e)
-        by (suc k) e =
-            ends _ _ (step-refused f x a (suc k) (number-same ∙ e) (λ z. absurd (omega arith)))
-            (step-refused f x b (suc k) e (λ z. absurd (omega arith))) refl same
+    untold =
+        let s =
+        same-step f x a b number-same (SameButOther m n) same
+        (λ e. (refl, left-same e (sym number-same ∙ e))) in
+        record { reply = s .0; left = s .1 }
 
 module _ (f : Name → List ℕ → ℕ → List ℕ) where
   pub other-untold : OtherUntold f

@@ -11,9 +11,9 @@ use Rattle.store.specs.declared.Store.{Store}
 use Rattle.store.specs.Records.{tableAt, readMode, writeMode}
 use Rattle.calls.specs.declared.Looked.{Looked}
 use Rattle.calls.specs.Calls.{Copy, Call, isLook}
-use Rattle.calls.specs.Steps.{Outcome, Ran, followed, outcome, step, run}
+use Rattle.calls.specs.Steps.{Outcome, Ran, followed, runBy, outcome, step, run}
 use Rattle.calls.specs.Looks.{lookedBy, looked}
-use Rattle.isolation.specs.Copies.{SoundCopy, keyed, AllShut, NoWriter, also, places}
+use Rattle.isolation.specs.Copies.{SoundCopy, Along, keyed, Shut, AllShut, NoWriter, also, places}
 use Rattle.calls.proofs.CallLaws.{or-left, or-right}
 use Rattle.calls.proofs.StepLaws.{numberBelow, number-below, looked-below}
 use Rattle.isolation.proofs.KeptLaws.{step-sound}
@@ -27,8 +27,7 @@ module _ (f : Name → List ℕ → ℕ → List ℕ) where
   step-below x c k = ap (λ (n : ℕ). outcome f n x c) (number-below f x (c .store) (length (c .memory)) k)
 
   abbrev pub runBelow : List Call → Copy → Ran
-  runBelow [] c = record { replies = []; copy = c }
-  runBelow (x ∷ xs) c = followed (stepBelow x c .reply) (runBelow xs (stepBelow x c .copy))
+  runBelow = runBy stepBelow
 
   pub run-below : (xs : List Call) (c : Copy) → SoundCopy c → run f xs c ≡ runBelow xs c
   run-below [] c k = refl
@@ -87,26 +86,25 @@ module _ (f : Name → List ℕ → ℕ → List ℕ) where
       ap (λ (o : Outcome). someBelow t xs (o .copy)) (step-below x c k)
       ∙ or-right (t x (c .store)) (someBelow t xs (stepBelow x c .copy)) e
 
+  -- so what follows of a call that does not pass it holds along the list
+  pub along-below : (t : Call → Store → Bool) (p : Call → Store → Type 0) → ((x : Call) (s : Store) → t x s ≡ false → p x s)
+      → (xs : List Call) (c : Copy) → SoundCopy c → someBelow t xs c ≡ false → Along (step f) p xs c
+  along-below t p g [] c k e = tt
+  along-below t p g (x ∷ xs) c k e = (
+    g x (c .store) (or-left (t x (c .store)) (someBelow t xs (stepBelow x c .copy)) e),
+    along-below t p g xs (step f x c .copy) (step-sound f x c k) (some-rest t x xs c k e),
+  )
+
   module _ (node local : ℕ) where
     abbrev pub isKeyed : Call → Store → Bool
     isKeyed x s = keyed node local f readMode x s || keyed node local f writeMode x s
 
     pub shut-below : (xs : List Call) (c : Copy) → SoundCopy c → someBelow isKeyed xs c ≡ false
         → AllShut node local f xs c
-    shut-below [] c k e = tt
-    shut-below (x ∷ xs) c k e =
-        let q = or-left (isKeyed x (c .store)) (someBelow isKeyed xs (stepBelow x c .copy)) e in
-        let r = keyed node local f readMode x (c .store) in
-        let w = keyed node local f writeMode x (c .store) in (
-          (or-left r w q, or-right r w q),
-          shut-below xs (step f x c .copy) (step-sound f x c k) (some-rest isKeyed x xs c k e),
-        )
+    shut-below =
+        along-below isKeyed (Shut node local f)
+        (λ x s e. let r = keyed node local f readMode x s in let w = keyed node local f writeMode x s in (or-left r w e, or-right r w e))
 
     pub unwritten-below : (xs : List Call) (c : Copy) → SoundCopy c
         → someBelow (keyed node local f writeMode) xs c ≡ false → NoWriter node local f xs c
-    unwritten-below [] c k e = tt
-    unwritten-below (x ∷ xs) c k e =
-        let t = keyed node local f writeMode in (
-          or-left (t x (c .store)) (someBelow t xs (stepBelow x c .copy)) e,
-          unwritten-below xs (step f x c .copy) (step-sound f x c k) (some-rest t x xs c k e),
-        )
+    unwritten-below = along-below (keyed node local f writeMode) (λ x s. keyed node local f writeMode x s ≡ false) (λ x s e. e)

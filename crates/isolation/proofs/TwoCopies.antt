@@ -2,28 +2,27 @@
 -- holds the cluster set apart as it did at the start. A call gets the same number in both copies; refused, it changes
 -- nothing; done, it is about another cluster, and leaves and gives alike. A look's part comes from the number and the tables.
 -- Assumes nothing.
-use mathlib.Core.Path.{_≡_, refl, sym, ap, ap₂, _∙_, subst}
-use Prim.Native.Nat.{ℕ, zero, suc, _<_}
-use native.Mathlib.Omega.{arith}
+use mathlib.Core.Path.{_≡_, refl, sym, ap, _∙_, subst}
+use Prim.Native.Nat.{ℕ, _<_}
 use mathlib.Core.Bool.{true}
-use mathlib.Core.List.{List, [], _∷_}
+use mathlib.Core.List.{List, []}
 use lib.ListN.{length}
 use Rattle.sizes.specs.Sizes.{nodes, clusters}
 use Rattle.handle.specs.Handles.{Name}
 use Rattle.store.specs.declared.Cluster.{Cluster}
 use Rattle.store.specs.Records.{Table, tableOf, placeOf}
-use Rattle.calls.specs.declared.Looked.{Looked}
 use Rattle.calls.specs.Calls.{Copy, Call, call, Arguments, Kind, newCluster, deleteCluster, newSegment, deleteSegment}
-use Rattle.calls.specs.Calls.{read, write, weaken, reduce, newPassword, freeze, join, validate, look, isLook, opens, buffer}
+use Rattle.calls.specs.Calls.{read, write, weaken, reduce, newPassword, freeze, join, validate, look, opens}
 use Rattle.calls.specs.Numbers.{number}
-use Rattle.calls.specs.Steps.{Reply, plain, left, outcome, step, run}
-use Rattle.isolation.specs.Copies.{SoundCopy, Done, InPlace, setApart, Alike, Held, Shut, AllShut, also, places}
+use Rattle.calls.specs.Steps.{left, step, run}
+use Rattle.isolation.specs.Copies.{SoundCopy, Done, InPlace, setApart, Alike, Held, Shut, places}
 use Rattle.isolation.specs.Statements.{TwoCopies}
 use Rattle.isolation.proofs.AddressLaws.{place-outside}
 use Rattle.calls.proofs.DoneLaws.{new-away}
 use Rattle.isolation.proofs.AwayLaws.{shut-away}
 use Rattle.isolation.proofs.KeptLaws.{tables, facts, left-held, held-same, by-number, step-sound}
-use Rattle.isolation.proofs.NumberLaws.{same-number, same-looked}
+use Rattle.isolation.proofs.NumberLaws.{alike-tables, same-number}
+use Rattle.isolation.proofs.PairLaws.{same-looked, same-step, Stepped, kept-run, replies-run, places-run}
 use Rattle.isolation.proofs.AlikeLaws.{left-alike, given-alike}
 
 module _ (node local : ℕ) (high : node < nodes) (low : local < clusters) (f : Name → List ℕ → ℕ → List ℕ) where
@@ -74,10 +73,6 @@ module _ (node local : ℕ) (high : node < nodes) (low : local < clusters) (f : 
 
   -- ---- two copies: one call
 
-  record Same (x : Call) (a b : Copy) (n m : ℕ) : Type 0 where
-    reply : outcome f n x a .reply ≡ outcome f m x b .reply
-    alike : Alike node local (outcome f n x a .copy) (outcome f m x b .copy)
-
   -- what holds before each call, of the copies a and b that began as c and d
   record Invariant (c d a b : Copy) : Type 0 where
     alike : Alike node local a b
@@ -95,67 +90,33 @@ module _ (node local : ℕ) (high : node < nodes) (low : local < clusters) (f : 
       second-active = ap (λ (t : Table). t .active) (sym (v .alike .table)) ∙ first-active
 
       module _ (x : Call) (sa : Shut node local f x (a .store)) (sb : Shut node local f x (b .store)) where
-        same : Same x a b (number f x (a .store) (length (a .memory))) (number f x (b .store) (length (b .memory)))
-        same =
-            go (number f x (a .store) (length (a .memory))) (number f x (b .store) (length (b .memory))) refl
-            (same-number node local low f a b (v .alike) x (v .sound-first) (v .sound-second) sa sb)
-          where
-            go : (n m : ℕ) → number f x (a .store) (length (a .memory)) ≡ n → n ≡ m → Same x a b n m
-            go zero zero e q =
-                record {
-                  reply =
-                      given-alike node local high low f a b (v .alike) (v .sound-first) first-active (x .args) (x .kind)
-                      sa e;
-                  alike =
-                      left-alike node local high low f a b (v .alike) (v .sound-first) first-active (x .args) (x .kind)
-                      sa e;
-                }
-            go zero (suc m) e q = absurd (omega arith)
-            go (suc n) zero e q = absurd (omega arith)
-            go (suc n) (suc m) e q = record { reply = ap (λ k. plain k (buffer x)) q; alike = v .alike }
+        numbers : number f x (a .store) (length (a .memory)) ≡ number f x (b .store) (length (b .memory))
+        numbers = same-number node local low f a b (v .alike) x (v .sound-first) (v .sound-second) sa sb
 
-        same-reply : step f x a .reply ≡ step f x b .reply
-        unfolding step
-        same-reply = same .reply
-
-        same-alike : Alike node local (step f x a .copy) (step f x b .copy)
-        unfolding step
-        same-alike = same .alike
-
-        kept : Invariant c d (step f x a .copy) (step f x b .copy)
-        kept =
+        stepped : Stepped f (Invariant c d) x a b
+        stepped =
+            let s =
+            same-step f x a b numbers (Alike node local) (v .alike)
+            (λ e. (
+              given-alike node local high low f a b (v .alike) (v .sound-first) first-active (x .args) (x .kind) sa e,
+              left-alike node local high low f a b (v .alike) (v .sound-first) first-active (x .args) (x .kind) sa e,
+            )) in
             record {
-              alike = same-alike;
-              sound-first = step-sound f x a (v .sound-first);
-              sound-second = step-sound f x b (v .sound-second);
-              held-first =
-                  held-trans c a _ (v .held-first) (step-held x a (v .sound-first) first-active sa);
-              held-second =
-                  held-trans d b _ (v .held-second) (step-held x b (v .sound-second) second-active sb);
+              reply = s .0;
+              told = same-looked f x a b numbers (alike-tables node local a b (v .alike));
+              kept =
+                  record {
+                    alike = s .1;
+                    sound-first = step-sound f x a (v .sound-first);
+                    sound-second = step-sound f x b (v .sound-second);
+                    held-first = held-trans c a _ (v .held-first) (step-held x a (v .sound-first) first-active sa);
+                    held-second = held-trans d b _ (v .held-second) (step-held x b (v .sound-second) second-active sb);
+                  };
             }
 
-    -- ---- the list
-
-    invariant-run : (xs : List Call) (a b : Copy) → Invariant c d a b → AllShut node local f xs a
-        → AllShut node local f xs b → Invariant c d (run f xs a .copy) (run f xs b .copy)
-    invariant-run [] a b v sa sb = v
-    invariant-run (x ∷ xs) a b v sa sb =
-        invariant-run xs (step f x a .copy) (step f x b .copy) (kept a b v x (sa .0) (sb .0)) (sa .1) (sb .1)
-
-    replies-run : (xs : List Call) (a b : Copy) → Invariant c d a b → AllShut node local f xs a
-        → AllShut node local f xs b → run f xs a .replies ≡ run f xs b .replies
-    replies-run [] a b v sa sb = refl
-    replies-run (x ∷ xs) a b v sa sb =
-        ap₂ {C = List Reply} (λ r rs. r ∷ rs) (same-reply a b v x (sa .0) (sb .0))
-        (replies-run xs (step f x a .copy) (step f x b .copy) (kept a b v x (sa .0) (sb .0)) (sa .1) (sb .1))
-
-    places-run : (xs : List Call) (a b : Copy) → Invariant c d a b → AllShut node local f xs a
-        → AllShut node local f xs b → places f xs a ≡ places f xs b
-    places-run [] a b v sa sb = refl
-    places-run (x ∷ xs) a b v sa sb =
-        ap₂ {C = List Looked} (λ l ls. also (isLook (x .kind)) l ls)
-        (same-looked node local low f a b (v .alike) x (v .sound-first) (v .sound-second) (sa .0) (sb .0))
-        (places-run xs (step f x a .copy) (step f x b .copy) (kept a b v x (sa .0) (sb .0)) (sa .1) (sb .1))
+    one : (x : Call) (a b : Copy) → Invariant c d a b → Shut node local f x (a .store) → Shut node local f x (b .store)
+        → Stepped f (Invariant c d) x a b
+    one x a b v sa sb = stepped a b v x sa sb
 
 pub two-copies : (node local : ℕ) (f : Name → List ℕ → ℕ → List ℕ) → TwoCopies node local f
 two-copies node local f high low xs a b ka kb active al sa sb =
@@ -167,10 +128,12 @@ two-copies node local f high low xs a b ka kb active al sa sb =
       held-first = held-same f node local a;
       held-second = held-same f node local b;
     } in
-    let w = invariant-run node local high low f a b active xs a b v sa sb in
+    let i = Invariant node local high low f a b in
+    let t = one node local high low f a b active in
+    let w = kept-run f i (Shut node local f) t xs a b v sa sb in
     record {
-      replies = replies-run node local high low f a b active xs a b v sa sb;
-      places = places-run node local high low f a b active xs a b v sa sb;
+      replies = replies-run f i (Shut node local f) t xs a b v sa sb;
+      places = places-run f i (Shut node local f) t xs a b v sa sb;
       alike = w .alike;
       others = λ v l i p hv hl hi ne u.
           w .alike .bytes p

@@ -17,10 +17,12 @@
 --                       are refused whatever they hold, so that leaving them out asks less of a list
 --     Shut x s          it is keyed in neither mode: so is asked of each handle that it presents
 --     AllShut, NoWriter    each call of a list is shut, or not keyed for writing, on the copy that it gets
--- Of a list, for every conversion f:
+-- Of a list whose calls are carried out by p, which is the step unless another is named:
+--     Along p t xs c    t holds of each call of xs and of the store of the copy that it gets
 --     also t l ls       l before ls, where t is true
---     places f xs c     what the looks of the list xs tell, in their order: each its number and the part of the memory, on
---                       the copy that it gets
+--     placesBy f p      what the looks of a list tell, in their order: each its number and the part of the memory, on the
+--                       copy that it gets
+--     places f          the same of the step
 -- Assumes nothing.
 use mathlib.Core.Path.{_≡_}
 use mathlib.Core.Logic.{_≢_}
@@ -42,7 +44,7 @@ use Rattle.store.specs.Sound.{sound}
 use Rattle.calls.specs.declared.Looked.{Looked}
 use Rattle.calls.specs.Calls.{Copy, Call, isLook, opens, presented, anyOf}
 use Rattle.calls.specs.Numbers.{valid, number}
-use Rattle.calls.specs.Steps.{step}
+use Rattle.calls.specs.Steps.{Outcome, step}
 use Rattle.calls.specs.Looks.{looked}
 
 abbrev pub SoundCopy : Copy → Type 0
@@ -59,10 +61,17 @@ abbrev pub also : {A : Type 0} → Bool → A → List A → List A
 also true l ls = l ∷ ls
 also false l ls = ls
 
+abbrev pub placesBy : (Name → List ℕ → ℕ → List ℕ) → (Call → Copy → Outcome) → List Call → Copy → List Looked
+placesBy f p [] c = []
+placesBy f p (x ∷ xs) c =
+    also (isLook (x .kind)) (looked f x (c .store) (length (c .memory))) (placesBy f p xs (p x c .copy))
+
 abbrev pub places : (Name → List ℕ → ℕ → List ℕ) → List Call → Copy → List Looked
-places f [] c = []
-places f (x ∷ xs) c =
-    also (isLook (x .kind)) (looked f x (c .store) (length (c .memory))) (places f xs (step f x c .copy))
+places f = placesBy f (step f)
+
+abbrev pub Along : (Call → Copy → Outcome) → (Call → Store → Type 0) → List Call → Copy → Type 0
+Along p t [] c = Unit {0}
+Along p t (x ∷ xs) c = t x (c .store) × Along p t xs (p x c .copy)
 
 module _ (node local : ℕ) where
   abbrev pub setApart : ℕ
@@ -105,9 +114,7 @@ module _ (node local : ℕ) where
     Shut x s = (keyed readMode x s ≡ false) × (keyed writeMode x s ≡ false)
 
     abbrev pub AllShut : List Call → Copy → Type 0
-    AllShut [] c = Unit {0}
-    AllShut (x ∷ xs) c = Shut x (c .store) × AllShut xs (step f x c .copy)
+    AllShut = Along (step f) Shut
 
     abbrev pub NoWriter : List Call → Copy → Type 0
-    NoWriter [] c = Unit {0}
-    NoWriter (x ∷ xs) c = (keyed writeMode x (c .store) ≡ false) × NoWriter xs (step f x c .copy)
+    NoWriter = Along (step f) (λ x s. keyed writeMode x s ≡ false)
