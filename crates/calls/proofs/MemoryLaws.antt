@@ -1,5 +1,6 @@
 -- Bytes overwritten, byte by byte: those in the part are the new ones, those out of it are as they were. So where one
--- part is put into two lists, bytes that agreed agree again, and parts of two lists that agree byte by byte are equal.
+-- part is put into two lists, they agree in it, and elsewhere where they agreed; and parts of two lists that agree byte by
+-- byte are equal.
 -- Assumes nothing.
 use mathlib.Core.Path.{_≡_, sym, ap, _∙_}
 use Prim.Native.Nat.{ℕ, _+_, _-_, _≤_, _<_}
@@ -49,11 +50,13 @@ module _ (m : List ℕ) (a : ℕ) (bs : List ℕ) (fit : a + length bs ≤ lengt
           ap (λ (k : ℕ). getD (overwritten m a bs) k 0) e ∙ after q ∙ ap (λ (k : ℕ). getD m k 0) e′
 
 pub overwritten-both : (m n : List ℕ) (a : ℕ) (bs : List ℕ) → a + length bs ≤ length m → a + length bs ≤ length n
-    → (p : ℕ) → getD m p 0 ≡ getD n p 0 → getD (overwritten m a bs) p 0 ≡ getD (overwritten n a bs) p 0
+    → (p : ℕ) → ((a ≤ p → p < a + length bs → ⊥) → getD m p 0 ≡ getD n p 0)
+    → getD (overwritten m a bs) p 0 ≡ getD (overwritten n a bs) p 0
 overwritten-both m n a bs fm fn p h = go (decLt p a) (decLt p (a + length bs))
   where
     go : Dec (p < a) → Dec (p < a + length bs) → getD (overwritten m a bs) p 0 ≡ getD (overwritten n a bs) p 0
-    go (yes l) d = overwritten-before m a bs fm p l ∙ h ∙ sym (overwritten-before n a bs fn p l)
+    go (yes l) d =
+        overwritten-before m a bs fm p l ∙ h (λ u v. omega arith) ∙ sym (overwritten-before n a bs fn p l)
     go (no l) (yes k) =
         let e : p ≡ a + (p - a) = omega arith in
         let u : p - a < length bs = omega arith in
@@ -63,7 +66,7 @@ overwritten-both m n a bs fm fn p h = go (decLt p a) (decLt p (a + length bs))
         ∙ ap (λ (q : ℕ). getD (overwritten n a bs) q 0) (sym e)
     go (no l) (no k) =
         let out : a ≤ p → p < a + length bs → ⊥ = λ u v. omega arith in
-        overwritten-out m a bs fm p out ∙ h ∙ sym (overwritten-out n a bs fn p out)
+        overwritten-out m a bs fm p out ∙ h out ∙ sym (overwritten-out n a bs fn p out)
 
 pub part-same : (m n : List ℕ) (a k : ℕ) → a + k ≤ length m → length m ≡ length n
     → ((p : ℕ) → a ≤ p → p < a + k → getD m p 0 ≡ getD n p 0) → take k (drop a m) ≡ take k (drop a n)

@@ -31,7 +31,7 @@ module _ (x : Call) where
   abbrev m : ℕ
   m = x .args .mode
 
-  read-is : Is (eqb (needed x) 1) (ReadMode x)
+  pub read-is : Is (eqb (needed x) 1) (ReadMode x)
   read-is =
       same-is (go (uses (x .kind) .mode) (among (5 ∷ []) (x .kind)))
       (or-is (kind-is (λ k. not (uses k .mode) && among (5 ∷ []) k) _ refl x)

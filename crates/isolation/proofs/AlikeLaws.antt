@@ -67,7 +67,7 @@ module _ (node local : ℕ) where
           others = al .others;
           table = al .table;
           size = length-overwritten (a .memory) at bs fit ∙ same ∙ sym (length-overwritten (b .memory) at bs fit′);
-          bytes = λ p out. overwritten-both (a .memory) (b .memory) at bs fit fit′ p (al .bytes p out);
+          bytes = λ p out. overwritten-both (a .memory) (b .memory) at bs fit fit′ p (λ away. al .bytes p out);
         }
 
     -- a change made from the cluster's own record

@@ -7,15 +7,16 @@ use Prim.Native.Nat.{ℕ, _<_}
 use native.Mathlib.Omega.{arith}
 use native.Mathlib.Decide.{ℕ-discrete, decLt}
 use mathlib.Core.List.{List}
-use lib.ListN.{length}
-use lib.Seq.{getD-set-same, getD-set-other}
+use lib.ListN.{length, getD}
+use lib.Seq.{getD-set-same, getD-set-other, set-out}
 use Rattle.handle.specs.Handles.{Name}
 use Rattle.store.specs.declared.Place.{Place}
 use Rattle.store.specs.declared.Place.the-variants.{Absent}
 use Rattle.store.specs.declared.Segment.{Segment}
 use Rattle.store.specs.declared.Cluster.{Cluster}
 use Rattle.store.specs.declared.Store.{Store}
-use Rattle.store.specs.Records.{segmentAt, absentSegment, clusterAt, tableAt, putRecord, withSegment, withPlace, withMark}
+use Rattle.store.specs.Records.{Table, segmentAt, absentSegment, tableOf, clusterAt, tableAt, segmentOf, putRecord, withSegment}
+use Rattle.store.specs.Records.{withPlace, withMark}
 use Rattle.store.specs.Records.{readMode, writeMode, primaryOf}
 use Rattle.store.proofs.ChangeLaws.{put-other, put-same, put-out}
 use Rattle.calls.specs.Calls.{Copy, Call, call, Arguments, Kind, newCluster, deleteCluster, newSegment, deleteSegment}
@@ -39,6 +40,39 @@ put-cases s n m d = go (ℕ-discrete m n) (decLt n (length (s .clusters)))
     go (no t) h = inl (put-other s n d m t)
     go (yes t) (no h) = inl (ap (λ (z : Store). clusterAt z m) (put-out s n d (omega arith)))
     go (yes t) (yes h) = inr (t, ap (clusterAt (putRecord s n d)) t ∙ put-same s n d h)
+
+-- a segment replaced in a record, seen at some segment of some record: as it was, or the new one
+pub segment-cases : (s : Store) (n i : ℕ) (g : Segment) (m j : ℕ)
+    → let t = tableAt (putRecord s n (withSegment (clusterAt s n) i g)) m in
+    (segmentOf t j ≡ segmentOf (tableAt s m) j) ⊎ ((m ≡ n) × (j ≡ i) × (segmentOf t j ≡ g))
+segment-cases s n i g m j = go (put-cases s n m d) (ℕ-discrete j i) (decLt i (length (clusterAt s n .segments)))
+  where
+    d : Cluster
+    d = withSegment (clusterAt s n) i g
+
+    t : Table
+    t = tableAt (putRecord s n d) m
+
+    was : (m ≡ n) × (clusterAt (putRecord s n d) m ≡ d) → segmentOf (tableOf d) j ≡ segmentOf (tableAt s n) j
+        → segmentOf t j ≡ segmentOf (tableAt s m) j
+    was (q, r) e =
+        ap (λ (c : Cluster). segmentOf (tableOf c) j) r ∙ e ∙ ap (λ (k : ℕ). segmentOf (tableAt s k) j) (sym q)
+
+    go : (clusterAt (putRecord s n d) m ≡ clusterAt s m) ⊎ ((m ≡ n) × (clusterAt (putRecord s n d) m ≡ d)) → Dec (j ≡ i)
+        → Dec (i < length (clusterAt s n .segments))
+        → (segmentOf t j ≡ segmentOf (tableAt s m) j) ⊎ ((m ≡ n) × (j ≡ i) × (segmentOf t j ≡ g))
+    go (inl q) h k = inl (ap (λ (c : Cluster). segmentOf (tableOf c) j) q)
+    go (inr q) (no h) k = inl (was q (getD-set-other (clusterAt s n .segments) i j g absentSegment h))
+    go (inr q) (yes h) (no k) =
+        inl (was q (ap (λ (l : List Segment). getD l j absentSegment) (set-out (clusterAt s n .segments) i g (omega arith))))
+    go (inr q) (yes h) (yes k) =
+        inr (
+          q .0,
+          h,
+          ap (λ (c : Cluster). segmentOf (tableOf c) j) (q .1)
+              ∙ ap (segmentOf (tableOf d)) h
+              ∙ getD-set-same (clusterAt s n .segments) i g absentSegment k,
+        )
 
 -- so a law of the old record and of the new one is a law of what is found there
 by-cases : (P : Cluster → Type 0) (s : Store) (n : ℕ) (d : Cluster) → P (clusterAt s n) → P d

@@ -22,4 +22,6 @@ pub mod RenewalReplyLaws
 pub mod EffectLaws
 pub mod ReadLaws
 pub mod KeyLaws
+pub mod WriterLeftLaws
+pub mod WriterLaws
 pub mod AesLaws

@@ -5,6 +5,7 @@ pub mod Replies
 pub mod Witness
 pub mod ReaderWitness
 pub mod Effects
+pub mod Writers
 pub mod Renewals
 pub mod RenewalReplies
 pub mod Frozen
