@@ -13,7 +13,7 @@ use Rattle.calls.specs.Calls.{reduce, newPassword, freeze, join, validat
 use Rattle.calls.specs.Words.{Named}
 use Rattle.calls.proofs.TestLaws.{Is, map-is, same-is, not-is, or-is, eq-is}
 
-abbrev kinds : List Kind
+abbrev pub kinds : List Kind
 kinds =
     newCluster
     ∷ deleteCluster

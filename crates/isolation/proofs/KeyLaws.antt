@@ -29,7 +29,7 @@ module _ (node local : ℕ) (f : Name → List ℕ → ℕ → List ℕ) (m : �
       (and-is (and-is (eq-is (nodeOf h) node) (eq-is (h .local) local)) (fails-is (gapped (widthOf h) (h .selector))))
       (holds-is (valid f m h s)))
 
-  keyed-is : (x : Call) → Is (keyed node local f m x s) (Opening x × Some (λ h. Key node local f m h s) x)
+  pub keyed-is : (x : Call) → Is (keyed node local f m x s) (Opening x × Some (λ h. Key node local f m h s) x)
   unfolding keyed
   keyed-is x =
       then-is (opens-is x) (λ o.

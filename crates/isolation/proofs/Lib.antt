@@ -24,4 +24,6 @@ pub mod ReadLaws
 pub mod KeyLaws
 pub mod WriterLeftLaws
 pub mod WriterLaws
+pub mod WriterWitnessLaws
+pub mod LeakLaws
 pub mod AesLaws

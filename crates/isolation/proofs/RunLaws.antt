@@ -1,7 +1,7 @@
 -- A list run from a sound copy: soundness is kept, so at each call the first row does not apply and the number is that
--- of the rows below it. So a test of each call on the copy that it gets is computed with these rows alone.
+-- of the rows below it. So the list, and a test of each call on the copy that it gets, are computed with these rows alone.
 -- Assumes nothing.
-use mathlib.Core.Path.{_≡_, refl, ap, _∙_}
+use mathlib.Core.Path.{_≡_, refl, ap, ap₂, _∙_}
 use Prim.Native.Nat.{ℕ}
 use mathlib.Core.Bool.{Bool, true, false, _||_}
 use mathlib.Core.List.{List, [], _∷_, _++_}
@@ -18,6 +18,30 @@ use Rattle.calls.proofs.CallLaws.{or-left, or-right}
 use Rattle.calls.proofs.StepLaws.{numberBelow, number-below, looked-below}
 use Rattle.isolation.proofs.KeptLaws.{step-sound}
 
+-- some call of a list passes a test, on the copies that q makes
+abbrev pub someBy : (Call → Copy → Outcome) → (Call → Store → Bool) → List Call → Copy → Bool
+someBy q t [] c = false
+someBy q t (x ∷ xs) c = t x (c .store) || someBy q t xs (q x c .copy)
+
+-- two ways to carry out calls that are one on sound copies, and leave them sound
+module _ (p q : Call → Copy → Outcome) (same : (x : Call) (c : Copy) → SoundCopy c → p x c ≡ q x c)
+    (sound : (x : Call) (c : Copy) → SoundCopy c → SoundCopy (p x c .copy)) where
+  pub run-same : (xs : List Call) (c : Copy) → SoundCopy c → runBy p xs c ≡ runBy q xs c
+  run-same [] c k = refl
+  run-same (x ∷ xs) c k =
+      ap (followed (p x c .reply)) (run-same xs (p x c .copy) (sound x c k))
+      ∙ ap (λ (o : Outcome). followed (o .reply) (runBy q xs (o .copy))) (same x c k)
+
+  -- what follows of a call that does not pass a test holds along a list in which none does
+  pub along-same : (t : Call → Store → Bool) (g : Call → Store → Type 0) → ((x : Call) (s : Store) → t x s ≡ false → g x s)
+      → (xs : List Call) (c : Copy) → SoundCopy c → someBy q t xs c ≡ false → Along p g xs c
+  along-same t g h [] c k e = tt
+  along-same t g h (x ∷ xs) c k e = (
+    h x (c .store) (or-left (t x (c .store)) (someBy q t xs (q x c .copy)) e),
+    along-same t g h xs (p x c .copy) (sound x c k)
+        (ap (λ (o : Outcome). someBy q t xs (o .copy)) (same x c k) ∙ or-right (t x (c .store)) (someBy q t xs (q x c .copy)) e),
+  )
+
 module _ (f : Name → List ℕ → ℕ → List ℕ) where
   abbrev pub stepBelow : Call → Copy → Outcome
   stepBelow x c = outcome f (numberBelow f x (c .store) (length (c .memory))) x c
@@ -30,10 +54,13 @@ module _ (f : Name → List ℕ → ℕ → List ℕ) where
   runBelow = runBy stepBelow
 
   pub run-below : (xs : List Call) (c : Copy) → SoundCopy c → run f xs c ≡ runBelow xs c
-  run-below [] c k = refl
-  run-below (x ∷ xs) c k =
-      ap (followed (step f x c .reply)) (run-below xs (step f x c .copy) (step-sound f x c k))
-      ∙ ap (λ (o : Outcome). followed (o .reply) (runBelow xs (o .copy))) (step-below x c k)
+  run-below = run-same (step f) stepBelow step-below (step-sound f)
+
+  -- a call, by what it is known to leave and give, and then a list
+  pub then-below : (x : Call) (xs : List Call) (c : Copy) (o : Outcome) (n : Ran) → stepBelow x c ≡ o
+      → runBelow xs (o .copy) ≡ n → runBelow (x ∷ xs) c ≡ followed (o .reply) n
+  then-below x xs c o n e r =
+      ap (λ (t : Outcome). followed (t .reply) (runBelow xs (t .copy))) e ∙ ap (followed (o .reply)) r
 
   -- a list and then another
   pub append-below : (xs ys : List Call) (c : Copy)
@@ -75,25 +102,21 @@ module _ (f : Name → List ℕ → ℕ → List ℕ) where
       ap (also (isLook (x .kind)) (lookedBelow x c)) (append-places xs ys (stepBelow x c .copy))
       ∙ also-append (isLook (x .kind)) (lookedBelow x c) (placesBelow xs (stepBelow x c .copy)) _
 
-  -- some call of the list passes a test, on what the rows below the first make of a copy
   abbrev pub someBelow : (Call → Store → Bool) → List Call → Copy → Bool
-  someBelow t [] c = false
-  someBelow t (x ∷ xs) c = t x (c .store) || someBelow t xs (stepBelow x c .copy)
+  someBelow = someBy stepBelow
 
-  some-rest : (t : Call → Store → Bool) (x : Call) (xs : List Call) (c : Copy) → SoundCopy c
-      → someBelow t (x ∷ xs) c ≡ false → someBelow t xs (step f x c .copy) ≡ false
-  some-rest t x xs c k e =
-      ap (λ (o : Outcome). someBelow t xs (o .copy)) (step-below x c k)
-      ∙ or-right (t x (c .store)) (someBelow t xs (stepBelow x c .copy)) e
+  -- a list and then another
+  pub append-some : (t : Call → Store → Bool) (xs ys : List Call) (c : Copy) → someBelow t xs c ≡ false
+      → someBelow t ys (runBelow xs c .copy) ≡ false → someBelow t (xs ++ ys) c ≡ false
+  append-some t [] ys c e r = r
+  append-some t (x ∷ xs) ys c e r =
+      let a = t x (c .store) in
+      let b = someBelow t xs (stepBelow x c .copy) in
+      ap₂ (λ (u v : Bool). u || v) (or-left a b e) (append-some t xs ys (stepBelow x c .copy) (or-right a b e) r)
 
-  -- so what follows of a call that does not pass it holds along the list
-  pub along-below : (t : Call → Store → Bool) (p : Call → Store → Type 0) → ((x : Call) (s : Store) → t x s ≡ false → p x s)
-      → (xs : List Call) (c : Copy) → SoundCopy c → someBelow t xs c ≡ false → Along (step f) p xs c
-  along-below t p g [] c k e = tt
-  along-below t p g (x ∷ xs) c k e = (
-    g x (c .store) (or-left (t x (c .store)) (someBelow t xs (stepBelow x c .copy)) e),
-    along-below t p g xs (step f x c .copy) (step-sound f x c k) (some-rest t x xs c k e),
-  )
+  pub along-below : (t : Call → Store → Bool) (g : Call → Store → Type 0) → ((x : Call) (s : Store) → t x s ≡ false → g x s)
+      → (xs : List Call) (c : Copy) → SoundCopy c → someBelow t xs c ≡ false → Along (step f) g xs c
+  along-below = along-same (step f) stepBelow step-below (step-sound f)
 
   module _ (node local : ℕ) where
     abbrev pub isKeyed : Call → Store → Bool

@@ -23,7 +23,7 @@ use Rattle.store.specs.declared.Cluster.{Cluster}
 use Rattle.store.specs.Records.{startingStore, started, tableAt, placeOn, putRecord, withPlace, withMark}
 use Rattle.store.proofs.ChangeLaws.{put-other}
 use Rattle.calls.specs.Calls.{Copy, Call}
-use Rattle.calls.specs.Steps.{Reply, Ran, followed, Outcome, effects, outcome, run}
+use Rattle.calls.specs.Steps.{Reply, Ran, Outcome, effects, outcome, run}
 use Rattle.isolation.specs.Copies.{SixteenBytes, SoundCopy, InPlace, Outside, Alike, Held, keyed, places}
 use Rattle.isolation.specs.Statements.{Agreed}
 use Rattle.calls.specs.Literals.{sixteen, none, told, shows}
@@ -33,7 +33,7 @@ use Rattle.isolation.specs.Witness.{one, two, weakGiven, weakShown, befo
 use Rattle.isolation.specs.Witness.{answersBefore, answersAfter, answers, holding, toldPlaces, Still, Witnessed, Concluded}
 use Rattle.isolation.specs.Witness.{rightRead, rightLook, rightJoin, Bites}
 use Rattle.calls.proofs.StepLaws.{numberBelow, number-below}
-use Rattle.isolation.proofs.RunLaws.{stepBelow, step-below, runBelow, run-below, append-below, someBelow, isKeyed, shut-below}
+use Rattle.isolation.proofs.RunLaws.{stepBelow, step-below, runBelow, run-below, then-below, append-below, someBelow, isKeyed, shut-below}
 use Rattle.isolation.proofs.RunLaws.{lookedBelow, placesBelow, places-below, append-places}
 use Rattle.calls.specs.Numbers.{valid, violated, tests, otherTests}
 use Rattle.calls.proofs.Computing.{computing, sounding}
@@ -80,6 +80,13 @@ still r w b d h =
       bytes = λ p l. sym (h .bytes p 5 (omega arith) (omega arith)) ∙ four r w b p l;
     }
 
+-- the first sixteen bytes of a password are compared with themselves
+pub same-bytes : (p : List ℕ) → every 16 (λ k. eqb (getD p k 0) (getD (tabulate 16 (λ k. getD p k 0)) k 0)) ≡ true
+same-bytes p =
+    every-in 16 (λ k. eqb (getD p k 0) (getD (tabulate 16 (λ k. getD p k 0)) k 0))
+    (λ k h.
+    eq-eqb (getD p k 0) (getD (tabulate 16 (λ k. getD p k 0)) k 0) (sym (getD-tabulate 16 (λ k. getD p k 0) 0 k h)))
+
 -- the cluster of the other node
 abbrev other : Name
 other = record { node = 3; local = 2 }
@@ -104,22 +111,13 @@ module _ (f : Name → List ℕ → ℕ → List ℕ) where
 
   -- ---- the calls with weakened handles, whose passwords are what the chain gives, byte by byte
 
-  abbrev weakByte : ℕ → ℕ → ℕ
-  weakByte c k = getD (f other (sixteen 3) c) k 0
-
-  same-bytes : (c : ℕ) → every 16 (λ k. eqb (weakByte c k) (getD (tabulate 16 (weakByte c)) k 0)) ≡ true
-  same-bytes c =
-      every-in 16 (λ k. eqb (weakByte c k) (getD (tabulate 16 (weakByte c)) k 0))
-      (λ k h.
-      eq-eqb (weakByte c k) (getD (tabulate 16 (weakByte c)) k 0) (sym (getD-tabulate 16 (weakByte c) 0 k h)))
-
   valid-first : valid f 1 (decoded (weakShown f 128)) records ≡ true
   unfolding valid computing tabulate
-  valid-first = same-bytes 128
+  valid-first = same-bytes (f other (sixteen 3) 128)
 
   valid-second : valid f 1 (decoded (weakShown f 64)) records ≡ true
   unfolding valid computing tabulate
-  valid-second = same-bytes 64
+  valid-second = same-bytes (f other (sixteen 3) 64)
 
   not-violated : (violated f (last f) records ≡ false) × (violated f (lastLook f) records ≡ false)
   unfolding violated
@@ -160,15 +158,8 @@ module _ (f : Name → List ℕ → ℕ → List ℕ) where
 
   ended-after : runBelow f (last f ∷ lastLook f ∷ lastJoin f ∷ []) left ≡ record { replies = answersAfter f; copy = left }
   ended-after =
-      ap (λ (o : Outcome). followed (o .reply) (runBelow f (lastLook f ∷ lastJoin f ∷ []) (o .copy))) step-last
-      ∙ ap (λ (o : Outcome). followed read (followed (o .reply) (runBelow f (lastJoin f ∷ []) (o .copy)))) step-look
-      ∙ ap (λ (o : Outcome). followed read (followed looked (followed (o .reply) (runBelow f [] (o .copy))))) step-join
-    where
-      read : Reply
-      read = told 0 none none 0 2 (8 ∷ 9 ∷ 3 ∷ [])
-
-      looked : Reply
-      looked = shows 0 (8 ∷ 9 ∷ [])
+      then-below f (last f) (lastLook f ∷ lastJoin f ∷ []) left _ _ step-last
+      (then-below f (lastLook f) (lastJoin f ∷ []) left _ _ step-look (then-below f (lastJoin f) [] left _ _ step-join refl))
 
   ended : run f (tries f) one ≡ record { replies = answers f; copy = left }
   ended =

@@ -35,7 +35,7 @@ use Rattle.isolation.proofs.KeptLaws.{tables, new-fits, write-fits}
 use Rattle.isolation.proofs.PairLaws.{put-both}
 
 -- a record that has no segments
-vacant : (v i p : ℕ) → InPlace v (getD (replicate segments absentSegment) i absentSegment .place) p → ⊥
+pub vacant : (v i p : ℕ) → InPlace v (getD (replicate segments absentSegment) i absentSegment .place) p → ⊥
 vacant v i p u = subst (λ (g : Segment). InPlace v (g .place) p) (go (decLt i segments)) u
   where
     go : Dec (i < segments) → getD (replicate segments absentSegment) i absentSegment ≡ absentSegment

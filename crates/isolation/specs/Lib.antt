@@ -5,7 +5,9 @@ pub mod Replies
 pub mod Witness
 pub mod ReaderWitness
 pub mod Effects
+pub mod Leaks
 pub mod Writers
+pub mod WriterWitness
 pub mod Renewals
 pub mod RenewalReplies
 pub mod Frozen

@@ -5,12 +5,13 @@
 --     one, two            two such copies that differ in all of these
 --     rightRead, rightLook, rightJoin    a read, a look and a join with the read primary handle of the copy one
 --     secondRight         a join whose second handle alone is that one; its first does not validate
+--     made v l p c        the bytes of the handle of a node and a local number with the password p, whose subselector 0 is c
+--     shown v l p c       with the first sixteen bytes of p; the same, where p has sixteen bytes
 --     toldPlaces          what the looks among the calls below tell in both copies: the number, and from where to where the
 --                         part goes
 -- For every conversion f:
 --     weakPassword c      what the parameter c turns the read password of local number 2 of node 3 into
---     weakGiven c         the bytes of the handle with that password, whose subselector 0 is c
---     weakShown c         with the first sixteen bytes of that password; the same, where f gives sixteen bytes
+--     weakGiven c, weakShown c    the handle made, and shown, with that password and that parameter
 --     before              each of the eleven calls, validation and a look with a handle of the cluster that does not
 --                         validate, all refused, and a weakening of one that does; each of them but the join done for a
 --                         cluster of the same node, a freeze for a second one, which is then not deleted; joins refused
@@ -88,15 +89,21 @@ toldPlaces =
     ∷ telling 0 12288 12290
     ∷ []
 
+abbrev pub made : ℕ → ℕ → List ℕ → ℕ → List ℕ
+made v l p c = 0 ∷ v ∷ l ∷ (p ++ (c ∷ 255 ∷ 255 ∷ 255 ∷ []))
+
+abbrev pub shown : ℕ → ℕ → List ℕ → ℕ → List ℕ
+shown v l p c = made v l (tabulate 16 (λ k. getD p k 0)) c
+
 module _ (f : Name → List ℕ → ℕ → List ℕ) where
   abbrev weakPassword : ℕ → List ℕ
   weakPassword c = f (record { node = 3; local = 2 }) (sixteen 3) c
 
   abbrev pub weakGiven : ℕ → List ℕ
-  weakGiven c = 0 ∷ 3 ∷ 2 ∷ (weakPassword c ++ (c ∷ 255 ∷ 255 ∷ 255 ∷ []))
+  weakGiven c = made 3 2 (weakPassword c) c
 
   abbrev pub weakShown : ℕ → List ℕ
-  weakShown c = 0 ∷ 3 ∷ 2 ∷ (tabulate 16 (λ k. getD (weakPassword c) k 0) ++ (c ∷ 255 ∷ 255 ∷ 255 ∷ []))
+  weakShown c = shown 3 2 (weakPassword c) c
 
   abbrev pub before : List Call
   before =

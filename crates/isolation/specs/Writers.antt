@@ -15,6 +15,8 @@
 --     UntoldBy f p            so it is for every list in which no call spies in either copy, on any two sound copies with that
 --                             in common
 --     WritersLearnNothing f   §7: where the calls are carried out by the step
+--     RestsOnClearing f       it would not be so if new segments were not cleared
+--     RestsOnTwelve f         nor if number 12 were for the current password of either mode
 -- Assumes nothing.
 use mathlib.Core.Path.{_≡_}
 use mathlib.Core.Logic.{_≢_}
@@ -31,6 +33,7 @@ use Rattle.calls.specs.Words.{Some, ReadMode}
 use Rattle.calls.specs.Steps.{Outcome, runBy, step}
 use Rattle.isolation.specs.Copies.{SoundCopy, InPlace, setApart, Along, placesBy}
 use Rattle.isolation.specs.Statements.{Key}
+use Rattle.isolation.specs.Leaks.{uncleared, twelveOfEither}
 
 module _ (node local : ℕ) where
   abbrev pub OthersBytes : Tables → List ℕ → List ℕ → Type 0
@@ -69,3 +72,9 @@ UntoldBy f p =
 
 abbrev pub WritersLearnNothing : (Name → List ℕ → ℕ → List ℕ) → Type 0
 WritersLearnNothing f = UntoldBy f (step f)
+
+abbrev pub RestsOnClearing : (Name → List ℕ → ℕ → List ℕ) → Type 0
+RestsOnClearing f = ¬ UntoldBy f (uncleared f)
+
+abbrev pub RestsOnTwelve : (Name → List ℕ → ℕ → List ℕ) → Type 0
+RestsOnTwelve f = ¬ UntoldBy f (twelveOfEither f)
