@@ -20,6 +20,8 @@ use Rattle.calls.specs.Answers.{copyOf}
 use Rattle.calls.proofs.KindLaws.{but-is}
 use Rattle.isolation.specs.Copies.{Done, also, places}
 use Rattle.isolation.proofs.TwoCopies.{two-copies}
+use Rattle.isolation.specs.Writers.{SameToWriters}
+use Rattle.isolation.proofs.WriterLaws.{writers-learn-nothing}
 use Rattle.bits.specs.Bytes.{Bytes}
 use Rattle.image.specs.Images.{imageBytes, good, storeIn, imageOf}
 use Rattle.image.specs.Ranges.{StoreFits}
@@ -27,8 +29,8 @@ use Rattle.image.proofs.TripLaws.{good-image, store-image, image-store}
 use Rattle.image.proofs.RangeLaws.{store-held}
 use Rattle.gelmuszta.specs.Exported.{Exported, damaged, imaged, exported, exportedPart}
 use Rattle.gelmuszta.specs.Fits.{PasswordsFit, AllFit}
-use Rattle.gelmuszta.specs.Runs.{RanOn, runOn, followedBy, placesOn, imagedRun, ListsAreRuns, PlacesAreRuns, held, TwoImages, refusedWith}
-use Rattle.gelmuszta.specs.Runs.{FixedOn, FrozenOnImages, FrozenFromThenOn, DamagedRefused, RefusalLeaves}
+use Rattle.gelmuszta.specs.Runs.{RanOn, runOn, followedBy, placesOn, imagedRun, ListsAreRuns, PlacesAreRuns, held, leftOn, TwoImages}
+use Rattle.gelmuszta.specs.Runs.{WritersOnImages, refusedWith, FixedOn, FrozenOnImages, FrozenFromThenOn, DamagedRefused, RefusalLeaves}
 use Rattle.isolation.specs.Frozen.{Fixed}
 use Rattle.isolation.proofs.FrozenLaws.{frozen-stays, fixed-from-then-on}
 use Rattle.calls.proofs.StepLaws.{step-number}
@@ -98,43 +100,78 @@ pub places-are-runs : PlacesAreRuns
 places-are-runs xs b m p h g =
     ap (λ (i : List ℕ). placesOn xs i m) (sym (image-store b h g)) ∙ places-run xs (storeIn b) m p (store-held b h)
 
-pub two-images : TwoImages
-two-images node local v l xs b m d n p hb gb hd gd sb sd active alike shut-b shut-d =
-    let agreed = two-copies node local product v l xs (held b m) (held d n) sb sd active alike shut-b shut-d in
-    record {
-      replies =
-          ap (λ (r : RanOn). r .replies) (lists-are-runs xs b m p hb gb) ∙ agreed .replies
-          ∙ sym (ap (λ (r : RanOn). r .replies) (lists-are-runs xs d n p hd gd));
-      places = places-are-runs xs b m p hb gb ∙ ap parts (agreed .places) ∙ sym (places-are-runs xs d n p hd gd);
-      agreed = agreed;
-    }
-
--- ---- what is frozen
+-- ---- what a list leaves
 
 run-fits : (xs : List Call) (c : Copy) → AllFit xs → StoreFits (c .store) → StoreFits (run product xs c .copy .store)
 run-fits [] c p k = k
 run-fits (x ∷ xs) c p k = run-fits xs (aesStep x c .copy) (p .1) (step-fits product x c (p .0) k)
 
+module _ (xs : List Call) (p : AllFit xs) (b m : List ℕ) (h : Bytes imageBytes b) (g : good b ≡ true) where
+  end : Copy
+  end = run product xs (held b m) .copy
+
+  fits : StoreFits (end .store)
+  unfolding end
+  fits = run-fits xs (held b m) p (store-held b h)
+
+  good-left : good (runOn xs b m .image) ≡ true
+  unfolding end
+  good-left = ap (λ (r : RanOn). good (r .image)) (lists-are-runs xs b m p h g) ∙ good-image (end .store) fits
+
+  -- the image left holds the store that the run leaves
+  held-left : run product xs (held b m) .copy ≡ leftOn xs b m
+  unfolding end
+  held-left =
+      ap₂ copyOf
+      (sym (store-image (end .store) fits) ∙ ap (λ (r : RanOn). storeIn (r .image)) (sym (lists-are-runs xs b m p h g)))
+      (ap (λ (r : RanOn). r .memory) (sym (lists-are-runs xs b m p h g)))
+
+-- ---- two images
+
+module _ (xs : List Call) (p : AllFit xs) (b m d n : List ℕ) (hb : Bytes imageBytes b) (gb : good b ≡ true)
+    (hd : Bytes imageBytes d) (gd : good d ≡ true) where
+  replies-on : run product xs (held b m) .replies ≡ run product xs (held d n) .replies
+      → runOn xs b m .replies ≡ runOn xs d n .replies
+  replies-on e =
+      ap (λ (r : RanOn). r .replies) (lists-are-runs xs b m p hb gb)
+      ∙ e
+      ∙ sym (ap (λ (r : RanOn). r .replies) (lists-are-runs xs d n p hd gd))
+
+  places-on : places product xs (held b m) ≡ places product xs (held d n) → placesOn xs b m ≡ placesOn xs d n
+  places-on e = places-are-runs xs b m p hb gb ∙ ap parts e ∙ sym (places-are-runs xs d n p hd gd)
+
+pub two-images : TwoImages
+two-images node local v l xs b m d n p hb gb hd gd sb sd active alike shut-b shut-d =
+    let agreed = two-copies node local product v l xs (held b m) (held d n) sb sd active alike shut-b shut-d in
+    record {
+      replies = replies-on xs p b m d n hb gb hd gd (agreed .replies);
+      places = places-on xs p b m d n hb gb hd gd (agreed .places);
+      agreed = agreed;
+    }
+
+pub writers-on-images : WritersOnImages
+writers-on-images node local v l xs b m d n p hb gb hd gd sb sd same no-b no-d =
+    let u = writers-learn-nothing product node local v l xs (held b m) (held d n) sb sd same no-b no-d in
+    record {
+      replies = replies-on xs p b m d n hb gb hd gd (u .replies);
+      places = places-on xs p b m d n hb gb hd gd (u .places);
+      good-first = good-left xs p b m hb gb;
+      good-second = good-left xs p d n hd gd;
+      same =
+          subst (λ (c : Copy). SameToWriters node local (leftOn xs b m) c) (held-left xs p d n hd gd)
+          (subst (λ (c : Copy). SameToWriters node local c (run product xs (held d n) .copy)) (held-left xs p b m hb gb)
+          (u .same));
+    }
+
+-- ---- what is frozen
+
 carried : (v l i base size : ℕ) (xs : List Call) (b m : List ℕ) → AllFit xs → Bytes imageBytes b → good b ≡ true
     → Fixed v l i base size (held b m) (run product xs (held b m) .copy) → FixedOn v l i base size xs b m
 carried v l i base size xs b m p h g f =
     record {
-      good = ap (λ (r : RanOn). good (r .image)) left ∙ good-image (end .store) fits;
-      fixed =
-          subst (Fixed v l i base size (held b m))
-          (ap₂ copyOf (sym (store-image (end .store) fits) ∙ ap (λ (r : RanOn). storeIn (r .image)) (sym left))
-          (ap (λ (r : RanOn). r .memory) (sym left)))
-          f;
+      good = good-left xs p b m h g;
+      fixed = subst (Fixed v l i base size (held b m)) (held-left xs p b m h g) f;
     }
-  where
-    end : Copy
-    end = run product xs (held b m) .copy
-
-    fits : StoreFits (end .store)
-    fits = run-fits xs (held b m) p (store-held b h)
-
-    left : runOn xs b m ≡ imagedRun (run product xs (held b m))
-    left = lists-are-runs xs b m p h g
 
 pub frozen-on-images : FrozenOnImages
 frozen-on-images v l i base size hv hl hi xs b m p h g s q t =

@@ -5,6 +5,8 @@
 --     imagedRun n        a run of steps, the store at its end as its image
 --     placesOn xs b m    the parts that the looks of the list tell, in their order, each on the image and the memory that it
 --                        gets; they are not in the replies, which have the bytes
+--     held b m           the store that an image holds, with its memory
+--     leftOn xs b m      the same of what a list leaves
 --     refusedWith n      the reply of a refusal with n; image and memory are those given
 -- Statements:
 --     ListsAreRuns       on an image that holds a store a list gives and leaves what the run of steps on that store does, so
@@ -13,6 +15,10 @@
 --     TwoImages          condition 3 of images: where the stores that two images hold, with their memories, differ only in
 --                        one cluster's secrets, and no call presents a handle that opens it, the replies of a list are
 --                        equal and its looks tell the same parts, and the runs agree as the copies of the stores do
+--     WritersOnImages    document 02, §7, of images: where the stores that two images hold, with their memories, have in common
+--                        what writers may know, and no call presents a handle that opens the cluster for reading to a call that
+--                        reads, the replies of a list are equal and its looks tell the same parts, and the images left hold
+--                        stores that have that in common again
 --     FrozenOnImages     document 02, §3, of images: a segment that is present and frozen in the store that an image
 --                        holds is fixed after any list of calls, in the store and the memory that are left; and the image
 --                        left holds a store
@@ -38,10 +44,11 @@ use Rattle.store.specs.Records.{tableAt}
 use Rattle.calls.specs.declared.Part.{Part}
 use Rattle.calls.specs.declared.Looked.{Looked}
 use Rattle.calls.specs.Calls.{Copy, Call, Arguments, call, weaken, freeze, isLook, handleOf, buffer}
-use Rattle.calls.specs.Steps.{Reply, Ran, plain, run}
+use Rattle.calls.specs.Steps.{Reply, Ran, plain, run, aesStep}
 use Rattle.calls.specs.Answers.{copyOf}
 use Rattle.isolation.specs.Copies.{SoundCopy, setApart, Alike, AllShut, also, places}
 use Rattle.isolation.specs.Statements.{Agreed}
+use Rattle.isolation.specs.Writers.{SameToWriters, NoReader}
 use Rattle.isolation.specs.Frozen.{placeAt, frozenAt, Fixed}
 use Rattle.image.specs.Images.{imageBytes, good, storeIn, imageOf}
 use Rattle.gelmuszta.specs.Exported.{Exported, exported, exportedPart}
@@ -94,9 +101,27 @@ TwoImages =
     → AllShut node local product xs (held b m) → AllShut node local product xs (held d n)
     → ImagesAgree node local xs b m d n
 
+abbrev pub leftOn : List Call → List ℕ → List ℕ → Copy
+leftOn xs b m = held (runOn xs b m .image) (runOn xs b m .memory)
+
+pub record ImagesUntold (node local : ℕ) (xs : List Call) (b m d n : List ℕ) : Type 0 where
+  pub replies : runOn xs b m .replies ≡ runOn xs d n .replies
+  pub places : placesOn xs b m ≡ placesOn xs d n
+  pub good-first : good (runOn xs b m .image) ≡ true
+  pub good-second : good (runOn xs d n .image) ≡ true
+  pub same : SameToWriters node local (leftOn xs b m) (leftOn xs d n)
+
+abbrev pub WritersOnImages : Type 0
+WritersOnImages =
+    (node local : ℕ) → node < nodes → local < clusters → (xs : List Call) (b m d n : List ℕ) → AllFit xs
+    → Bytes imageBytes b → good b ≡ true → Bytes imageBytes d → good d ≡ true
+    → SoundCopy (held b m) → SoundCopy (held d n) → SameToWriters node local (held b m) (held d n)
+    → NoReader node local product aesStep xs (held b m) → NoReader node local product aesStep xs (held d n)
+    → ImagesUntold node local xs b m d n
+
 pub record FixedOn (v l i base size : ℕ) (xs : List Call) (b m : List ℕ) : Type 0 where
   pub good : good (runOn xs b m .image) ≡ true
-  pub fixed : Fixed v l i base size (held b m) (held (runOn xs b m .image) (runOn xs b m .memory))
+  pub fixed : Fixed v l i base size (held b m) (leftOn xs b m)
 
 abbrev pub FrozenOnImages : Type 0
 FrozenOnImages =

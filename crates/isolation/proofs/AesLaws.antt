@@ -11,6 +11,8 @@ use Rattle.isolation.specs.Copies.{SixteenBytes}
 use Rattle.isolation.specs.Statements.{SoundKept, TwoCopies, ReadersAlterNothing, Agreed}
 use Rattle.isolation.specs.Witness.{one, two, tries, Concluded, Bites}
 use Rattle.isolation.specs.ReaderWitness.{Unharmed}
+use Rattle.isolation.specs.Writers.{WritersLearnNothing, RestsOnClearing, RestsOnTwelve}
+use Rattle.isolation.specs.WriterWitness.{WritersList, WritersUntold, WritersBite}
 use Rattle.isolation.specs.Frozen.{FrozenStays, FixedFromThenOn}
 use Rattle.isolation.specs.FrozenWitness.{Standing}
 use Rattle.isolation.specs.Renewals.{OtherUntold, GuessesUntold, BothOpened, Revoked}
@@ -21,6 +23,9 @@ use Rattle.isolation.proofs.ReaderLaws.{readers-alter-nothing}
 use Rattle.isolation.proofs.CheckLaws.{validation-judges}
 use Rattle.isolation.proofs.WitnessLaws.{agreed, concluded, bites}
 use Rattle.isolation.proofs.ReaderWitnessLaws.{unharmed}
+use Rattle.isolation.proofs.WriterLaws.{writers-learn-nothing}
+use Rattle.isolation.proofs.WriterWitnessLaws.{writers-list, writers-untold, writers-bite}
+use Rattle.isolation.proofs.LeakLaws.{rests-on-clearing, rests-on-twelve}
 use Rattle.isolation.proofs.FrozenLaws.{frozen-stays, fixed-from-then-on}
 use Rattle.isolation.proofs.FrozenWitnessLaws.{standing}
 use Rattle.isolation.proofs.RenewalLaws.{other-untold, guesses-untold}
@@ -37,6 +42,15 @@ aes-two-copies node local = two-copies node local product
 
 pub aes-readers-alter-nothing : (node local : ℕ) → ReadersAlterNothing node local product
 aes-readers-alter-nothing node local = readers-alter-nothing node local product
+
+pub aes-writers-learn-nothing : WritersLearnNothing product
+aes-writers-learn-nothing = writers-learn-nothing product
+
+pub aes-rests-on-clearing : RestsOnClearing product
+aes-rests-on-clearing = rests-on-clearing product
+
+pub aes-rests-on-twelve : RestsOnTwelve product
+aes-rests-on-twelve = rests-on-twelve product
 
 pub aes-frozen-stays : FrozenStays product
 aes-frozen-stays = frozen-stays product
@@ -79,3 +93,12 @@ aes-standing = standing product
 
 pub aes-bites : Bites product
 aes-bites = bites product
+
+pub aes-writers-list : WritersList product
+aes-writers-list = writers-list product
+
+pub aes-writers-untold : WritersUntold product
+aes-writers-untold = writers-untold product
+
+pub aes-writers-bite : WritersBite product
+aes-writers-bite = writers-bite product
