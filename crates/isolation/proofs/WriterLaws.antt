@@ -25,14 +25,15 @@ use Rattle.calls.specs.Numbers.{noPlace, gappedHandle, badField, inactiveCluste
 use Rattle.calls.specs.Steps.{about}
 use Rattle.calls.specs.Steps.{given}
 use Rattle.isolation.specs.Copies.{SoundCopy, Done, setApart, keyed}
-use Rattle.isolation.specs.Writers.{SameToWriters, Spies, WritersLearnNothing}
+use Rattle.isolation.specs.Writers.{SameToWriters, AlikeIsSame, Spies, WritersLearnNothing}
 use Rattle.calls.proofs.CallLaws.{Presents, InRange, handle-range, mode-known, active-is, ungapped-is}
 use Rattle.calls.proofs.DoneLaws.{done-range, done-mode, done-active}
 use Rattle.calls.proofs.KindLaws.{kind-then}
 use Rattle.calls.proofs.ValidWords.{read-is}
+use Rattle.isolation.proofs.AddressLaws.{place-outside}
 use Rattle.isolation.proofs.AwayLaws.{named, not-keyed, away}
 use Rattle.isolation.proofs.KeyLaws.{keyed-in-words}
-use Rattle.isolation.proofs.KeptLaws.{tables, low-segment, step-sound}
+use Rattle.isolation.proofs.KeptLaws.{tables, facts, low-segment, step-sound}
 use Rattle.isolation.proofs.NumberLaws.{Level, rows-number}
 use Rattle.isolation.proofs.PairLaws.{reads-segment, reading-opens, moded-opens, same-given, same-looked}
 use Rattle.isolation.proofs.PairLaws.{same-step, Stepped, kept-run, replies-run, places-run}
@@ -184,4 +185,18 @@ writers-learn-nothing f node local high low xs a b sa sb same na nb =
       replies = replies-run f i t o xs a b v na nb;
       places = places-run f i t o xs a b v na nb;
       same = kept-run f i t o xs a b v na nb .same;
+    }
+
+-- ---- copies that are alike
+
+pub alike-is-same : (node local : ℕ) → AlikeIsSame node local
+alike-is-same node local high low a b k al w =
+    record {
+      records = al .records;
+      others = al .others;
+      table = al .table;
+      write = w;
+      size = al .size;
+      bytes = λ v l i p hv hl hi ne u.
+          al .bytes p (place-outside (a .store) (length (a .memory)) (facts a k) node local high low v l i hv hl hi ne p u);
     }

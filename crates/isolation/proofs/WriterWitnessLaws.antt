@@ -15,13 +15,13 @@ use Rattle.sizes.specs.Sizes.{nodes, clusters, records, memory}
 use Rattle.handle.specs.Handles.{Name, decoded}
 use Rattle.store.specs.declared.Cluster.{Cluster}
 use Rattle.store.specs.declared.Store.{Store}
-use Rattle.store.specs.Records.{inactive, startingStore, tableOf, recordOf, noCluster, clusterAt, placeOf, readMode}
+use Rattle.store.specs.Records.{inactive, startingStore, tableOf, recordOf, noCluster, clusterAt, tableAt, placeOf, placeOn, readMode}
 use Rattle.store.proofs.ChangeLaws.{put-other}
 use Rattle.calls.specs.Calls.{Copy, Call, Kind, read, reduce, newPassword, join, validate, look, opens, needed, writing}
 use Rattle.calls.specs.Calls.{reducing, joining}
 use Rattle.calls.specs.Words.{Named, ReadMode}
 use Rattle.calls.specs.Numbers.{valid, violated, tests, otherTests}
-use Rattle.calls.specs.Steps.{Reply, Ran, followed, Outcome, effects, outcome, step}
+use Rattle.calls.specs.Steps.{Reply, Ran, followed, Outcome, effects, outcome, step, run}
 use Rattle.calls.specs.Literals.{sixteen, none, told}
 use Rattle.isolation.specs.Copies.{SoundCopy, InPlace, setApart, keyed, places}
 use Rattle.isolation.specs.Writers.{SameToWriters, Spies, NoReader, Untold}
@@ -187,6 +187,18 @@ module _ (f : Name → List ℕ → ℕ → List ℕ) where
   unfolding tests effects computing
   looked = refl
 
+  abbrev restRun : Ran
+  restRun = runBelow f rest (after 17 7 5)
+
+  ended : run f (wholeList f) ours ≡ record { replies = openingAnswers f ++ restRun .replies; copy = restRun .copy }
+  ended =
+      run-below f (wholeList f) ours (sound-keeping 17 7 5)
+      ∙ append-below f (opening f) rest ours
+      ∙ ap
+      (λ (n : Ran).
+      record { replies = n .replies ++ runBelow f rest (n .copy) .replies; copy = runBelow f rest (n .copy) .copy })
+      (opened 17 7 5)
+
   pub writers-list : WritersList f
   writers-list =
       record {
@@ -195,11 +207,7 @@ module _ (f : Name → List ℕ → ℕ → List ℕ) where
         same = same-keeping 17 1 7 9 5 6;
         no-reader-ours = no-reader 17 7 5 unspied-ours;
         no-reader-theirs = no-reader 1 9 6 unspied-theirs;
-        replies =
-            ap (λ (n : Ran). n .replies)
-            (run-below f (wholeList f) ours (sound-keeping 17 7 5) ∙ append-below f (opening f) rest ours)
-            ∙ ap (λ (n : Ran). n .replies ++ runBelow f rest (n .copy) .replies) (opened 17 7 5)
-            ∙ ap (λ (l : List Reply). openingAnswers f ++ l) replied;
+        replies = ap (λ (n : Ran). n .replies) ended ∙ ap (λ (l : List Reply). openingAnswers f ++ l) replied;
         places =
             places-below f (wholeList f) ours (sound-keeping 17 7 5)
             ∙ append-places f (opening f) rest ours
@@ -213,11 +221,22 @@ module _ (f : Name → List ℕ → ℕ → List ℕ) where
       writers-learn-nothing f 0 2 (omega arith) (omega arith) (wholeList f) ours theirs (w .sound-ours) (w .sound-theirs)
       (w .same) (w .no-reader-ours) (w .no-reader-theirs)
 
+  -- a byte of the other cluster's segment
+  in-other : InPlace 0 (placeOn (tableAt (restRun .copy .store)) 0 3 7) 4
+  unfolding tests effects computing
+  in-other = (omega arith, omega arith)
+
   pub writers-untold : WritersUntold f
   writers-untold =
       record {
         replies = sym (untold .replies) ∙ writers-list .replies;
         places = sym (untold .places) ∙ writers-list .places;
+        other-record = untold .same .others 3 (λ e. omega arith);
+        other-byte =
+            untold .same .bytes 0 3 7 4 (omega arith) (omega arith) (omega arith) (λ e. omega arith)
+            (subst (λ (n : Ran). InPlace 0 (placeOn (tableAt (n .copy .store)) 0 3 7) 4) (sym ended) in-other);
+        table = untold .same .table;
+        write = untold .same .write;
       }
 
   -- ---- it bites

@@ -6,9 +6,10 @@
 --     leak               the cluster's segments of four and two bytes are deleted; another cluster is made, and gets and reads a
 --                        segment where they were
 --     guess              a new write password that is the read password of the copy `ours`
---     shownNow, told ..  what a read, a look and a validation by the read handle of the copy `ours` are answered
+--     rightRead, rightLook, rightCheck    a read, a look and a validation with the read handle of the copy `ours`
 -- For every conversion f:
---     weaker c           what a weakening of the write handle by the mask c gives: made, and shown with sixteen bytes
+--     weakerMade c, weakerShown c    the handle that a weakening of the write handle by the mask c gives, as it is made, and shown
+--                        with sixteen bytes of its password
 --     opening            the write handle is weakened twice; a write, a reduction and a join for writing with what is given
 --     rest               everything else that the freedom allows, with the write handle: validations, a read and a look in vain, a
 --                        weakening of a read handle; segments made where the copies differ, written, deleted and made again;
@@ -16,20 +17,23 @@
 --                        them the read password of the copy `ours`, and a write with the handle given, which opens that copy
 --                        in both modes; the cluster deleted, a read of it with the password zero, the cluster made anew, a
 --                        segment of it frozen, and what is then refused
---     wholeList, answers, toldPlaces    all these calls, what both copies answer, and what the looks tell
+--     wholeList, answers    all these calls, and what both copies answer: openingAnswers, and then restAnswers
+--     toldPlaces         what the looks tell: the number, and from where to where the part goes
 --     WritersList        the copies and the list meet each hypothesis, and the answers are computed
---     WritersUntold      what the theorem says of them: the other copy gives these answers and places too
+--     WritersUntold      what the theorem says of them: the other copy gives these answers and places too; in the end the record
+--                        and a byte of the other cluster, record 3, are equal, and this cluster's table and write password
 --     WritersBite        two copies that differ in the cluster's bytes alone, and then in its read password: a read, a look and a
 --                        validation with the read handle tell them apart, and these are the calls that spy
 -- Assumes nothing.
 use mathlib.Core.Path.{_≡_}
 use Prim.Native.Nat.{ℕ, _-_}
 use mathlib.Core.List.{List, [], _∷_, _++_}
-use lib.ListN.{replicate}
+use lib.ListN.{getD, replicate}
 use Rattle.sizes.specs.Sizes.{memory}
 use Rattle.handle.specs.Handles.{Name}
 use Rattle.store.specs.declared.Place.the-variants.{Present}
-use Rattle.store.specs.Records.{startingStore, started, recordOf, putRecord, withPlace}
+use Rattle.store.specs.declared.Store.{Store}
+use Rattle.store.specs.Records.{startingStore, started, recordOf, clusterAt, tableAt, putRecord, withPlace}
 use Rattle.calls.specs.declared.Looked.{Looked}
 use Rattle.calls.specs.Calls.{Copy, Call, makingCluster, deletingCluster, makingSegment, deletingSegment, reading}
 use Rattle.calls.specs.Calls.{writing, weakeningBy, reducing, renewing, freezing, joining, validating, looking}
@@ -188,6 +192,10 @@ module _ (f : Name → List ℕ → ℕ → List ℕ) where
   abbrev pub answers : List Reply
   answers = openingAnswers ++ restAnswers
 
+  -- the records in the end
+  abbrev pub end : Copy → Store
+  end c = run f wholeList c .copy .store
+
   pub record WritersList : Type 0 where
     pub sound-ours : SoundCopy ours
     pub sound-theirs : SoundCopy theirs
@@ -200,6 +208,10 @@ module _ (f : Name → List ℕ → ℕ → List ℕ) where
   pub record WritersUntold : Type 0 where
     pub replies : run f wholeList theirs .replies ≡ answers
     pub places : places f wholeList theirs ≡ toldPlaces
+    pub other-record : clusterAt (end ours) 3 ≡ clusterAt (end theirs) 3
+    pub other-byte : getD (run f wholeList ours .copy .memory) 4 0 ≡ getD (run f wholeList theirs .copy .memory) 4 0
+    pub table : tableAt (end ours) 2 ≡ tableAt (end theirs) 2
+    pub write : clusterAt (end ours) 2 .write ≡ clusterAt (end theirs) 2 .write
 
   pub record WritersBite : Type 0 where
     pub same : (b c : ℕ) → SameToWriters 0 2 (keeping 17 b 5) (keeping 17 c 5)

@@ -3,6 +3,8 @@
 --     SameToWriters a b       what the two copies have in common: every other record, the bytes of every other cluster's
 --                             segments, and of this cluster its table and its write password. Its read password and its
 --                             segments' bytes are anything in each copy, and so are the bytes that belong to no segment
+--     AlikeIsSame             copies that begin as §7 has it, alike but for the cluster's segment bytes and its read password,
+--                             have that in common
 --     Spies f x s             the cluster is active, the call is a read, a look or in mode 1, and the handle that it takes, or
 --                             the second one of a join, names the cluster, is not gapped and validates for reading. No call
 --                             that asks for writing spies, and no weakening
@@ -31,7 +33,7 @@ use Rattle.store.specs.Records.{Tables, recordOf, clusterAt, tableAt, placeOn}
 use Rattle.calls.specs.Calls.{Copy, Call}
 use Rattle.calls.specs.Words.{Some, ReadMode}
 use Rattle.calls.specs.Steps.{Outcome, runBy, step}
-use Rattle.isolation.specs.Copies.{SoundCopy, InPlace, setApart, Along, placesBy}
+use Rattle.isolation.specs.Copies.{SoundCopy, InPlace, setApart, Alike, Along, placesBy}
 use Rattle.isolation.specs.Statements.{Key}
 use Rattle.isolation.specs.Leaks.{uncleared, twelveOfEither}
 
@@ -48,6 +50,12 @@ module _ (node local : ℕ) where
     pub write : clusterAt (a .store) (setApart node local) .write ≡ clusterAt (b .store) (setApart node local) .write
     pub size : length (a .memory) ≡ length (b .memory)
     pub bytes : OthersBytes (tableAt (a .store)) (a .memory) (b .memory)
+
+  abbrev pub AlikeIsSame : Type 0
+  AlikeIsSame =
+      node < nodes → local < clusters → (a b : Copy) → SoundCopy a → Alike node local a b
+      → clusterAt (a .store) (setApart node local) .write ≡ clusterAt (b .store) (setApart node local) .write
+      → SameToWriters a b
 
   module _ (f : Name → List ℕ → ℕ → List ℕ) where
     pub record Spies (x : Call) (s : Store) : Type 0 where
