@@ -37,6 +37,11 @@
  * all, and its cluster stays active: calls 4 and 6 on the segment and call 2 on the cluster are refused, with
  * GELMUSZTA_FROZEN where nothing before it applies. Everything else treats it as any other segment.
  *
+ * A handle that is valid for writing alone tells nothing of what lies there. As long as no read, no look and no call in
+ * GELMUSZTA_MODE_READ presents a handle of a cluster that is valid for reading, no reply to any calls depends on the bytes of
+ * its segments, on its read password or on bytes that belong to no segment. Its holder may learn of the cluster which segments
+ * are there, how long they are and which are frozen. Deleting leaves bytes in the memory; call 3 clears those that it gives out.
+ *
  * The eleven calls, gelmuszta_look and gelmuszta_validate return a number, 0 for done. When several refusals apply, the
  * first of them in the order below is given. On a refusal the handles given are 23 zero bytes, counts and lengths are zero, a
  * look's part begins at 0, and image, memory and buffer stay as they were, byte for byte. Arguments of type size_t are

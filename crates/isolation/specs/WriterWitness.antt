@@ -16,7 +16,7 @@
 --                        segments freed, and another cluster's made there, read and looked at; new write passwords, one of
 --                        them the read password of the copy `ours`, and a write with the handle given, which opens that copy
 --                        in both modes; the cluster deleted, a read of it with the password zero, the cluster made anew, a
---                        segment of it frozen, and what is then refused
+--                        segment of it frozen, and what is then refused, a read with a handle that opened it before among that
 --     wholeList, answers    all these calls, and what both copies answer: openingAnswers, and then restAnswers
 --     toldPlaces         what the looks tell: the number, and from where to where the part goes
 --     WritersList        the copies and the list meet each hypothesis, and the answers are computed
@@ -105,6 +105,7 @@ rest =
     ∷ deletingSegment 0 3 (primary 0 2 6)
     ∷ deletingCluster 0 (primary 0 2 6)
     ∷ reading 3 (primary 0 2 6) (8 ∷ 8 ∷ [])
+    ∷ reading 3 (primary 0 2 17) (8 ∷ 8 ∷ [])
     ∷ []))
 
 abbrev pub restAnswers : List Reply
@@ -142,6 +143,7 @@ restAnswers =
     ∷ told 22 none none 0 0 (8 ∷ 8 ∷ [])
     ∷ told 22 none none 0 0 []
     ∷ told 22 none none 0 0 []
+    ∷ told 9 none none 0 0 (8 ∷ 8 ∷ [])
     ∷ told 9 none none 0 0 (8 ∷ 8 ∷ [])
     ∷ []
 
