@@ -15,15 +15,12 @@ use Rattle.handle.specs.declared.Handle.{Handle}
 use Rattle.handle.specs.Handles.{Name, nodeOf}
 use Rattle.store.specs.declared.Cluster.{Cluster}
 use Rattle.store.specs.declared.Store.{Store}
-use Rattle.store.specs.Records.{Tables, recordOf, clusterAt, tableAt}
-use Rattle.store.specs.Records.{readMode, writeMode, primaryOf}
+use Rattle.store.specs.Records.{Tables, recordOf, clusterAt, tableAt, readMode, writeMode, primaryOf}
 use Rattle.store.specs.Sound.{sound}
-use Rattle.calls.specs.Calls.{Copy, Call, call, Arguments, Kind}
-use Rattle.calls.specs.Calls.{among, opens, uses, needed}
-use Rattle.calls.specs.Calls.{nodeFor, localFor, recordFor, recordNamed}
+use Rattle.calls.specs.Calls.{Copy, Call, call, Arguments, Kind, among, opens, uses, needed, nodeFor, localFor, recordFor}
+use Rattle.calls.specs.Calls.{recordNamed}
 use Rattle.calls.specs.Numbers.{noPlace, gappedHandle, badField, inactiveCluster, valid, number}
-use Rattle.calls.specs.Steps.{about}
-use Rattle.calls.specs.Steps.{given}
+use Rattle.calls.specs.Steps.{about, given}
 use Rattle.isolation.specs.Copies.{SoundCopy, Done, setApart, keyed}
 use Rattle.isolation.specs.Writers.{SameToWriters, AlikeIsSame, Spies, WritersLearnNothing}
 use Rattle.calls.proofs.CallLaws.{Presents, InRange, handle-range, mode-known, active-is, ungapped-is}
