@@ -8,6 +8,7 @@
 //! - [`single`], [`runs`], [`edges`], [`batch`], [`copies`], [`published`]: what is compared.
 //! - [`stays`], [`laws`], [`untold`]: whether what is frozen stays, what holds of joins, and what the reply to a new
 //!   password does not tell, judged by the library's side alone.
+//! - [`pairs`]: what comparisons of two copies share.
 //! - [`tally`], [`damages`], [`sights`]: which answers, fills, selectors, modes, damages, ways to nothing,
 //!   frozen segments, looks, freezes, joins and new passwords were met.
 
@@ -21,6 +22,7 @@ pub mod ffi;
 pub mod guard;
 pub mod image;
 pub mod laws;
+pub mod pairs;
 pub mod published;
 pub mod question;
 pub mod runs;
