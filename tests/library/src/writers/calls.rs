@@ -100,7 +100,7 @@ impl Made<'_> {
         match self.random.below(16) {
             0 => self.anew(),
             1 | 2 if !active => self.anew(),
-            0..=7 => {
+            1..=7 => {
                 let mut question = self.likely((node, local), writing);
                 if self.random.one_in(4) {
                     self.guess(&mut question);

@@ -1,6 +1,6 @@
 //! What comes of a call that hangs on the bytes of the segment, or of the cluster's segments.
 
-use super::{found_out, in_either_mode, told_by};
+use super::{found_out, in_either_mode, is_zero, told_by};
 use crate::seen::{instead, refused_if, Seen};
 use library::guard;
 use library::question::{Answer, Held, Question, LOOK, READ_MODE};
@@ -24,10 +24,6 @@ fn a_refusal_for_the_byte_that_is_there() {
         "the replies differ",
     );
     found_out(kept_by_a_byte::<FREEZE>, "Freeze", "the replies differ");
-}
-
-fn is_zero(bytes: &[u8]) -> bool {
-    bytes.iter().all(|byte| *byte == 0)
 }
 
 #[test]

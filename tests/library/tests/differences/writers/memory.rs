@@ -1,15 +1,16 @@
 //! What comes of a call that hangs on memory which is no segment's, and which may have been one of the cluster's.
 
-use super::{found_out, told_by};
+use super::{found_out, is_zero, told_by};
+use crate::seen::{instead, refused_if};
 use library::chance::stores::{gaps, present};
 use library::compare::Guard;
 use library::guard;
 use library::image::decode;
 use library::question::{Answer, Held, Question};
-use model::call::{Call, Reply};
+use model::call::{Call, NEW_SEGMENT};
 use model::sizes::MEMORY_BYTES;
 use model::store::{Extent, Store};
-use model::table::NO_ROOM;
+use model::table::{DONE, NO_ROOM};
 
 /// The new segment of a call 3 that was done, in its node.
 fn new_segment(held: &Held, question: &Question, answer: &Answer) -> Option<(usize, Extent)> {
@@ -65,27 +66,31 @@ fn clean(held: &Held, store: &Store, node: usize, size: usize) -> Option<usize> 
     })
 }
 
-/// The library, if a new segment lay where there are zeros, and where it should if there are not enough of them; or was
-/// refused then.
-fn in_clean_memory(held: &mut Held, question: &Question, has_to_be: bool) -> Answer {
+/// The library, if a new segment lay where there are zeros, and where it should if there are not enough of them.
+fn in_clean_memory(held: &mut Held, question: &Question) -> Answer {
     let before = held.clone();
-    let mut answer = guard::ask(held, question);
-    let Some((node, extent)) = new_segment(held, question, &answer) else {
-        return answer;
-    };
-    let store = decode(&before.image).expect("it was sound");
-    match clean(&before, &store, node, extent.length) {
-        Some(base) => {
+    let answer = guard::ask(held, question);
+    if let Some((node, extent)) = new_segment(held, question, &answer) {
+        let store = decode(&before.image).expect("it was sound");
+        if let Some(base) = clean(&before, &store, node, extent.length) {
             *held = moved(held, question, base);
             held.memory = before.memory;
         }
-        None if has_to_be => {
-            *held = before;
-            answer.reply = Reply::refused(NO_ROOM);
-        }
-        None => {}
     }
     answer
+}
+
+/// The library, if there was no room where something lies.
+fn no_room(held: &mut Held, question: &Question) -> Answer {
+    instead(held, question, (NEW_SEGMENT, DONE), |seen| {
+        let Call::NewSegment { size, .. } = seen.question.call else {
+            return None;
+        };
+        let (node, length) = (seen.handle.node.into(), size as usize);
+        let base = seen.store.as_ref()?.place(node, length)?;
+        let part = Extent { base, length }.in_memory(node);
+        refused_if(!is_zero(&seen.held.memory[part]), NO_ROOM)
+    })
 }
 
 /// With the new segment at another base.
@@ -106,19 +111,12 @@ fn moved(held: &Held, question: &Question, base: usize) -> Held {
 
 #[test]
 fn a_new_segment_that_keeps_off_what_lies_there() {
-    found_out(
-        |held, question| in_clean_memory(held, question, false),
-        "NewSegment",
-        "records of the copies differ",
-    );
-    found_out(
-        |held, question| in_clean_memory(held, question, true),
-        "NewSegment",
-        "the replies differ",
-    );
+    let what = "records of the copies differ";
+    found_out(in_clean_memory, "NewSegment", what);
+    found_out(no_room, "NewSegment", "the replies differ");
 }
 
-/// A new cluster has a segment already, as long as the first byte says that lies there.
+/// A new cluster has a segment already, which is cleared and as long as the first byte said that lay there.
 #[test]
 fn a_new_cluster_that_takes_over_what_lies_there() {
     found_out(
@@ -132,9 +130,10 @@ fn a_new_cluster_that_takes_over_what_lies_there() {
             let (node, local) = (node as usize, local as usize);
             let mut store = decode(&held.image).expect("it was sound");
             if let Some(gap) = gaps(&store, node).first() {
-                let says = usize::from(held.memory[gap.in_memory(node).start]);
-                let length = (says + 1).min(gap.length);
+                let memory = &mut held.memory[gap.in_memory(node)];
+                let length = (1 + usize::from(memory[0])).min(gap.length);
                 store.clusters[node][local].segments[0] = present(gap.base, length);
+                memory[..length].fill(0);
             }
             *held = held.with(&store);
             answer
