@@ -6,8 +6,10 @@
 //! - [`compare`]: one question put to both, and everything that has to be equal afterwards.
 //! - [`chance`]: stores, damage, handles and questions made by chance from a seed.
 //! - [`single`], [`runs`], [`edges`], [`batch`], [`copies`], [`published`]: what is compared.
-//! - [`stays`], [`laws`], [`untold`]: whether what is frozen stays, what holds of joins, and what the reply to a new
-//!   password does not tell, judged by the library's side alone.
+//! - [`stays`], [`laws`], [`untold`], [`writers`]: whether what is frozen stays, what holds of joins, what the reply to a
+//!   new password does not tell, and that those who write learn nothing of what lies there, judged by the library's side
+//!   alone.
+//! - [`pairs`]: what comparisons of two copies share.
 //! - [`tally`], [`damages`], [`sights`]: which answers, fills, selectors, modes, damages, ways to nothing,
 //!   frozen segments, looks, freezes, joins and new passwords were met.
 
@@ -21,6 +23,7 @@ pub mod ffi;
 pub mod guard;
 pub mod image;
 pub mod laws;
+pub mod pairs;
 pub mod published;
 pub mod question;
 pub mod runs;
@@ -29,3 +32,4 @@ pub mod single;
 pub mod stays;
 pub mod tally;
 pub mod untold;
+pub mod writers;

@@ -1,8 +1,9 @@
 //! A call with everything it is asked with, what it is asked of, and what is answered.
 
-use crate::image::Image;
+use crate::image::{encode, Image};
 use model::call::{self, Call, Reply, CALLS};
 use model::handle::Handle;
+use model::store::Store;
 use std::fmt;
 
 /// The number of a call's argument that stands for [`Question::beyond`].
@@ -32,6 +33,16 @@ pub fn name(code: u8) -> &'static str {
 pub struct Held {
     pub image: Image,
     pub memory: Vec<u8>,
+}
+
+impl Held {
+    /// The same memory with the records of a store.
+    pub fn with(&self, store: &Store) -> Held {
+        Held {
+            image: encode(store),
+            memory: self.memory.clone(),
+        }
+    }
 }
 
 #[derive(Clone, PartialEq, Eq)]

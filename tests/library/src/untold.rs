@@ -4,8 +4,9 @@
 use crate::chance::handles::{self, Wish};
 use crate::chance::stores::{self, active, Fill};
 use crate::chance::{below, cases, password};
-use crate::compare::{same_answer, same_bytes, Guard};
-use crate::image::{encode, password_at};
+use crate::compare::{same_bytes, Guard};
+use crate::image::password_at;
+use crate::pairs::ask_both;
 use crate::question::{Held, Question};
 use model::call::Call;
 use model::handle::{Handle, Password};
@@ -110,10 +111,7 @@ fn by_chance(random: &mut Random, store: &mut Store) -> Pair {
     let images = others.map(|other| {
         let cluster = &mut store.clusters[place.0][place.1];
         *cluster.primary_mut(mode.other()) = other;
-        Held {
-            image: encode(store),
-            memory: first.memory.clone(),
-        }
+        first.with(store)
     });
     Pair {
         images,
@@ -149,12 +147,8 @@ impl Pair {
     /// The number that both images get.
     fn asked(&self, guard: Guard, question: &Question) -> Result<u8, String> {
         let mut after = self.images.clone();
-        let [first, second] = after.each_mut().map(|held| guard(held, question));
-        let same = same_answer(&first, &second).and_then(|()| self.agree(&after));
-        same.map_err(|what| {
-            format!("{what}\n  asked:  {question}\n  first:  {first}\n  second: {second}")
-        })?;
-        Ok(first.reply.number)
+        let answer = ask_both(guard, &mut after, question, |after| self.agree(after))?;
+        Ok(answer.reply.number)
     }
 
     /// Each image has the other mode's password that it had, and but for that the two are equal.

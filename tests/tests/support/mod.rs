@@ -11,6 +11,7 @@ pub mod faults;
 pub mod joint;
 pub mod naive;
 pub mod renewed;
+pub mod valid;
 
 pub const READ_SECRET: Password = [0x11; 16];
 pub const WRITE_SECRET: Password = [0x22; 16];

@@ -11,6 +11,7 @@ use library::single;
 use library::stays;
 use library::tally::Tally;
 use library::untold;
+use library::writers;
 use std::process::ExitCode;
 
 const USAGE: &str = "usage: against-library [SEED] [CALLS]";
@@ -18,11 +19,12 @@ const BAD_USAGE: u8 = 2;
 const USUAL_SEED: u64 = 1;
 const USUAL_CALLS: u64 = 100_000;
 /// There is one join of which laws are judged for so many calls, one pair of images for new passwords, one batch of
-/// validations, and one pair of copies.
+/// validations, one pair of copies, and one pair of copies for writers.
 const CALLS_PER_JOIN: u64 = 10;
 const CALLS_PER_IMAGES: u64 = 50;
 const CALLS_PER_BATCH: u64 = 100;
 const CALLS_PER_PAIR: u64 = 250;
+const CALLS_PER_WRITERS: u64 = 100;
 
 struct Task {
     seed: u64,
@@ -70,10 +72,11 @@ fn compare(task: &Task, tally: &mut Tally) -> Result<Vec<String>, String> {
     println!("batches: {count}, with {validations} validations");
 
     let not_copied = two_copies(task)?;
+    let not_written = writers(task)?;
 
     let lines = published::confirm(published::TEXT)?;
     println!("published handles: {lines} lines confirmed");
-    Ok([not_frozen, not_told, not_copied].concat())
+    Ok([not_frozen, not_told, not_copied, not_written].concat())
 }
 
 fn what_is_frozen(task: &Task) -> Result<Vec<String>, String> {
@@ -149,6 +152,21 @@ fn two_copies(task: &Task) -> Result<Vec<String>, String> {
         "passwords in two copies: {} clusters set apart with equal ones in one copy, {} guessed in one copy, {} made equal, {} calls by a handle of both modes",
         count.equal_in_one, count.guessed, count.made_equal, count.by_both
     );
+    Ok(count.faults())
+}
+
+fn writers(task: &Task) -> Result<Vec<String>, String> {
+    let pairs = task.calls.div_ceil(CALLS_PER_WRITERS);
+    let count = writers::compare(guard::ask, task.seed, pairs).map_err(named("writers"))?;
+    println!(
+        "writers: {pairs} pairs, with {} calls, {} of them done, {} by handles that open the cluster for writing",
+        count.calls, count.done, count.by_writers
+    );
+    println!(
+        "writers: {} pairs whose segments and read passwords differ to the end",
+        count.differing
+    );
+    println!("writers: {:?}", count.deeds);
     Ok(count.faults())
 }
 

@@ -30,14 +30,18 @@ pub fn handle(random: &mut Random, store: &Store, given: &[Handle], wish: Wish) 
     }
 }
 
-/// Node and local number of one of the clusters that `fits` is true of, if there are any.
+/// Node and local number of every cluster.
+pub fn everywhere() -> impl Iterator<Item = (usize, usize)> {
+    (0..NODES).flat_map(|node| (0..CLUSTERS).map(move |local| (node, local)))
+}
+
+/// Those of one of the clusters that `fits` is true of, if there are any.
 pub fn place(
     random: &mut Random,
     store: &Store,
     fits: impl Fn(&Cluster) -> bool,
 ) -> Option<(usize, usize)> {
-    let all = (0..NODES).flat_map(|node| (0..CLUSTERS).map(move |local| (node, local)));
-    let fitting: Vec<(usize, usize)> = all
+    let fitting: Vec<(usize, usize)> = everywhere()
         .filter(|&(node, local)| fits(&store.clusters[node][local]))
         .collect();
     random.pick(&fitting).copied()

@@ -1,11 +1,12 @@
 //! Sound stores by chance, from empty ones to ones in which nothing is left.
 
+use super::handles::everywhere;
 use super::words::WORD;
 use super::{below, bytes, passwords};
 use crate::image::encode;
 use crate::question::Held;
 use model::random::Random;
-use model::sizes::{CLUSTERS, MEMORY_BYTES, NODES, NODE_BYTES, SEGMENTS};
+use model::sizes::{CLUSTERS, MEMORY_BYTES, NODE_BYTES, SEGMENTS};
 use model::store::{Cluster, Extent, Segment, Store};
 use std::collections::BTreeSet;
 
@@ -200,8 +201,7 @@ pub fn present(base: usize, length: usize) -> Segment {
 
 /// Every segment of every active cluster, as node, local number and segment.
 pub fn segments(store: &Store) -> Vec<(usize, usize, usize)> {
-    let clusters = (0..NODES).flat_map(|node| (0..CLUSTERS).map(move |local| (node, local)));
-    let active = clusters.filter(|&(node, local)| store.clusters[node][local].active);
+    let active = everywhere().filter(|&(node, local)| store.clusters[node][local].active);
     active
         .flat_map(|(node, local)| (0..SEGMENTS).map(move |segment| (node, local, segment)))
         .collect()

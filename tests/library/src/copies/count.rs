@@ -1,6 +1,6 @@
 //! What lists of two copies came to, and what they have to come to.
 
-use super::Pair;
+use crate::pairs::Pair;
 use crate::question::{Answer, Question};
 use model::call::Call;
 use model::renewals::Renewal;

@@ -5,28 +5,21 @@ mod count;
 
 use crate::chance::questions::{Maker, FILLING};
 use crate::chance::stores::{self, Fill};
-use crate::chance::{below, cases, fill, handles, password, passwords};
-use crate::compare::{by_model, same_answer, same_bytes, same_shown, Guard};
-use crate::image::{decode, encode, passwords_at, record_at};
-use crate::question::{Answer, Held, Question, READ_MODE, WRITE_MODE};
+use crate::chance::{below, cases, fill, password, passwords};
+use crate::compare::{by_model, same_bytes, Guard};
+use crate::image::{decode, passwords_at, record_at};
+use crate::pairs::{ask_both, parts_of, set_apart, validates, Pair};
+use crate::question::{Answer, Held, Question};
 pub use count::{Count, Kept};
 use model::call::Call;
 use model::handle::{derive, Handle, Password};
 use model::random::Random;
-use model::store::{Segment, Store};
+use model::store::{Mode, Store};
 use model::table::VIOLATED_PROTECTION;
 use std::ops::Range;
 
 /// Calls of one list.
 pub const LIST_CALLS: u64 = 100;
-
-/// A pair of copies and the place of the cluster that is set apart.
-struct Pair {
-    copies: [Held; 2],
-    apart: (usize, usize),
-    /// The parts of the memory that are the segments of the cluster set apart.
-    own: Vec<Range<usize>>,
-}
 
 pub fn compare(guard: Guard, seed: u64, pairs: u64) -> Result<Count, String> {
     let mut count = Count::default();
@@ -37,52 +30,35 @@ pub fn compare(guard: Guard, seed: u64, pairs: u64) -> Result<Count, String> {
 fn one(guard: Guard, random: &mut Random, count: &mut Count) -> Result<(), String> {
     let mut pair = by_chance(random);
     count.note_pair(&pair);
+    let own = parts_of(&pair.stores()?[0], pair.apart);
     let start = pair.copies.clone();
     let mut given = Vec::new();
     for at in 1..=LIST_CALLS {
         let stores = pair.stores()?;
         let question = pair.question(random, &stores, &given);
-        let [first, second] = pair.copies.each_mut().map(|copy| guard(copy, &question));
-        let [one, other] = &pair.copies;
-        let same = same_answer(&first, &second)
-            .and_then(|()| same_shown([(&first, one), (&second, other)]));
-        same.map_err(|what| {
-            format!("call {at} of the list: {what}\n  asked:  {question}\n  first:  {first}\n  second: {second}")
-        })?;
-        count.note(&pair, &stores, &question, &first);
-        given.extend(first.handles(&question));
+        let answer = ask_both(guard, &mut pair.copies, &question, |_| Ok(()))
+            .map_err(|what| format!("call {at} of the list: {what}"))?;
+        count.note(&pair, &stores, &question, &answer);
+        given.extend(answer.handles(&question));
     }
-    pair.agree()?;
-    pair.kept_apart(&start)
+    pair.agree(&own)?;
+    pair.kept_apart(&own, &start)
 }
 
 fn by_chance(random: &mut Random) -> Pair {
     let mut store = stores::store(random, Fill::Partial);
-    let with_segments = handles::place(random, &store, |cluster| cluster.has_segments());
-    let active = handles::place(random, &store, |cluster| cluster.active);
-    let apart = with_segments.or(active).expect("some cluster is active");
-    let own = parts_of(&store, apart);
+    let apart = set_apart(random, &store);
     let first = stores::held(random, &store);
     let cluster = &mut store.clusters[apart.0][apart.1];
     (cluster.read, cluster.write) = passwords(random);
-    let mut second = Held {
-        image: encode(&store),
-        memory: first.memory.clone(),
-    };
-    for part in &own {
-        fill(random, &mut second.memory[part.clone()]);
+    let mut second = first.with(&store);
+    for part in parts_of(&store, apart) {
+        fill(random, &mut second.memory[part]);
     }
     Pair {
         copies: [first, second],
         apart,
-        own,
     }
-}
-
-fn parts_of(store: &Store, (node, local): (usize, usize)) -> Vec<Range<usize>> {
-    let segments = store.clusters[node][local].segments.iter();
-    let extents = segments.filter_map(Segment::extent);
-    extents.map(|extent| extent.in_memory(node)).collect()
 }
 
 impl Pair {
@@ -101,7 +77,8 @@ impl Pair {
                 self.aim(random, store, &mut question);
             }
             let weakening = matches!(question.call, Call::Weaken { .. });
-            let opens = |handle: &Handle| self.is_apart(handle) && self.opens(handle);
+            let opens =
+                |handle: &Handle| self.is_apart(handle) && validates(stores, handle, &Mode::ALL);
             if weakening || !question.call.presented().any(opens) {
                 return question;
             }
@@ -139,35 +116,6 @@ impl Pair {
         }
     }
 
-    /// The copies as they are.
-    fn stores(&self) -> Result<[Store; 2], String> {
-        match self.copies.each_ref().map(|copy| decode(&copy.image)) {
-            [Some(first), Some(second)] => Ok([first, second]),
-            _ => Err("a copy is damaged".to_string()),
-        }
-    }
-
-    /// Whether the handle names the cluster set apart.
-    fn is_apart(&self, handle: &Handle) -> bool {
-        (usize::from(handle.node), usize::from(handle.local)) == self.apart
-    }
-
-    /// Whether some handle of the question does.
-    fn names_apart(&self, question: &Question) -> bool {
-        let mut presented = question.call.presented();
-        presented.any(|handle| self.is_apart(handle))
-    }
-
-    /// Whether the handle validates in some mode in some copy, as the model judges.
-    fn opens(&self, &handle: &Handle) -> bool {
-        let validates = |copy: &Held, mode: u32| {
-            let question = Question::of(Call::Validate { mode, handle });
-            by_model(&mut copy.clone(), &question).reply.is_done()
-        };
-        let mut copies = self.copies.iter();
-        copies.any(|copy| validates(copy, READ_MODE) || validates(copy, WRITE_MODE))
-    }
-
     /// Whether the call names the cluster set apart and is refused with 9, and would be done by handles that open the
     /// cluster.
     fn kept_by_the_passwords(&self, question: &Question, answer: &Answer) -> bool {
@@ -191,11 +139,11 @@ impl Pair {
     }
 
     /// Everything but the secrets of the cluster set apart is equal in both copies.
-    fn agree(&self) -> Result<(), String> {
+    fn agree(&self, own: &[Range<usize>]) -> Result<(), String> {
         let [first, second] = self.copies.each_ref().map(|copy| {
             let mut others = copy.clone();
             others.image[passwords_at(self.apart.0, self.apart.1)].fill(0);
-            for part in &self.own {
+            for part in own {
                 others.memory[part.clone()].fill(0);
             }
             others
@@ -205,7 +153,7 @@ impl Pair {
     }
 
     /// The cluster set apart is in each copy what it was at the start.
-    fn kept_apart(&self, start: &[Held; 2]) -> Result<(), String> {
+    fn kept_apart(&self, own: &[Range<usize>], start: &[Held; 2]) -> Result<(), String> {
         let record = record_at(self.apart.0, self.apart.1);
         for (before, after) in start.iter().zip(&self.copies) {
             let (image, memory) = (&before.image, &before.memory);
@@ -214,7 +162,7 @@ impl Pair {
                 &image[record.clone()],
                 &after.image[record.clone()],
             )?;
-            for part in &self.own {
+            for part in own {
                 let now = &after.memory[part.clone()];
                 same_bytes("segments set apart", &memory[part.clone()], now)?;
             }

@@ -10,3 +10,4 @@ mod modes;
 mod nothing;
 mod renewals;
 mod seen;
+mod writers;

@@ -2,6 +2,7 @@
 
 use library::compare::Guard;
 use library::image::decode;
+use library::pairs::parts_of;
 use library::question::{Answer, Held, Question};
 use library::tally::Tally;
 use library::{guard, runs, single};
@@ -59,7 +60,7 @@ pub struct Seen {
 }
 
 impl Seen {
-    fn of(held: &Held, question: &Question) -> Option<Seen> {
+    pub fn of(held: &Held, question: &Question) -> Option<Seen> {
         let handle = *question.call.handle()?;
         Some(Seen {
             store: decode(&held.image),
@@ -81,6 +82,23 @@ impl Seen {
     pub fn own(&self) -> Option<Segment> {
         let segments = self.cluster()?.segments;
         segments.get(self.segment as usize).copied()
+    }
+
+    /// The bytes of that segment, where it is present.
+    pub fn there(&self) -> Option<&[u8]> {
+        let part = self.own()?.extent()?.in_memory(self.handle.node.into());
+        self.held.memory.get(part)
+    }
+
+    /// Those of all segments of that cluster.
+    pub fn in_the_cluster(&self) -> Vec<&[u8]> {
+        let place = (self.handle.node.into(), self.handle.local.into());
+        let store = self.store.as_ref().filter(|_| self.cluster().is_some());
+        let parts = store
+            .map(|store| parts_of(store, place))
+            .unwrap_or_default();
+        let bytes = parts.into_iter().map(|part| &self.held.memory[part]);
+        bytes.collect()
     }
 
     pub fn is_nowhere(&self) -> bool {

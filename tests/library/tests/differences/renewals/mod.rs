@@ -3,7 +3,7 @@
 //! that does not open one of them.
 
 mod both;
-mod kept;
+pub mod kept;
 mod numbers;
 mod untold;
 
@@ -15,7 +15,7 @@ use model::handle::{Handle, Password};
 use model::store::{Cluster, Mode};
 
 /// A new password to which no number before 12 applies, and the cluster that it is for.
-struct Asked {
+pub struct Asked {
     cluster: Cluster,
     mode: Mode,
     handle: Handle,
@@ -54,11 +54,11 @@ impl Asked {
     }
 
     /// The current passwords of the mode and of the other one.
-    fn own(&self) -> Password {
+    pub fn own(&self) -> Password {
         *self.cluster.primary(self.mode)
     }
 
-    fn other(&self) -> Password {
+    pub fn other(&self) -> Password {
         *self.cluster.primary(self.mode.other())
     }
 }
@@ -105,4 +105,12 @@ fn unless(old: bool, asked: &Asked) -> Outcome {
 
 fn rightly(asked: &Asked) -> Outcome {
     unless(asked.password == asked.own(), asked)
+}
+
+/// The library, if it compared a new password with the current ones of both modes.
+pub fn compared_with_both(held: &mut Held, question: &Question) -> Answer {
+    renewed(held, question, |asked| {
+        let old = [asked.own(), asked.other()].contains(&asked.password);
+        unless(old, asked)
+    })
 }

@@ -6,7 +6,7 @@ use super::kept::{
     the_other_replaced,
 };
 use super::numbers::{not_made_equal, old_before_9, unsound_where_equal};
-use super::{renewed, replaced, rightly, unless, Asked};
+use super::{compared_with_both, renewed, replaced, rightly, unless, Asked};
 use crate::seen::{instead, refused_if, SEED};
 use library::compare::Guard;
 use library::question::{Answer, Held, Question};
@@ -40,11 +40,7 @@ fn compared(held: &mut Held, question: &Question, old: fn(&Asked) -> bool) -> An
 #[test]
 fn by_the_number() {
     let guards: [Guard; 6] = [
-        |held, question| {
-            compared(held, question, |asked| {
-                [asked.own(), asked.other()].contains(&asked.password)
-            })
-        },
+        compared_with_both,
         |held, question| compared(held, question, |asked| asked.password == asked.other()),
         |held, question| compared(held, question, |asked| asked.password == asked.cluster.read),
         |held, question| {
@@ -133,10 +129,5 @@ fn what_two_copies_tell_of_passwords() {
     told_apart(another_number_where_equal::<READ>);
     told_apart(another_number_where_equal::<WRITE>);
     told_apart(another_number_where_equal::<NEW_PASSWORD>);
-    let with_both: Guard = |held, question| {
-        compared(held, question, |asked| {
-            [asked.own(), asked.other()].contains(&asked.password)
-        })
-    };
-    assert!(copies::compare(with_both, SEED, COPIES).is_ok());
+    assert!(copies::compare(compared_with_both, SEED, COPIES).is_ok());
 }
