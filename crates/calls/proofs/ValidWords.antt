@@ -43,7 +43,7 @@ module _ (x : Call) where
       go false true = refl
       go false false = refl
 
-  write-is : Opening x → Is (eqb (needed x) 2) (WriteMode x)
+  pub write-is : Opening x → Is (eqb (needed x) 2) (WriteMode x)
   write-is o =
       same-is (go (opens (x .kind)) (uses (x .kind) .mode) (among (5 ∷ []) (x .kind)) (opens-is x .into o))
       (or-is (kind-is (λ k. opens k && (not (uses k .mode) && not (among (5 ∷ []) k))) _ refl x)

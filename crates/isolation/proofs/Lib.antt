@@ -24,6 +24,8 @@ pub mod ReadLaws
 pub mod KeyLaws
 pub mod WriterLeftLaws
 pub mod WriterLaws
+pub mod SpyLaws
+pub mod WriterCopyLaws
 pub mod WriterWitnessLaws
 pub mod LeakLaws
 pub mod AesLaws

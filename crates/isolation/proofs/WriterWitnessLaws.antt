@@ -3,116 +3,51 @@
 -- chain gives byte by byte.
 -- Assumes nothing.
 use mathlib.Core.Path.{_≡_, refl, sym, ap, _∙_, subst}
-use Prim.Native.Nat.{ℕ, _-_, _<_}
+use Prim.Native.Nat.{ℕ, _-_}
 use native.Mathlib.Omega.{arith}
-use mathlib.Core.Bool.{Bool, true, false, not, _&&_, _||_, cond, true≢false}
-use mathlib.Core.List.{List, [], _∷_, _++_, map}
-use mathlib.Core.Logic.{_≢_, inl, inr}
-use lib.Dec.{eqb}
-use lib.ListN.{replicate, getD-replicate}
+use mathlib.Core.Bool.{Bool, true, false, not, _||_, cond}
+use mathlib.Core.List.{List, [], _∷_, _++_}
 use Rattle.loops.specs.Tabulate.{tabulate}
-use Rattle.sizes.specs.Sizes.{nodes, clusters, records, memory}
+use Rattle.sizes.specs.Sizes.{segments, memory}
 use Rattle.handle.specs.Handles.{Name, decoded}
-use Rattle.store.specs.declared.Cluster.{Cluster}
 use Rattle.store.specs.declared.Store.{Store}
-use Rattle.store.specs.Records.{inactive, startingStore, tableOf, recordOf, noCluster, clusterAt, tableAt, placeOf, placeOn, readMode}
-use Rattle.store.proofs.ChangeLaws.{put-other}
-use Rattle.calls.specs.Calls.{Copy, Call, Kind, read, reduce, newPassword, join, validate, look, opens, needed, writing}
-use Rattle.calls.specs.Calls.{reducing, joining}
-use Rattle.calls.specs.Words.{Named, ReadMode}
+use Rattle.store.specs.Records.{tableAt, placeOn}
+use Rattle.calls.specs.Calls.{Copy, Call, writing}
+use Rattle.calls.specs.Calls.{reading, weakeningBy, reducing, joining}
 use Rattle.calls.specs.Numbers.{valid, violated, tests, otherTests}
 use Rattle.calls.specs.Steps.{Reply, Ran, followed, Outcome, effects, outcome, step, run}
-use Rattle.calls.specs.Literals.{sixteen, none, told}
-use Rattle.isolation.specs.Copies.{SoundCopy, InPlace, setApart, keyed, places}
-use Rattle.isolation.specs.Writers.{SameToWriters, Spies, NoReader, Untold}
-use Rattle.isolation.specs.WriterWitness.{keeping, ours, theirs, opening, rest, wholeList, openingAnswers, restAnswers}
-use Rattle.isolation.specs.WriterWitness.{toldPlaces, rightRead, rightLook, rightCheck, weakerMade, weakerShown}
-use Rattle.isolation.specs.WriterWitness.{WritersList, WritersUntold, WritersBite}
+use Rattle.calls.specs.Literals.{primary, none, told}
+use Rattle.isolation.specs.Copies.{SoundCopy, InPlace, keyed, places}
+use Rattle.isolation.specs.Writers.{Spies, NoReader, Untold}
+use Rattle.isolation.specs.WriterLists.{kept, beyond, keeping, ours, theirs, opening, rest, wholeList, openingAnswers, restAnswers}
+use Rattle.isolation.specs.WriterLists.{marks, marksAnswers, toldPlaces, password, weakerMade, weakerShown, gappedShown}
+use Rattle.isolation.specs.WriterWitness.{rightRead, rightLook, rightCheck, Met, WritersList, WritersUntold, WritersBite}
 use Rattle.calls.proofs.StepLaws.{numberBelow}
-use Rattle.calls.proofs.TestLaws.{Is, map-is, and-is, holds-is}
-use Rattle.calls.proofs.KindLaws.{kinds, one, kind-is, kind-then}
-use Rattle.calls.proofs.ValidWords.{read-is}
-use Rattle.calls.proofs.PresentedWords.{opens-is}
-use Rattle.calls.proofs.Computing.{computing, sounding}
+use Rattle.calls.proofs.Computing.{computing}
 use Rattle.isolation.proofs.RunLaws.{stepBelow, step-below, runBelow, run-below, then-below, append-below, someBelow, append-some}
 use Rattle.isolation.proofs.RunLaws.{placesBelow, places-below, append-places, along-below}
 use Rattle.isolation.proofs.WitnessLaws.{same-bytes}
-use Rattle.isolation.proofs.KeyLaws.{keyed-is}
-use Rattle.isolation.proofs.WriterLeftLaws.{vacant}
 use Rattle.isolation.proofs.WriterLaws.{writers-learn-nothing}
-
--- ---- a test of the calls that spy
-
-module _ (node local : ℕ) (f : Name → List ℕ → ℕ → List ℕ) where
-  abbrev pub spying : Call → Store → Bool
-  spying x s = eqb (needed x) 1 && clusterAt s (setApart node local) .active && keyed node local f readMode x s
-
-  spying-is : (x : Call) (s : Store) → Is (spying x s) (Spies node local f x s)
-  spying-is x s =
-      map-is (λ t. record { active = t .0 .1; reading = t .0 .0; key = t .1 .1 })
-      (λ p. ((p .reading, p .active), (opens-is x .out (opening-too (p .reading)), p .key)))
-      (and-is (and-is (read-is x) (holds-is (clusterAt s (setApart node local) .active))) (keyed-is node local f readMode s x))
-    where
-      among-opens : (ks : List Kind) → map (λ k. not (one ks k) || opens k) kinds ≡ map (λ k. true) kinds → Named ks x
-          → opens (x .kind) ≡ true
-      among-opens ks e n = kind-then (one ks) opens e (x .kind) (kind-is (one ks) ks refl x .into n)
-
-      opening-too : ReadMode x → opens (x .kind) ≡ true
-      opening-too (inl n) = among-opens (read ∷ look ∷ []) refl n
-      opening-too (inr (n, m)) = among-opens (reduce ∷ newPassword ∷ join ∷ validate ∷ []) refl n
-
-  pub unspied : (x : Call) (s : Store) → spying x s ≡ false → ¬ Spies node local f x s
-  unspied x s e p = true≢false (sym (spying-is x s .into p) ∙ e)
-
--- ---- the two copies
-
-pub sound-keeping : (r b z : ℕ) → SoundCopy (keeping r b z)
-unfolding sounding
-sound-keeping r b z = refl
-
--- other clusters have no segments
-pub same-keeping : (r s b c y z : ℕ) → SameToWriters 0 2 (keeping r b y) (keeping s c z)
-same-keeping r s b c y z =
-    record {
-      records = refl;
-      others = λ n ne. put-other startingStore 2 _ n ne ∙ sym (put-other startingStore 2 _ n ne);
-      table = refl;
-      write = refl;
-      size = refl;
-      bytes = λ v l i p hv hl hi ne u.
-          absurd (vacant v i p (subst (λ (d : Cluster). InPlace v (placeOf (tableOf d) i) p) (none-there v l hv hl ne) u));
-    }
-  where
-    none-there : (v l : ℕ) → v < nodes → l < clusters → recordOf v l ≢ 2
-        → clusterAt (keeping r b y .store) (recordOf v l) ≡ inactive
-    none-there v l hv hl ne =
-        put-other startingStore 2 _ (recordOf v l) ne
-        ∙ getD-replicate records (recordOf v l) inactive noCluster (omega arith)
+use Rattle.isolation.proofs.SpyLaws.{spying, spying-is, unspied}
+use Rattle.isolation.proofs.WriterCopyLaws.{sound-keeping, same-keeping}
 
 module _ (f : Name → List ℕ → ℕ → List ℕ) where
   -- ---- the opening, on such a copy
 
   module _ (r b z : ℕ) where
     abbrev s : Store
-    s = keeping r b z .store
+    s = kept r
 
     abbrev after : Copy
-    after =
-        record {
-          store = s;
-          memory = 1 ∷ 2 ∷ 3 ∷ 4 ∷ b ∷ b ∷ z ∷ z ∷ z ∷ z ∷ b ∷ replicate (memory - 11) 0;
-        }
-
-    abbrev password : ℕ → List ℕ
-    password c = f (record { node = 0; local = 2 }) (sixteen 34) c
+    after = record { store = s; memory = 1 ∷ 2 ∷ 3 ∷ 4 ∷ beyond b z }
 
     valid-32 : valid f 2 (decoded (weakerShown f 32)) s ≡ true
     unfolding valid computing tabulate
-    valid-32 = same-bytes (password 32)
+    valid-32 = same-bytes (password f 34 32)
 
     valid-16 : valid f 2 (decoded (weakerShown f 16)) s ≡ true
     unfolding valid computing tabulate
-    valid-16 = same-bytes (password 16)
+    valid-16 = same-bytes (password f 34 16)
 
     abbrev write : Call
     write = writing 5 (weakerShown f 32) (1 ∷ 2 ∷ 3 ∷ 4 ∷ 5 ∷ [])
@@ -153,14 +88,25 @@ module _ (f : Name → List ℕ → ℕ → List ℕ) where
     unfolding effects computing tabulate
     step-join = ap (λ (n : ℕ). outcome f n joint after) (numbers memory .2)
 
+    abbrev gapped : Call
+    gapped = reading 5 (gappedShown f 32) (8 ∷ [])
+
+    step-gapped : stepBelow f gapped (keeping r b z) ≡ record { copy = keeping r b z; reply = told 4 none none 0 0 (8 ∷ []) }
+    unfolding tests effects computing tabulate
+    step-gapped = refl
+
     opened : runBelow f (opening f) (keeping r b z) ≡ record { replies = openingAnswers f; copy = after }
     unfolding tests effects computing
     opened =
-        ap (λ (n : Ran). followed (told 0 (weakerMade f 32) none 1 0 []) (followed (told 0 (weakerMade f 16) none 1 0 []) n))
+        then-below f gapped
+        (weakeningBy 32 (primary 0 2 34) ∷ weakeningBy 16 (primary 0 2 34) ∷ write ∷ reduction ∷ joint ∷ []) (keeping r b z) _ _
+        step-gapped
+        (ap (λ (n : Ran). followed (told 0 (weakerMade f 32) none 1 0 []) (followed (told 0 (weakerMade f 16) none 1 0 []) n))
         (then-below f write (reduction ∷ joint ∷ []) (keeping r b z) _ _ step-write
-        (then-below f reduction (joint ∷ []) after _ _ step-reduce (then-below f joint [] after _ _ step-join refl)))
+        (then-below f reduction (joint ∷ []) after _ _ step-reduce (then-below f joint [] after _ _ step-join refl))))
 
     unspied-opening : someBelow f (spying 0 2 f) (opening f) (keeping r b z) ≡ false
+    unfolding keyed computing tabulate
     unspied-opening = refl
 
     no-reader : someBelow f (spying 0 2 f) rest after ≡ false → NoReader 0 2 f (step f) (wholeList f) (keeping r b z)
@@ -199,44 +145,76 @@ module _ (f : Name → List ℕ → ℕ → List ℕ) where
       record { replies = n .replies ++ runBelow f rest (n .copy) .replies; copy = runBelow f rest (n .copy) .copy })
       (opened 17 7 5)
 
-  pub writers-list : WritersList f
-  writers-list =
+  unspied-marks-ours : someBelow f (spying 0 2 f) marks ours ≡ false
+  unfolding keyed tests effects computing
+  unspied-marks-ours = refl
+
+  unspied-marks-theirs : someBelow f (spying 0 2 f) marks theirs ≡ false
+  unfolding keyed tests effects computing
+  unspied-marks-theirs = refl
+
+  replied-marks : runBelow f marks ours .replies ≡ marksAnswers
+  unfolding tests effects computing
+  replied-marks = refl
+
+  met : (xs : List Call) → NoReader 0 2 f (step f) xs ours → NoReader 0 2 f (step f) xs theirs → Met f xs
+  met xs no-ours no-theirs =
       record {
         sound-ours = sound-keeping 17 7 5;
         sound-theirs = sound-keeping 1 9 6;
         same = same-keeping 17 1 7 9 5 6;
-        no-reader-ours = no-reader 17 7 5 unspied-ours;
-        no-reader-theirs = no-reader 1 9 6 unspied-theirs;
+        no-reader-ours = no-ours;
+        no-reader-theirs = no-theirs;
+      }
+
+  unspied-list : (xs : List Call) (c : Copy) → SoundCopy c → someBelow f (spying 0 2 f) xs c ≡ false
+      → NoReader 0 2 f (step f) xs c
+  unspied-list = along-below f (spying 0 2 f) (λ x s. ¬ Spies 0 2 f x s) (unspied 0 2 f)
+
+  pub writers-list : WritersList f
+  writers-list =
+      record {
+        met = met (wholeList f) (no-reader 17 7 5 unspied-ours) (no-reader 1 9 6 unspied-theirs);
         replies = ap (λ (n : Ran). n .replies) ended ∙ ap (λ (l : List Reply). openingAnswers f ++ l) replied;
         places =
             places-below f (wholeList f) ours (sound-keeping 17 7 5)
             ∙ append-places f (opening f) rest ours
             ∙ ap (λ (n : Ran). placesBelow f rest (n .copy)) (opened 17 7 5)
             ∙ looked;
+        marks-met =
+            met marks (unspied-list marks ours (sound-keeping 17 7 5) unspied-marks-ours)
+            (unspied-list marks theirs (sound-keeping 1 9 6) unspied-marks-theirs);
+        marks-replies = ap (λ (n : Ran). n .replies) (run-below f marks ours (sound-keeping 17 7 5)) ∙ replied-marks;
       }
 
-  pub untold : Untold 0 2 f (step f) (wholeList f) ours theirs
-  untold =
-      let w = writers-list in
-      writers-learn-nothing f 0 2 (omega arith) (omega arith) (wholeList f) ours theirs (w .sound-ours) (w .sound-theirs)
-      (w .same) (w .no-reader-ours) (w .no-reader-theirs)
+  pub untold : (xs : List Call) → Met f xs → Untold 0 2 f (step f) xs ours theirs
+  untold xs m =
+      writers-learn-nothing f 0 2 (omega arith) (omega arith) xs ours theirs (m .sound-ours) (m .sound-theirs)
+      (m .same) (m .no-reader-ours) (m .no-reader-theirs)
 
-  -- a byte of the other cluster's segment
-  in-other : InPlace 0 (placeOn (tableAt (restRun .copy .store)) 0 3 7) 4
+  -- a byte of each other cluster's segments
+  in-others : InPlace 0 (placeOn (tableAt (restRun .copy .store)) 0 3 7) 4
+      × InPlace 1 (placeOn (tableAt (restRun .copy .store)) 1 2 1) 4098
   unfolding tests effects computing
-  in-other = (omega arith, omega arith)
+  in-others = ((omega arith, omega arith), (omega arith, omega arith))
 
   pub writers-untold : WritersUntold f
   writers-untold =
+      let u = untold (wholeList f) (writers-list .met) in
       record {
-        replies = sym (untold .replies) ∙ writers-list .replies;
-        places = sym (untold .places) ∙ writers-list .places;
-        other-record = untold .same .others 3 (λ e. omega arith);
-        other-byte =
-            untold .same .bytes 0 3 7 4 (omega arith) (omega arith) (omega arith) (λ e. omega arith)
-            (subst (λ (n : Ran). InPlace 0 (placeOn (tableAt (n .copy .store)) 0 3 7) 4) (sym ended) in-other);
-        table = untold .same .table;
-        write = untold .same .write;
+        replies = sym (u .replies) ∙ writers-list .replies;
+        places = sym (u .places) ∙ writers-list .places;
+        marks-replies = sym (untold marks (writers-list .marks-met) .replies) ∙ writers-list .marks-replies;
+        record-3 = u .same .others 3 (λ e. omega arith);
+        record-10 = u .same .others 10 (λ e. omega arith);
+        byte-4 =
+            u .same .bytes 0 3 7 4 (omega arith) (omega arith) (omega arith) (λ e. omega arith)
+            (subst (λ (n : Ran). InPlace 0 (placeOn (tableAt (n .copy .store)) 0 3 7) 4) (sym ended) (in-others .0));
+        byte-4098 =
+            u .same .bytes 1 2 1 4098 (omega arith) (omega arith) (omega arith) (λ e. omega arith)
+            (subst (λ (n : Ran). InPlace 1 (placeOn (tableAt (n .copy .store)) 1 2 1) 4098) (sym ended) (in-others .1));
+        table = u .same .table;
+        write = u .same .write;
       }
 
   -- ---- it bites
@@ -248,13 +226,13 @@ module _ (f : Name → List ℕ → ℕ → List ℕ) where
   unfolding keyed tests effects computing
   writers-bite =
       record {
-        same = λ b c. same-keeping 17 17 b c 5 5;
+        same = same-keeping;
         read-bytes = λ b. replies-to rightRead (keeping 17 b 5) (sound-keeping 17 b 5);
         look-bytes = λ b. replies-to rightLook (keeping 17 b 5) (sound-keeping 17 b 5);
-        read-theirs = replies-to rightRead theirs (sound-keeping 1 9 6);
-        look-theirs = replies-to rightLook theirs (sound-keeping 1 9 6);
-        check-ours = replies-to rightCheck ours (sound-keeping 17 7 5);
-        check-theirs = replies-to rightCheck theirs (sound-keeping 1 9 6);
+        check-done = replies-to rightCheck ours (sound-keeping 17 7 5);
+        read-refused = replies-to rightRead (keeping 1 7 5) (sound-keeping 1 7 5);
+        look-refused = replies-to rightLook (keeping 1 7 5) (sound-keeping 1 7 5);
+        check-refused = replies-to rightCheck (keeping 1 7 5) (sound-keeping 1 7 5);
         spies-read = spying-is 0 2 f rightRead (ours .store) .out refl;
         spies-look = spying-is 0 2 f rightLook (ours .store) .out refl;
         spies-check = spying-is 0 2 f rightCheck (ours .store) .out refl;

@@ -7,6 +7,7 @@ pub mod ReaderWitness
 pub mod Effects
 pub mod Leaks
 pub mod Writers
+pub mod WriterLists
 pub mod WriterWitness
 pub mod Renewals
 pub mod RenewalReplies

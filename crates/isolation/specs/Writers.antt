@@ -6,8 +6,8 @@
 --     AlikeIsSame             copies that begin as §7 has it, alike but for the cluster's segment bytes and its read password,
 --                             have that in common
 --     Spies f x s             the cluster is active, the call is a read, a look or in mode 1, and the handle that it takes, or
---                             the second one of a join, names the cluster, is not gapped and validates for reading. No call
---                             that asks for writing spies, and no weakening
+--                             the second one of a join, names the cluster, is not gapped and validates for reading
+--     WritingIsFree f         no call that asks for writing spies, no new cluster and no weakening, whatever handles it presents
 -- Of calls carried out by p, for every conversion f:
 --     NoReader p xs c         no call of the list xs spies on the copy that it gets
 --     Untold p xs a b         the list xs tells nothing, begun on the copies a and b:
@@ -21,17 +21,17 @@
 --     RestsOnTwelve f         nor if number 12 were for the current password of either mode
 -- Assumes nothing.
 use mathlib.Core.Path.{_≡_}
-use mathlib.Core.Logic.{_≢_}
+use mathlib.Core.Logic.{_≢_, _⊎_}
 use Prim.Native.Nat.{ℕ, _<_}
 use mathlib.Core.Bool.{true}
-use mathlib.Core.List.{List}
+use mathlib.Core.List.{List, [], _∷_}
 use lib.ListN.{length, getD}
 use Rattle.sizes.specs.Sizes.{nodes, clusters, segments}
 use Rattle.handle.specs.Handles.{Name}
 use Rattle.store.specs.declared.Store.{Store}
 use Rattle.store.specs.Records.{Tables, recordOf, clusterAt, tableAt, placeOn}
-use Rattle.calls.specs.Calls.{Copy, Call}
-use Rattle.calls.specs.Words.{Some, ReadMode}
+use Rattle.calls.specs.Calls.{Copy, Call, newCluster, weaken}
+use Rattle.calls.specs.Words.{Named, Some, ReadMode, WriteMode}
 use Rattle.calls.specs.Steps.{Outcome, runBy, step}
 use Rattle.isolation.specs.Copies.{SoundCopy, InPlace, setApart, Alike, Along, placesBy}
 use Rattle.isolation.specs.Statements.{Key}
@@ -62,6 +62,9 @@ module _ (node local : ℕ) where
       pub active : clusterAt s (setApart node local) .active ≡ true
       pub reading : ReadMode x
       pub key : Some (λ h. Key node local f 1 h s) x
+
+    abbrev pub WritingIsFree : Type 0
+    WritingIsFree = (x : Call) (s : Store) → WriteMode x ⊎ Named (newCluster ∷ weaken ∷ []) x → ¬ Spies x s
 
     module _ (p : Call → Copy → Outcome) where
       abbrev pub NoReader : List Call → Copy → Type 0
