@@ -5,7 +5,6 @@
 use mathlib.Core.Path.{_≡_, refl, sym, ap, _∙_, subst}
 use mathlib.Core.Logic.{_≢_}
 use Prim.Native.Nat.{ℕ, _+_, _-_, _≤_, _<_}
-use native.Mathlib.Omega.{arith}
 use mathlib.Core.Bool.{true}
 use mathlib.Core.List.{List}
 use lib.ListN.{length, take, replicate, length-set}
@@ -26,14 +25,13 @@ use Rattle.calls.specs.Steps.{clusterMade, clusterDeleted, segmentMade, segment
 use Rattle.calls.specs.Steps.{passwordReplaced, segmentMarked}
 use Rattle.calls.specs.Steps.{left, given}
 use Rattle.isolation.specs.Copies.{SoundCopy, Done, InPlace, setApart, Alike, Shut}
-use Rattle.calls.proofs.MemoryLaws.{length-overwritten, overwritten-both}
 use Rattle.isolation.proofs.AddressLaws.{place-outside}
 use Rattle.calls.proofs.CallLaws.{InRange}
 use Rattle.calls.proofs.DoneLaws.{done-range, new-away}
 use Rattle.isolation.proofs.AwayLaws.{shut-away}
 use Rattle.isolation.proofs.KeptLaws.{tables, facts, low-segment, new-fits, write-fits}
 use Rattle.isolation.proofs.NumberLaws.{alike-tables}
-use Rattle.isolation.proofs.PairLaws.{put-both, reads-segment, reading-opens, moded-opens, same-given}
+use Rattle.isolation.proofs.PairLaws.{put-both, length-both, bytes-both, reads-segment, reading-opens, moded-opens, same-given}
 
 module _ (node local : ℕ) where
   pub put-table : (s : Store) (n : ℕ) (d : Cluster) → n ≢ setApart node local
@@ -60,14 +58,12 @@ module _ (node local : ℕ) where
     alike-bytes : (at : ℕ) (bs : List ℕ) → at + length bs ≤ length (a .memory)
         → Alike node local (putBytes a at bs) (putBytes b at bs)
     alike-bytes at bs fit =
-        let same : length (a .memory) ≡ length (b .memory) = al .size in
-        let fit′ : at + length bs ≤ length (b .memory) = omega arith in
         record {
           records = al .records;
           others = al .others;
           table = al .table;
-          size = length-overwritten (a .memory) at bs fit ∙ same ∙ sym (length-overwritten (b .memory) at bs fit′);
-          bytes = λ p out. overwritten-both (a .memory) (b .memory) at bs fit fit′ p (λ away. al .bytes p out);
+          size = length-both (a .memory) (b .memory) (al .size) at bs fit;
+          bytes = λ p out. bytes-both (a .memory) (b .memory) (al .size) at bs fit p (λ away. al .bytes p out);
         }
 
     -- a change made from the cluster's own record

@@ -2,7 +2,7 @@
 -- is not keyed to a cluster is about another one: its handle validates in the mode needed and is not gapped, so it does not
 -- name that cluster, and places that exist have one record each.
 -- Assumes nothing.
-use mathlib.Core.Path.{_≡_, sym, ap, _∙_}
+use mathlib.Core.Path.{_≡_, sym, ap, _∙_, fun-ext}
 use mathlib.Core.Logic.{_≢_, _⊎_, inl, inr}
 use Prim.Native.Nat.{ℕ, _<_}
 use native.Mathlib.Omega.{arith}
@@ -18,7 +18,7 @@ use Rattle.handle.specs.Selectors.{gapped}
 use Rattle.handle.specs.Handles.{Name, nodeOf, widthOf}
 use Rattle.store.specs.declared.Cluster.{Cluster}
 use Rattle.store.specs.declared.Store.{Store}
-use Rattle.store.specs.Records.{recordOf, clusterAt, readMode, writeMode}
+use Rattle.store.specs.Records.{tableOf, recordOf, clusterAt, tableAt, readMode, writeMode}
 use Rattle.calls.specs.Calls.{Call, opens, needed, handleOf, presented, recordFor, recordNamed}
 use Rattle.calls.specs.Numbers.{valid, number}
 use Rattle.calls.proofs.CallLaws.{opened, Presents, none-of, InRange, guarded, record-is}
@@ -34,6 +34,11 @@ same-records g n a b others e k = go (ℕ-discrete k n)
     go : Dec (k ≡ n) → g (clusterAt a k) ≡ g (clusterAt b k)
     go (yes p) = ap (λ (i : ℕ). g (clusterAt a i)) p ∙ e ∙ ap (λ (i : ℕ). g (clusterAt b i)) (sym p)
     go (no p) = ap g (others k p)
+
+-- so their tables are, if that of the record is
+pub same-tables : (n : ℕ) (a b : Store) → ((k : ℕ) → k ≢ n → clusterAt a k ≡ clusterAt b k) → tableAt a n ≡ tableAt b n
+    → tableAt a ≡ tableAt b
+same-tables n a b others e = fun-ext (same-records tableOf n a b others e)
 
 -- a place in range is the cluster set apart, or has another record
 pub named : (node local : ℕ) → local < clusters → (n l : ℕ) → InRange n l

@@ -2,7 +2,7 @@
 -- once. The two rows that see passwords, 9 and 12, see those of the mode needed alone: it is enough that no handle which is
 -- presented can tell the copies apart. Row 12 is looked at only where row 9 did not apply.
 -- Assumes nothing.
-use mathlib.Core.Path.{_≡_, refl, sym, ap, _∙_, fun-ext}
+use mathlib.Core.Path.{_≡_, refl, sym, ap, _∙_}
 use mathlib.Core.Logic.{_≢_, _⊎_, inl, inr}
 use Prim.Native.Nat.{ℕ, _<_}
 use mathlib.Core.Bool.{Bool, true, false, not, _&&_, true≢false}
@@ -13,7 +13,7 @@ use Rattle.handle.specs.declared.Handle.{Handle}
 use Rattle.handle.specs.Handles.{Name, nameOf, nodeOf, widthOf, samePassword, validates}
 use Rattle.store.specs.declared.Cluster.{Cluster}
 use Rattle.store.specs.declared.Store.{Store}
-use Rattle.store.specs.Records.{Tables, tableOf, clusterAt, tableAt, readMode, writeMode, primaryOf}
+use Rattle.store.specs.Records.{Tables, clusterAt, tableAt, readMode, writeMode, primaryOf}
 use Rattle.store.specs.Sound.{sound}
 use Rattle.calls.specs.Calls.{Copy, Call, call, Kind, newPassword, among, opens, needed, handleOf, presented, anyOf, recordFor}
 use Rattle.calls.specs.Calls.{recordNamed}
@@ -24,7 +24,7 @@ use Rattle.isolation.specs.Copies.{SoundCopy, setApart, Alike, Shut}
 use Rattle.calls.proofs.FirstLaws.{Agree, _▸_, first-agree}
 use Rattle.calls.proofs.CallLaws.{Presents, any-same, opened, handle-range, mode-known, record-is, ungapped-is, valid-is}
 use Rattle.calls.proofs.KindLaws.{kind-is, only-kind}
-use Rattle.isolation.proofs.AwayLaws.{same-records, named, not-keyed}
+use Rattle.isolation.proofs.AwayLaws.{same-tables, named, not-keyed}
 
 -- ---- the rows of two stores with the same tables, both sound or both not
 
@@ -124,23 +124,49 @@ module _ (f : Name → List ℕ → ℕ → List ℕ) (x : Call) (a b : Store) w
     unfolding number
     rows-number = first-agree x a b (rows f size) same-rows
 
+-- ---- two copies that differ in one record
+
+module _ (node local : ℕ) (low : local < clusters) (f : Name → List ℕ → ℕ → List ℕ) (a b : Copy)
+    (others : (n : ℕ) → n ≢ setApart node local → clusterAt (a .store) n ≡ clusterAt (b .store) n) (x : Call) where
+  -- a handle of another cluster meets equal records
+  pub level-by : noPlace x ≡ false → (h : Handle) → Presents x h
+      → (nodeOf h ≡ node → h .local ≡ local → Level f x (a .store) (b .store) h) → Level f x (a .store) (b .store) h
+  level-by place h i own = go (named node local low (nodeOf h) (h .local) (handle-range x h i place))
+    where
+      go : ((nodeOf h ≡ node) × (h .local ≡ local)) ⊎ (recordNamed h ≢ setApart node local)
+          → Level f x (a .store) (b .store) h
+      go (inl (p, q)) = own p q
+      go (inr n) = inl (ap (λ (c : Cluster). primaryOf c (needed x)) (others (recordNamed h) n))
+
+  pub sound-number : SoundCopy a → SoundCopy b → length (a .memory) ≡ length (b .memory)
+      → tableAt (a .store) ≡ tableAt (b .store)
+      → (noPlace x ≡ false → gappedHandle x ≡ false → badField x ≡ false → inactiveCluster x (tableAt (a .store)) ≡ false
+      → opens (x .kind) ≡ true → (h : Handle) → Presents x h → Level f x (a .store) (b .store) h)
+      → number f x (a .store) (length (a .memory)) ≡ number f x (b .store) (length (b .memory))
+  sound-number sa sb size same level =
+      rows-number f x (a .store) (b .store) (length (a .memory)) (sa ∙ sym sb ∙ ap (sound (b .store)) (sym size)) same level
+      ∙ ap (number f x (b .store)) size
+
 -- ---- two copies that are alike
 
 pub alike-tables : (node local : ℕ) (a b : Copy) → Alike node local a b → tableAt (a .store) ≡ tableAt (b .store)
-alike-tables node local a b al =
-    fun-ext (same-records tableOf (setApart node local) (a .store) (b .store) (al .others) (al .table))
+alike-tables node local a b al = same-tables (setApart node local) (a .store) (b .store) (al .others) (al .table)
 
 module _ (node local : ℕ) (low : local < clusters) (f : Name → List ℕ → ℕ → List ℕ) (a b : Copy)
     (al : Alike node local a b) where
-  -- a handle of the cluster set apart validates in neither copy, one of another cluster meets equal records
-  alike-level : (x : Call) → Shut node local f x (a .store) → Shut node local f x (b .store) → noPlace x ≡ false
-      → gappedHandle x ≡ false → badField x ≡ false → inactiveCluster x (tableAt (a .store)) ≡ false → opens (x .kind) ≡ true
-      → (h : Handle) → Presents x h → Level f x (a .store) (b .store) h
-  alike-level x ha hb place even fields active o h i =
-      go (named node local low (nodeOf h) (h .local) (handle-range x h i place))
+  pub same-number : (x : Call) → SoundCopy a → SoundCopy b → Shut node local f x (a .store)
+      → Shut node local f x (b .store)
+      → number f x (a .store) (length (a .memory)) ≡ number f x (b .store) (length (b .memory))
+  same-number x sa sb ha hb =
+      sound-number node local low f a b (al .others) x sa sb (al .size) (alike-tables node local a b al)
+      (λ place even fields active o h i.
+      level-by node local low f a b (al .others) x place h i
+      (λ p q. inr (invalid even fields o h i p q (a .store) ha, invalid even fields o h i p q (b .store) hb)))
     where
-      invalid : (s : Store) → Shut node local f x s → nodeOf h ≡ node → h .local ≡ local → valid f (needed x) h s ≡ false
-      invalid s t p q = by (mode-known x fields)
+      -- a handle of the cluster set apart validates in neither copy
+      invalid : gappedHandle x ≡ false → badField x ≡ false → opens (x .kind) ≡ true → (h : Handle) → Presents x h
+          → nodeOf h ≡ node → h .local ≡ local → (s : Store) → Shut node local f x s → valid f (needed x) h s ≡ false
+      invalid even fields o h i p q s t = by (mode-known x fields)
         where
           by : (needed x ≡ readMode) ⊎ (needed x ≡ writeMode) → valid f (needed x) h s ≡ false
           by (inl e) =
@@ -149,16 +175,3 @@ module _ (node local : ℕ) (low : local < clusters) (f : Name → List ℕ → 
           by (inr e) =
               ap (λ (m : ℕ). valid f m h s) e
               ∙ not-keyed f x s h i o node local writeMode (t .1) (ungapped-is x h i even) p q
-
-      go : ((nodeOf h ≡ node) × (h .local ≡ local)) ⊎ (recordNamed h ≢ setApart node local)
-          → Level f x (a .store) (b .store) h
-      go (inl (p, q)) = inr (invalid (a .store) ha p q, invalid (b .store) hb p q)
-      go (inr n) = inl (ap (λ (c : Cluster). primaryOf c (needed x)) (al .others (recordNamed h) n))
-
-  pub same-number : (x : Call) → SoundCopy a → SoundCopy b → Shut node local f x (a .store)
-      → Shut node local f x (b .store)
-      → number f x (a .store) (length (a .memory)) ≡ number f x (b .store) (length (b .memory))
-  same-number x sa sb ha hb =
-      rows-number f x (a .store) (b .store) (length (a .memory)) (sa ∙ sym sb ∙ ap (sound (b .store)) (sym (al .size)))
-      (alike-tables node local a b al) (alike-level x ha hb)
-      ∙ ap (number f x (b .store)) (al .size)

@@ -3,7 +3,7 @@
 -- holds of two copies before a call and after it holds after a list, and the list gets the same replies.
 -- Assumes nothing.
 use mathlib.Core.Path.{_≡_, refl, sym, ap, ap₂, _∙_}
-use Prim.Native.Nat.{ℕ, zero, suc, _+_, _-_, _<_}
+use Prim.Native.Nat.{ℕ, zero, suc, _+_, _-_, _≤_, _<_}
 use native.Mathlib.Omega.{arith}
 use native.Mathlib.Decide.{ℕ-discrete, decLt}
 use mathlib.Core.Bool.{true}
@@ -21,9 +21,9 @@ use Rattle.calls.specs.Calls.{handleOf, otherOf, buffer, nodeFor, placeFor, sta
 use Rattle.calls.specs.Looks.{lookedBy, looked}
 use Rattle.calls.specs.Numbers.{number}
 use Rattle.calls.specs.Steps.{Reply, zeroHandle, plain, handles, readReply, lookReply, within, about, left, segmentRead, segmentShown}
-use Rattle.calls.specs.Steps.{given, outcome, step, run}
+use Rattle.calls.specs.Steps.{overwritten, given, outcome, step, run}
 use Rattle.isolation.specs.Copies.{SoundCopy, Done, InPlace, Along, also, places}
-use Rattle.calls.proofs.MemoryLaws.{part-same}
+use Rattle.calls.proofs.MemoryLaws.{length-overwritten, overwritten-both, part-same}
 use Rattle.calls.proofs.DoneLaws.{done-range}
 use Rattle.calls.proofs.KindLaws.{kind-then}
 use Rattle.isolation.proofs.AddressLaws.{in-place}
@@ -47,6 +47,18 @@ put-both g a b same n m d e old new = go (ℕ-discrete m n) (decLt n (length (a 
         ap (λ (s : Store). g (clusterAt s m)) (put-out a n d (omega arith))
         ∙ old
         ∙ ap (λ (s : Store). g (clusterAt s m)) (sym (put-out b n e (omega (arith, same))))
+
+-- bytes put at one place of two memories of one length
+module _ (m n : List ℕ) (size : length m ≡ length n) (k : ℕ) (bs : List ℕ) (fit : k + length bs ≤ length m) where
+  fits : k + length bs ≤ length n
+  fits = omega (arith, size)
+
+  pub length-both : length (overwritten m k bs) ≡ length (overwritten n k bs)
+  length-both = length-overwritten m k bs fit ∙ size ∙ sym (length-overwritten n k bs fits)
+
+  pub bytes-both : (p : ℕ) → ((k ≤ p → p < k + length bs → ⊥) → getD m p 0 ≡ getD n p 0)
+      → getD (overwritten m k bs) p 0 ≡ getD (overwritten n k bs) p 0
+  bytes-both = overwritten-both m n k bs fit fits
 
 -- a call that reads a segment opens a cluster, as one that names a mode does
 pub reads-segment : (k : Kind) → among (5 ∷ []) k ≡ true → uses k .segment ≡ true

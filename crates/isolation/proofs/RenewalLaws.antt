@@ -1,7 +1,7 @@
 -- What call 9 tells of the other mode's password: nothing. The tables of the two copies are the same, and a call in a mode
 -- meets the passwords of that mode alone, in row 9 and in row 12; soundness looks at the passwords of inactive clusters alone.
 -- Assumes nothing.
-use mathlib.Core.Path.{_≡_, refl, sym, ap, ap₂, _∙_, fun-ext}
+use mathlib.Core.Path.{_≡_, refl, sym, ap, ap₂, _∙_}
 use mathlib.Core.Logic.{_≢_, _⊎_, inl, inr}
 use Prim.Native.Nat.{ℕ}
 use native.Mathlib.Decide.{ℕ-discrete}
@@ -25,7 +25,7 @@ use Rattle.isolation.specs.Copies.{Done}
 use Rattle.isolation.specs.Renewals.{SameButOther, Untold, OtherUntold, GuessesUntold}
 use Rattle.isolation.proofs.NumberLaws.{rows-number}
 use Rattle.isolation.proofs.PairLaws.{same-step}
-use Rattle.isolation.proofs.AwayLaws.{same-records}
+use Rattle.isolation.proofs.AwayLaws.{same-records, same-tables}
 use Rattle.isolation.proofs.GivenLaws.{renewed-record}
 
 -- ---- one password of one cluster
@@ -37,7 +37,7 @@ module _ (m n : ℕ) (a b : Copy) (same : SameButOther m n a b) where
   each g = same-records g n (a .store) (b .store) (same .others)
 
   tables : tableAt (a .store) ≡ tableAt (b .store)
-  tables = fun-ext (each tableOf (same .table))
+  tables = same-tables n (a .store) (b .store) (same .others) (same .table)
 
   passwords : (m ≡ 1) ⊎ (m ≡ 2) → (k : ℕ) → primaryOf (clusterAt (a .store) k) m ≡ primaryOf (clusterAt (b .store) k) m
   passwords (inl e) =

@@ -10,31 +10,30 @@ use mathlib.Core.Bool.{Bool, true, false, not}
 use mathlib.Core.List.{List, [], _∷_}
 use lib.ListN.{length}
 use borrow.Author.Tests.{eq-eqb, not-true}
-use Rattle.sizes.specs.Sizes.{nodes, clusters}
+use Rattle.sizes.specs.Sizes.{clusters}
 use Rattle.handle.specs.declared.Handle.{Handle}
 use Rattle.handle.specs.Handles.{Name, nodeOf}
 use Rattle.store.specs.declared.Cluster.{Cluster}
 use Rattle.store.specs.declared.Store.{Store}
 use Rattle.store.specs.Records.{Tables, recordOf, clusterAt, tableAt, readMode, writeMode, primaryOf}
-use Rattle.store.specs.Sound.{sound}
 use Rattle.calls.specs.Calls.{Copy, Call, call, Arguments, Kind, among, opens, uses, needed, nodeFor, localFor, recordFor}
 use Rattle.calls.specs.Calls.{recordNamed}
-use Rattle.calls.specs.Numbers.{noPlace, gappedHandle, badField, inactiveCluster, valid, number}
+use Rattle.calls.specs.Numbers.{noPlace, gappedHandle, inactiveCluster, valid, number}
 use Rattle.calls.specs.Steps.{about, given}
 use Rattle.isolation.specs.Copies.{SoundCopy, Done, setApart, keyed}
 use Rattle.isolation.specs.Writers.{SameToWriters, AlikeIsSame, Spies, WritersLearnNothing}
-use Rattle.calls.proofs.CallLaws.{Presents, InRange, handle-range, mode-known, active-is, ungapped-is}
+use Rattle.calls.proofs.CallLaws.{Presents, InRange, mode-known, active-is, ungapped-is}
 use Rattle.calls.proofs.DoneLaws.{done-range, done-mode, done-active}
 use Rattle.calls.proofs.KindLaws.{kind-then}
 use Rattle.calls.proofs.ValidWords.{read-is}
 use Rattle.isolation.proofs.AddressLaws.{place-outside}
-use Rattle.isolation.proofs.AwayLaws.{named, not-keyed, away}
+use Rattle.isolation.proofs.AwayLaws.{not-keyed, away}
 use Rattle.isolation.proofs.KeyLaws.{keyed-in-words}
 use Rattle.isolation.proofs.KeptLaws.{tables, facts, low-segment, step-sound}
-use Rattle.isolation.proofs.NumberLaws.{Level, rows-number}
+use Rattle.isolation.proofs.NumberLaws.{Level, level-by, sound-number}
 use Rattle.isolation.proofs.PairLaws.{reads-segment, reading-opens, moded-opens, same-given, same-looked}
 use Rattle.isolation.proofs.PairLaws.{same-step, Stepped, kept-run, replies-run, places-run}
-use Rattle.isolation.proofs.WriterLeftLaws.{same-tables, writes, left-same}
+use Rattle.isolation.proofs.WriterLeftLaws.{same-to-writers, writes, left-same}
 
 -- the mode that a call needs: read if it reads a segment, and the one that it names
 reading-needs : (x : Call) → among (5 ∷ []) (x .kind) ≡ true → needed x ≡ readMode
@@ -50,7 +49,7 @@ moded-needs x m =
     elim t [ true ↦ x .args .mode | false ↦ elim (among (5 ∷ []) (x .kind)) [ true ↦ readMode | false ↦ writeMode ] ])
     m
 
-module _ (node local : ℕ) (high : node < nodes) (low : local < clusters) (f : Name → List ℕ → ℕ → List ℕ) where
+module _ (node local : ℕ) (low : local < clusters) (f : Name → List ℕ → ℕ → List ℕ) where
   -- ---- no key for reading
 
   -- a call that asks for reading and does not spy is not keyed for reading, as long as the cluster is active
@@ -80,15 +79,17 @@ module _ (node local : ℕ) (high : node < nodes) (low : local < clusters) (f : 
   module _ (a b : Copy) (same : SameToWriters node local a b) where
     -- ---- the number
 
-    level : (x : Call) → ¬ Spies node local f x (a .store) → ¬ Spies node local f x (b .store) → noPlace x ≡ false
-        → gappedHandle x ≡ false → badField x ≡ false → inactiveCluster x (tables a) ≡ false → opens (x .kind) ≡ true
-        → (h : Handle) → Presents x h → Level f x (a .store) (b .store) h
-    level x na nb place even fields active o h i =
-        go (mode-known x fields) (named node local low (nodeOf h) (h .local) (handle-range x h i place))
+    numbers : (x : Call) → SoundCopy a → SoundCopy b → ¬ Spies node local f x (a .store) → ¬ Spies node local f x (b .store)
+        → number f x (a .store) (length (a .memory)) ≡ number f x (b .store) (length (b .memory))
+    numbers x sa sb na nb =
+        sound-number node local low f a b (same .others) x sa sb (same .size) (same-to-writers node local a b same)
+        (λ place even fields active o h i. go place even active o h i (mode-known x fields))
       where
-        invalid : (s : Store) → ¬ Spies node local f x s → tables a ≡ tableAt s → needed x ≡ readMode → nodeOf h ≡ node
-            → h .local ≡ local → valid f (needed x) h s ≡ false
-        invalid s never t m p q =
+        -- a handle of the cluster that a call asking for reading presents validates in neither copy
+        invalid : gappedHandle x ≡ false → inactiveCluster x (tables a) ≡ false → opens (x .kind) ≡ true → (h : Handle)
+            → Presents x h → needed x ≡ readMode → nodeOf h ≡ node → h .local ≡ local → (s : Store)
+            → ¬ Spies node local f x s → tables a ≡ tableAt s → valid f (needed x) h s ≡ false
+        invalid even active o h i m p q s never t =
             ap (λ (k : ℕ). valid f k h s) m
             ∙ not-keyed f x s h i o node local readMode
             (unkeyed x s never
@@ -97,24 +98,20 @@ module _ (node local : ℕ) (high : node < nodes) (low : local < clusters) (f : 
             ∙ active-is x h i o (tables a) active)
             m) (ungapped-is x h i even) p q
 
-        go : (needed x ≡ readMode) ⊎ (needed x ≡ writeMode)
-            → ((nodeOf h ≡ node) × (h .local ≡ local)) ⊎ (recordNamed h ≢ setApart node local)
+        go : noPlace x ≡ false → gappedHandle x ≡ false → inactiveCluster x (tables a) ≡ false → opens (x .kind) ≡ true
+            → (h : Handle) → Presents x h → (needed x ≡ readMode) ⊎ (needed x ≡ writeMode)
             → Level f x (a .store) (b .store) h
-        go (inr m) n =
+        go place even active o h i (inr m) =
             inl
             (ap (primaryOf (clusterAt (a .store) (recordNamed h))) m
             ∙ writes node local a b same (recordNamed h)
             ∙ ap (primaryOf (clusterAt (b .store) (recordNamed h))) (sym m))
-        go (inl m) (inl (p, q)) =
-            inr (invalid (a .store) na refl m p q, invalid (b .store) nb (same-tables node local a b same) m p q)
-        go (inl m) (inr n) = inl (ap (λ (c : Cluster). primaryOf c (needed x)) (same .others (recordNamed h) n))
-
-    numbers : (x : Call) → SoundCopy a → SoundCopy b → ¬ Spies node local f x (a .store) → ¬ Spies node local f x (b .store)
-        → number f x (a .store) (length (a .memory)) ≡ number f x (b .store) (length (b .memory))
-    numbers x sa sb na nb =
-        rows-number f x (a .store) (b .store) (length (a .memory))
-        (sa ∙ sym sb ∙ ap (sound (b .store)) (sym (same .size))) (same-tables node local a b same) (level x na nb)
-        ∙ ap (number f x (b .store)) (same .size)
+        go place even active o h i (inl m) =
+            level-by node local low f a b (same .others) x place h i
+            (λ p q. inr (
+              invalid even active o h i m p q (a .store) na refl,
+              invalid even active o h i m p q (b .store) nb (same-to-writers node local a b same),
+            ))
 
     -- ---- what a call done gives
 
@@ -122,7 +119,7 @@ module _ (node local : ℕ) (high : node < nodes) (low : local < clusters) (f : 
       given-same : (kind : Kind) → ¬ Spies node local f (call kind g) (a .store) → Done f (call kind g) a
           → given f kind (call kind g) a ≡ given f kind (call kind g) b
       given-same kind never e =
-          same-given f g a b k (same-tables node local a b same) (same .size) kind e
+          same-given f g a b k (same-to-writers node local a b same) (same .size) kind e
           (λ r p u.
           same .bytes (nodeFor x) (localFor x) (g .segment) p (v .node-low) (v .local-low)
           (low-segment f g a k kind (reads-segment kind r) e)
@@ -163,7 +160,7 @@ module _ (node local : ℕ) (high : node < nodes) (low : local < clusters) (f : 
       )) in
       record {
         reply = s .0;
-        told = same-looked f x a b n (same-tables node local a b (v .same));
+        told = same-looked f x a b n (same-to-writers node local a b (v .same));
         kept =
             record {
               sound-first = step-sound f x a (v .sound-first);
@@ -174,9 +171,9 @@ module _ (node local : ℕ) (high : node < nodes) (low : local < clusters) (f : 
 
 pub writers-learn-nothing : (f : Name → List ℕ → ℕ → List ℕ) → WritersLearnNothing f
 writers-learn-nothing f node local high low xs a b sa sb same na nb =
-    let i = Invariant node local high low f in
+    let i = Invariant node local low f in
     let t : Call → Store → Type 0 = λ x s. ¬ Spies node local f x s in
-    let o = one node local high low f in
+    let o = one node local low f in
     let v : i a b = record { sound-first = sa; sound-second = sb; same = same } in
     record {
       replies = replies-run f i t o xs a b v na nb;

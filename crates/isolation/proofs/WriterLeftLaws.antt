@@ -1,8 +1,8 @@
--- What a call done leaves of two copies that have in common what writers may know: again that. A record that it puts is made of
--- the table and the write password of the one that was there; bytes go to one place in both memories; and a place that comes to be
--- another cluster's has just been filled with zeros.
+-- What a call done leaves of two copies that have in common what writers may know: again that. The table and the write password of
+-- a record that it puts come from those of the one that was there; bytes go to one place in both memories; and a place that comes
+-- to be another cluster's has just been filled with zeros.
 -- Assumes nothing.
-use mathlib.Core.Path.{_≡_, refl, sym, ap, _∙_, subst, fun-ext}
+use mathlib.Core.Path.{_≡_, refl, sym, ap, _∙_, subst}
 use mathlib.Core.Logic.{_≢_, _⊎_, inl, inr}
 use Prim.Native.Nat.{ℕ, _+_, _-_, _≤_, _<_}
 use native.Mathlib.Omega.{arith}
@@ -26,13 +26,12 @@ use Rattle.calls.specs.Steps.{overwritten, putCluster, putBytes, about, newPlac
 use Rattle.calls.specs.Steps.{segmentMade, segmentDeleted, segmentWritten, passwordReplaced, segmentMarked, left}
 use Rattle.isolation.specs.Copies.{SoundCopy, Done, InPlace, setApart}
 use Rattle.isolation.specs.Writers.{OthersBytes, SameToWriters}
-use Rattle.calls.proofs.MemoryLaws.{length-overwritten, overwritten-both}
 use Rattle.calls.proofs.CallLaws.{InRange}
 use Rattle.calls.proofs.DoneLaws.{done-range}
-use Rattle.isolation.proofs.AwayLaws.{same-records}
+use Rattle.isolation.proofs.AwayLaws.{same-records, same-tables}
 use Rattle.isolation.proofs.EntryLaws.{put-cases, segment-cases}
 use Rattle.isolation.proofs.KeptLaws.{tables, new-fits, write-fits}
-use Rattle.isolation.proofs.PairLaws.{put-both}
+use Rattle.isolation.proofs.PairLaws.{put-both, length-both, bytes-both}
 
 -- a record that has no segments
 pub vacant : (v i p : ℕ) → InPlace v (getD (replicate segments absentSegment) i absentSegment .place) p → ⊥
@@ -45,8 +44,8 @@ vacant v i p u = subst (λ (g : Segment). InPlace v (g .place) p) (go (decLt i s
         List·getD-eq-default (replicate segments absentSegment) absentSegment e
 
 module _ (node local : ℕ) (a b : Copy) (same : SameToWriters node local a b) where
-  pub same-tables : tables a ≡ tables b
-  same-tables = fun-ext (same-records tableOf (setApart node local) (a .store) (b .store) (same .others) (same .table))
+  pub same-to-writers : tables a ≡ tables b
+  same-to-writers = same-tables (setApart node local) (a .store) (b .store) (same .others) (same .table)
 
   pub writes : (n : ℕ) → clusterAt (a .store) n .write ≡ clusterAt (b .store) n .write
   writes = same-records (λ (c : Cluster). c .write) (setApart node local) (a .store) (b .store) (same .others) (same .write)
@@ -113,7 +112,7 @@ module _ (node local : ℕ) (a b : Copy) (same : SameToWriters node local a b) w
     segment-same s m n size old new =
         put-same-record own _ _ m n
         (λ ne. ap (λ (c : Cluster). withSegment c at (s (tableOf c))) (same .others own ne))
-        (λ j. record { active = same-tables j own .active; segments = set (same-tables j own .segments) at (s (same-tables j own)) })
+        (λ j. record { active = same-to-writers j own .active; segments = set (same-to-writers j own .segments) at (s (same-to-writers j own)) })
         (writes own) size
         (λ v l i p hv hl hi ne u.
         go v l i p hv hl hi ne (segment-cases (a .store) own at (s (tables a own)) (recordOf v l) i) u)
@@ -131,22 +130,11 @@ module _ (node local : ℕ) (a b : Copy) (same : SameToWriters node local a b) w
             new v l p hv hl (subst (λ (k : ℕ). k < segments) h hi) ne q
             (subst (λ (g : Segment). InPlace v (g .place) p) r u)
 
-    -- bytes put at one place of both memories
-    module _ (k : ℕ) (bs : List ℕ) (fit : k + length bs ≤ length (a .memory)) where
-      fits : k + length bs ≤ length (b .memory)
-      fits = let e = same .size in omega (arith, e)
-
-      put-length : length (overwritten (a .memory) k bs) ≡ length (overwritten (b .memory) k bs)
-      put-length =
-          length-overwritten (a .memory) k bs fit ∙ same .size ∙ sym (length-overwritten (b .memory) k bs fits)
-
-      put-old : OthersBytes node local (tables a) (overwritten (a .memory) k bs) (overwritten (b .memory) k bs)
-      put-old v l i p hv hl hi ne u =
-          overwritten-both (a .memory) (b .memory) k bs fit fits p (λ out. same .bytes v l i p hv hl hi ne u)
-
-      put-new : (p : ℕ) → k ≤ p → p < k + length bs
-          → getD (overwritten (a .memory) k bs) p 0 ≡ getD (overwritten (b .memory) k bs) p 0
-      put-new p lo hi = overwritten-both (a .memory) (b .memory) k bs fit fits p (λ out. absurd (out lo hi))
+  -- bytes put at one place of both memories
+  put-old : (k : ℕ) (bs : List ℕ) → k + length bs ≤ length (a .memory)
+      → OthersBytes node local (tables a) (overwritten (a .memory) k bs) (overwritten (b .memory) k bs)
+  put-old k bs fit v l i p hv hl hi ne u =
+      bytes-both (a .memory) (b .memory) (same .size) k bs fit p (λ out. same .bytes v l i p hv hl hi ne u)
 
   module _ (f : Name → List ℕ → ℕ → List ℕ) (k : SoundCopy a) (g : Arguments) where
     made-same : Done f (call newSegment g) a
@@ -158,10 +146,12 @@ module _ (node local : ℕ) (a b : Copy) (same : SameToWriters node local a b) w
         (λ (ts : Tables).
         SameToWriters node local (segmentMade x a)
         (putBytes (putCluster b (recordFor x) (withPlace (about x b) (g .segment) (newPlace x ts))) (newStart x ts) cleared))
-        same-tables
+        same-to-writers
         (segment-same x (λ t. segmentAt (newPlace x (tables a))) (overwritten (a .memory) start cleared)
-        (overwritten (b .memory) start cleared) (put-length x start cleared fit) (put-old x start cleared fit)
-        (λ v l p hv hl hi ne q u. inside v l p hl q u (put-new x start cleared fit p)))
+        (overwritten (b .memory) start cleared) (length-both (a .memory) (b .memory) (same .size) start cleared fit)
+        (put-old start cleared fit)
+        (λ v l p hv hl hi ne q u.
+        bytes-both (a .memory) (b .memory) (same .size) start cleared fit p (λ out. inside v l p hl q u out)))
       where
         x : Call
         x = call newSegment g
@@ -176,12 +166,12 @@ module _ (node local : ℕ) (a b : Copy) (same : SameToWriters node local a b) w
         w = done-range f x (a .store) (length (a .memory)) e
 
         inside : {A : Type 0} (v l p : ℕ) → l < clusters → recordOf v l ≡ recordFor x → InPlace v (newPlace x (tables a)) p
-            → (start ≤ p → p < start + length cleared → A) → A
-        inside v l p hl q u h =
+            → (start ≤ p → p < start + length cleared → ⊥) → A
+        inside v l p hl q u out =
             let wl = w .local-low in
             let u0 = u .0 in
             let u1 = u .1 in
-            h (omega arith) (rw (length-replicate {A = ℕ} (g .size) 0) (omega arith))
+            absurd (out (omega arith) (rw (length-replicate {A = ℕ} (g .size) 0) (omega arith)))
 
     written-same : Done f (call write g) a
         → SameToWriters node local (segmentWritten (call write g) a) (segmentWritten (call write g) b)
@@ -191,14 +181,14 @@ module _ (node local : ℕ) (a b : Copy) (same : SameToWriters node local a b) w
         let long : Tables → List ℕ = λ ts. take (lengthOf (placeFor x ts)) (g .bytes) in
         let fit = write-fits f g a k e in
         subst (λ (ts : Tables). SameToWriters node local (segmentWritten x a) (putBytes b (startFor x ts) (long ts)))
-        same-tables
+        same-to-writers
         (record {
           records = same .records;
           others = same .others;
           table = same .table;
           write = same .write;
-          size = put-length x (startFor x (tables a)) (long (tables a)) fit;
-          bytes = put-old x (startFor x (tables a)) (long (tables a)) fit;
+          size = length-both (a .memory) (b .memory) (same .size) (startFor x (tables a)) (long (tables a)) fit;
+          bytes = put-old (startFor x (tables a)) (long (tables a)) fit;
         })
 
     pub left-same : (kind : Kind) → Done f (call kind g) a
@@ -218,7 +208,7 @@ module _ (node local : ℕ) (a b : Copy) (same : SameToWriters node local a b) w
     left-same reduce e = same
     left-same newPassword e =
         let x : Call = call newPassword g in
-        change x (λ c. withPassword c (g .mode) (g .first)) (λ j. same-tables j (recordFor x))
+        change x (λ c. withPassword c (g .mode) (g .first)) (λ j. same-to-writers j (recordFor x))
         (λ j. elim (eqb (g .mode) readMode) [ true ↦ writes (recordFor x) j | false ↦ g .first ]) (λ v i p u. u)
     left-same freeze e =
         let x : Call = call freeze g in
