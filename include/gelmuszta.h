@@ -37,10 +37,11 @@
  * all, and its cluster stays active: calls 4 and 6 on the segment and call 2 on the cluster are refused, with
  * GELMUSZTA_FROZEN where nothing before it applies. Everything else treats it as any other segment.
  *
- * A handle that is valid for writing alone tells nothing of what lies there. As long as no read, no look and no call in
- * GELMUSZTA_MODE_READ presents a handle of a cluster that is valid for reading, no reply to any calls depends on the bytes of
- * its segments, on its read password or on bytes that belong to no segment. Its holder may learn of the cluster which segments
- * are there, how long they are and which are frozen. Deleting leaves bytes in the memory; call 3 clears those that it gives out.
+ * A handle that is valid for writing alone tells nothing of what lies there. Two stores that differ only in the bytes of one
+ * cluster's segments, in its read password and in bytes that belong to no segment give the same replies to the same calls,
+ * as long as no read, no look and no call in GELMUSZTA_MODE_READ presents a handle of that cluster which is valid for reading
+ * in either of them. What its holder may learn is which segments of the cluster are there, how long they are and which are
+ * frozen, and whether a node has room. Deleting leaves bytes in the memory; call 3 clears those that it gives out.
  *
  * The eleven calls, gelmuszta_look and gelmuszta_validate return a number, 0 for done. When several refusals apply, the
  * first of them in the order below is given. On a refusal the handles given are 23 zero bytes, counts and lengths are zero, a

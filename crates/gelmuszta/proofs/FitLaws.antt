@@ -98,11 +98,11 @@ module _ (x : Call) where
         second = sixteen-out (uses (x .kind) .second) (x .args .second) (and-right first second e);
       }
 
-abbrev fits : List Call → Bool
+abbrev pub fits : List Call → Bool
 fits [] = true
 fits (x ∷ xs) = (first x && second x) && fits xs
 
-fits-out : (xs : List Call) → fits xs ≡ true → AllFit xs
+pub fits-out : (xs : List Call) → fits xs ≡ true → AllFit xs
 fits-out [] e = tt
 fits-out (x ∷ xs) e =
     (call-fits x (and-left (first x && second x) (fits xs) e), fits-out xs (and-right (first x && second x) (fits xs) e))

@@ -5,3 +5,4 @@ pub mod MakeLaws
 pub mod ValidationLaws
 pub mod FitLaws
 pub mod RunLaws
+pub mod WriterImageLaws

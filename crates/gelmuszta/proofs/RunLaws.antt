@@ -78,7 +78,7 @@ part-image s k x m =
     ap (placed x (imageOf s) (length m)) (good-image s k)
     ∙ ap (λ (t : Store). aesLooked x t (length m) .part) (store-image s k)
 
-abbrev parts : List Looked → List Part
+abbrev pub parts : List Looked → List Part
 parts ls = map (λ (l : Looked). l .part) ls
 
 parts-also : (t : Bool) (l : Looked) (ls : List Looked) → parts (also t l ls) ≡ also t (l .part) (parts ls)
@@ -119,7 +119,7 @@ module _ (xs : List Call) (p : AllFit xs) (b m : List ℕ) (h : Bytes imageBytes
   good-left = ap (λ (r : RanOn). good (r .image)) (lists-are-runs xs b m p h g) ∙ good-image (end .store) fits
 
   -- the image left holds the store that the run leaves
-  held-left : run product xs (held b m) .copy ≡ leftOn xs b m
+  pub held-left : run product xs (held b m) .copy ≡ leftOn xs b m
   unfolding end
   held-left =
       ap₂ copyOf

@@ -3,4 +3,5 @@ pub mod Looks
 pub mod Validation
 pub mod Fits
 pub mod Runs
+pub mod WriterImages
 pub mod inner

@@ -16,8 +16,8 @@
 --                        one cluster's secrets, and no call presents a handle that opens it, the replies of a list are
 --                        equal and its looks tell the same parts, and the runs agree as the copies of the stores do
 --     WritersOnImages    document 02, §7, of images: where the stores that two images hold, with their memories, have in common
---                        what writers may know, and no call presents a handle that opens the cluster for reading to a call that
---                        reads, the replies of a list are equal and its looks tell the same parts, and the images left hold
+--                        what writers may know, and no call that asks for reading presents a handle that opens the cluster
+--                        for it, the replies of a list are equal and its looks tell the same parts, and the images left hold
 --                        stores that have that in common again
 --     FrozenOnImages     document 02, §3, of images: a segment that is present and frozen in the store that an image
 --                        holds is fixed after any list of calls, in the store and the memory that are left; and the image

@@ -21,7 +21,7 @@ use Rattle.isolation.specs.Copies.{SoundCopy, InPlace, keyed, places}
 use Rattle.isolation.specs.Writers.{Spies, NoReader, Untold}
 use Rattle.isolation.specs.WriterLists.{kept, beyond, keeping, ours, theirs, opening, rest, wholeList, openingAnswers, restAnswers}
 use Rattle.isolation.specs.WriterLists.{marks, marksAnswers, toldPlaces, password, weakerMade, weakerShown, gappedShown}
-use Rattle.isolation.specs.WriterWitness.{rightRead, rightLook, rightCheck, Met, WritersList, WritersUntold, WritersBite}
+use Rattle.isolation.specs.WriterWitness.{rightRead, rightLook, rightCheck, Met, end, WritersList, WritersUntold, WritersBite}
 use Rattle.calls.proofs.StepLaws.{numberBelow}
 use Rattle.calls.proofs.Computing.{computing}
 use Rattle.isolation.proofs.RunLaws.{stepBelow, step-below, runBelow, run-below, then-below, append-below, someBelow, append-some}
@@ -198,6 +198,13 @@ module _ (f : Name → List ℕ → ℕ → List ℕ) where
   unfolding tests effects computing
   in-others = ((omega arith, omega arith), (omega arith, omega arith))
 
+  pub in-end : InPlace 0 (placeOn (tableAt (end f ours .store)) 0 3 7) 4 × InPlace 1 (placeOn (tableAt (end f ours .store)) 1 2 1) 4098
+  in-end =
+      subst
+      (λ (n : Ran).
+      InPlace 0 (placeOn (tableAt (n .copy .store)) 0 3 7) 4 × InPlace 1 (placeOn (tableAt (n .copy .store)) 1 2 1) 4098)
+      (sym ended) in-others
+
   pub writers-untold : WritersUntold f
   writers-untold =
       let u = untold (wholeList f) (writers-list .met) in
@@ -207,12 +214,8 @@ module _ (f : Name → List ℕ → ℕ → List ℕ) where
         marks-replies = sym (untold marks (writers-list .marks-met) .replies) ∙ writers-list .marks-replies;
         record-3 = u .same .others 3 (λ e. omega arith);
         record-10 = u .same .others 10 (λ e. omega arith);
-        byte-4 =
-            u .same .bytes 0 3 7 4 (omega arith) (omega arith) (omega arith) (λ e. omega arith)
-            (subst (λ (n : Ran). InPlace 0 (placeOn (tableAt (n .copy .store)) 0 3 7) 4) (sym ended) (in-others .0));
-        byte-4098 =
-            u .same .bytes 1 2 1 4098 (omega arith) (omega arith) (omega arith) (λ e. omega arith)
-            (subst (λ (n : Ran). InPlace 1 (placeOn (tableAt (n .copy .store)) 1 2 1) 4098) (sym ended) (in-others .1));
+        byte-4 = u .same .bytes 0 3 7 4 (omega arith) (omega arith) (omega arith) (λ e. omega arith) (in-end .0);
+        byte-4098 = u .same .bytes 1 2 1 4098 (omega arith) (omega arith) (omega arith) (λ e. omega arith) (in-end .1);
         table = u .same .table;
         write = u .same .write;
       }
