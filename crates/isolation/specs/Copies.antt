@@ -20,9 +20,9 @@
 -- Of a list whose calls are carried out by p, which is the step unless another is named:
 --     Along p t xs c    t holds of each call of xs and of the store of the copy that it gets
 --     also t l ls       l before ls, where t is true
---     placesBy f p      what the looks of a list tell, in their order: each its number and the part of the memory, on the
+--     placesBy f p      what the looks of a list tell by f, in their order: each its number and the part of the memory, on the
 --                       copy that it gets
---     places f          the same of the step
+--     places f          the same where the step carries them out
 -- Assumes nothing.
 use mathlib.Core.Path.{_≡_}
 use mathlib.Core.Logic.{_≢_}
