@@ -37,7 +37,7 @@
  * all, and its cluster stays active: calls 4 and 6 on the segment and call 2 on the cluster are refused, with
  * GELMUSZTA_FROZEN where nothing before it applies. Everything else treats it as any other segment.
  *
- * A handle that is valid for writing alone tells nothing of what lies there. Two stores that differ only in the bytes of one
+ * A handle that is valid for writing alone does not tell what is stored. Two stores that differ only in the bytes of one
  * cluster's segments, in its read password and in bytes that belong to no segment give the same replies to the same calls,
  * as long as no read, no look and no call in GELMUSZTA_MODE_READ presents a handle of that cluster which is valid for reading
  * in either of them. What its holder may learn is which segments of the cluster are there, how long they are and which are
