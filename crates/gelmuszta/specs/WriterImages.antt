@@ -1,7 +1,8 @@
 -- Document 02, §7, of images, for the copies and the long list of `isolation/specs/WriterLists`, at the product's conversion.
---     calls               the list; ranOn, partsOn, endOn: its run on the image of a copy's store, the parts that its looks tell, and
---                         what is left
---     parts               these parts, from one address to another
+--     calls               the list
+--     ranOn c             its run on the image of the copy's store, with its memory
+--     endOn c             the store that the image left holds, with the memory left
+--     partsOn c, parts    the parts that its looks tell, and what they are: from one address to another
 --     WritersImages       on the images of both copies, with their memories, the list gives the answers that are written out, and
 --                         its looks tell the same parts; the images left hold stores with equal records 3 and 10, with one table
 --                         and one write password of the cluster, and a byte of a segment of each of the others is equal

@@ -32,9 +32,9 @@ module _ (x : Call) where
       → opens (x .kind) ≡ true
   named-opens ks e n = kind-then (one ks) opens e (x .kind) (kind-is (one ks) ks refl x .into n)
 
-  reading-opens : ReadMode x → opens (x .kind) ≡ true
-  reading-opens (inl n) = named-opens (read ∷ look ∷ []) refl n
-  reading-opens (inr (n, m)) = named-opens (reduce ∷ newPassword ∷ join ∷ validate ∷ []) refl n
+  asking-opens : ReadMode x → opens (x .kind) ≡ true
+  asking-opens (inl n) = named-opens (read ∷ look ∷ []) refl n
+  asking-opens (inr (n, m)) = named-opens (reduce ∷ newPassword ∷ join ∷ validate ∷ []) refl n
 
 module _ (node local : ℕ) (f : Name → List ℕ → ℕ → List ℕ) where
   abbrev pub spying : Call → Store → Bool
@@ -43,7 +43,7 @@ module _ (node local : ℕ) (f : Name → List ℕ → ℕ → List ℕ) where
   pub spying-is : (x : Call) (s : Store) → Is (spying x s) (Spies node local f x s)
   spying-is x s =
       map-is (λ t. record { active = t .0 .1; reading = t .0 .0; key = t .1 .1 })
-      (λ p. ((p .reading, p .active), (opens-is x .out (reading-opens x (p .reading)), p .key)))
+      (λ p. ((p .reading, p .active), (opens-is x .out (asking-opens x (p .reading)), p .key)))
       (and-is (and-is (read-is x) (holds-is (clusterAt s (setApart node local) .active))) (keyed-is node local f readMode s x))
 
   pub unspied : (x : Call) (s : Store) → spying x s ≡ false → ¬ Spies node local f x s
@@ -53,11 +53,11 @@ module _ (node local : ℕ) (f : Name → List ℕ → ℕ → List ℕ) where
   writing-is-free x s (inl w) p =
       let one : needed x ≡ 1 = eqb-true (needed x) 1 (read-is x .into (p .reading)) in
       let two : needed x ≡ 2 =
-      eqb-true (needed x) 2 (write-is x (opens-is x .out (reading-opens x (p .reading))) .into w) in
+      eqb-true (needed x) 2 (write-is x (opens-is x .out (asking-opens x (p .reading))) .into w) in
       omega arith
   writing-is-free x s (inr n) p =
       true≢false
-      (sym (reading-opens x (p .reading))
+      (sym (asking-opens x (p .reading))
       ∙ not-true (opens (x .kind))
       (kind-then (one (newCluster ∷ weaken ∷ [])) (λ k. not (opens k)) refl (x .kind)
       (kind-is (one (newCluster ∷ weaken ∷ [])) (newCluster ∷ weaken ∷ []) refl x .into n)))

@@ -1,6 +1,7 @@
 -- Lists with which §7 is shown not to be empty, on copies of one shape. The cluster is local number 2 of node 0. It has segments
 -- 5, 4 and 3, of four, two and one bytes, and its write password is sixteen bytes 34. Local number 2 of node 1 has a segment of the
 -- bytes 6 and 7. Bytes 6 to 9 of node 0 and byte 2 of node 1 belong to no segment. Handles and answers are written out.
+--     tenth, second r, kept r    the records 10 and 2, and a store with them; `beyond` is the memory from byte 4 on
 --     keeping r b z      a copy in which the cluster's read password is sixteen r and its segments' bytes are b, and the bytes
 --                        named that belong to no segment are z
 --     ours, theirs       two such copies that differ in all of these
@@ -16,6 +17,7 @@
 --                        by a handle of both modes, and what is then refused, a read with a handle that opened it before too
 --     toldPlaces         what the looks tell: the number, and from where to where the part goes
 -- For every conversion f:
+--     password b c       what the parameter c turns sixteen bytes b into, for the cluster
 --     weakerMade c, weakerShown c    the handle that a weakening of the write handle by the mask c gives, as it is made, and shown
 --                        with sixteen bytes of its password
 --     gappedShown c      a gapped handle, with the password that its chain from the read password of the copy `ours` ends with
