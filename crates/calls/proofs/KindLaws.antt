@@ -83,15 +83,6 @@ module _ (t : Kind → Bool) where
   same-kind u e k =
       sym (at-place t false k) ∙ ap (λ (l : List Bool). getD l (placeOf k) false) e ∙ at-place u false k
 
-  -- of which kinds the test holds, another one does
-  pub kind-then : (u : Kind → Bool) → map (λ k. not (t k) || u k) kinds ≡ map (λ k. true) kinds → (k : Kind) → t k ≡ true
-      → u k ≡ true
-  kind-then u e k h =
-      ap (λ (v : Bool). not v || u k) (sym h)
-      ∙ sym (at-place (λ k. not (t k) || u k) false k)
-      ∙ ap (λ (l : List Bool). getD l (placeOf k) false) e
-      ∙ at-place (λ (k : Kind). true) false k
-
   -- a test of the kinds that a list names, and of all kinds but one
   pub kind-is : (ks : List Kind) → map t kinds ≡ map (one ks) kinds → (x : Call) → Is (t (x .kind)) (Named ks x)
   kind-is ks e x = same-is (same-kind (one ks) e (x .kind)) (one-is ks x)
@@ -106,6 +97,12 @@ module _ (t : Kind → Bool) where
       none : x .kind ≢ j → ¬ Named (j ∷ []) x
       none n (inl q) = n q
       none n (inr q) = q
+
+-- where a test of the kinds holds, another one does
+pub kind-then : (t u : Kind → Bool) → map (λ k. not (t k) || u k) kinds ≡ map (λ k. true) kinds → (k : Kind) → t k ≡ true
+    → u k ≡ true
+kind-then t u e k h =
+    ap (λ (v : Bool). not v || u k) (sym h) ∙ same-kind (λ k. not (t k) || u k) (λ k. true) e k
 
 -- a list of one kind names that one
 pub only-kind : (j : Kind) (x : Call) → Named (j ∷ []) x → x .kind ≡ j

@@ -1,6 +1,6 @@
--- Both copies give a call the same number. Rows that see the call alone, or the tables, agree at
--- once. The two rows that see passwords, 9 and 12, see those of the mode needed alone: it is enough that no handle which is
--- presented can tell the copies apart. Row 12 is looked at only where row 9 did not apply.
+-- Both copies give a call the same number. Rows that see the call alone, or the tables, agree at once. The two rows that see
+-- passwords, 9 and 12, see those of the mode needed alone: it is enough that no handle which is presented can tell the copies
+-- apart. These are looked at only where no row above applied, 8 among them, and row 12 only where row 9 did not apply.
 -- Assumes nothing.
 use mathlib.Core.Path.{_≡_, refl, sym, ap, _∙_}
 use mathlib.Core.Logic.{_≢_, _⊎_, inl, inr}

@@ -1,11 +1,11 @@
 -- Which calls spy, as a test: what is computed of lists goes by it. A call that asks for reading opens a cluster; none asks for both modes.
 -- Assumes nothing.
 use mathlib.Core.Path.{_≡_, refl, sym, _∙_}
-use Prim.Native.Nat.{ℕ, _-_}
+use Prim.Native.Nat.{ℕ}
 use native.Mathlib.Omega.{arith}
 use mathlib.Core.Bool.{Bool, true, false, not, _&&_, _||_, true≢false}
 use mathlib.Core.List.{List, [], _∷_, map}
-use mathlib.Core.Logic.{_≢_, inl, inr}
+use mathlib.Core.Logic.{inl, inr}
 use lib.Dec.{eqb}
 use Rattle.handle.specs.Handles.{Name}
 use Rattle.store.specs.declared.Store.{Store}
@@ -28,13 +28,14 @@ use Rattle.isolation.specs.Writers.{WritingIsFree}
 use Rattle.calls.proofs.ValidWords.{write-is}
 
 module _ (x : Call) where
-  named-opens : (ks : List Kind) → map (λ k. not (one ks k) || opens k) kinds ≡ map (λ k. true) kinds → Named ks x
-      → opens (x .kind) ≡ true
-  named-opens ks e n = kind-then (one ks) opens e (x .kind) (kind-is (one ks) ks refl x .into n)
+  -- what holds of the kinds that a list names
+  named-then : (u : Kind → Bool) (ks : List Kind) → map (λ k. not (one ks k) || u k) kinds ≡ map (λ k. true) kinds → Named ks x
+      → u (x .kind) ≡ true
+  named-then u ks e n = kind-then (one ks) u e (x .kind) (kind-is (one ks) ks refl x .into n)
 
   asking-opens : ReadMode x → opens (x .kind) ≡ true
-  asking-opens (inl n) = named-opens (read ∷ look ∷ []) refl n
-  asking-opens (inr (n, m)) = named-opens (reduce ∷ newPassword ∷ join ∷ validate ∷ []) refl n
+  asking-opens (inl n) = named-then opens (read ∷ look ∷ []) refl n
+  asking-opens (inr (n, m)) = named-then opens (reduce ∷ newPassword ∷ join ∷ validate ∷ []) refl n
 
 module _ (node local : ℕ) (f : Name → List ℕ → ℕ → List ℕ) where
   abbrev pub spying : Call → Store → Bool
@@ -58,6 +59,4 @@ module _ (node local : ℕ) (f : Name → List ℕ → ℕ → List ℕ) where
   writing-is-free x s (inr n) p =
       true≢false
       (sym (asking-opens x (p .reading))
-      ∙ not-true (opens (x .kind))
-      (kind-then (one (newCluster ∷ weaken ∷ [])) (λ k. not (opens k)) refl (x .kind)
-      (kind-is (one (newCluster ∷ weaken ∷ [])) (newCluster ∷ weaken ∷ []) refl x .into n)))
+      ∙ not-true (opens (x .kind)) (named-then x (λ k. not (opens k)) (newCluster ∷ weaken ∷ []) refl n))

@@ -2,14 +2,13 @@
 -- other cluster that has a segment.
 -- Assumes nothing.
 use mathlib.Core.Path.{_≡_, refl, sym, ap, _∙_, subst}
-use Prim.Native.Nat.{ℕ, _-_, _≤_, _<_}
+use Prim.Native.Nat.{ℕ, _≤_, _<_}
 use native.Mathlib.Omega.{arith}
 use native.Mathlib.Decide.{ℕ-discrete}
-use mathlib.Core.List.{[]}
 use mathlib.Core.Logic.{_≢_, _⊎_, inl, inr}
 use lib.ListN.{getD, replicate, getD-replicate}
 use lib.Seq.{getD-set-other}
-use Rattle.sizes.specs.Sizes.{nodes, clusters, records, segments, memory}
+use Rattle.sizes.specs.Sizes.{nodes, clusters, records, segments}
 use Rattle.store.specs.declared.Place.the-variants.{Present}
 use Rattle.store.specs.declared.Segment.{Segment}
 use Rattle.store.specs.declared.Cluster.{Cluster}

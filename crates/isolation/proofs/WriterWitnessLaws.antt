@@ -3,17 +3,16 @@
 -- chain gives byte by byte.
 -- Assumes nothing.
 use mathlib.Core.Path.{_≡_, refl, sym, ap, _∙_, subst}
-use Prim.Native.Nat.{ℕ, _-_}
+use Prim.Native.Nat.{ℕ}
 use native.Mathlib.Omega.{arith}
 use mathlib.Core.Bool.{Bool, true, false, not, _||_, cond}
 use mathlib.Core.List.{List, [], _∷_, _++_}
 use Rattle.loops.specs.Tabulate.{tabulate}
-use Rattle.sizes.specs.Sizes.{segments, memory}
+use Rattle.sizes.specs.Sizes.{memory}
 use Rattle.handle.specs.Handles.{Name, decoded}
 use Rattle.store.specs.declared.Store.{Store}
 use Rattle.store.specs.Records.{tableAt, placeOn}
-use Rattle.calls.specs.Calls.{Copy, Call, writing}
-use Rattle.calls.specs.Calls.{reading, weakeningBy, reducing, joining}
+use Rattle.calls.specs.Calls.{Copy, Call, reading, writing, weakeningBy, reducing, joining}
 use Rattle.calls.specs.Numbers.{valid, violated, tests, otherTests}
 use Rattle.calls.specs.Steps.{Reply, Ran, followed, Outcome, effects, outcome, step, run}
 use Rattle.calls.specs.Literals.{primary, none, told}
