@@ -1,8 +1,11 @@
+pub mod WidthLaws
 pub mod SelectorLaws
 pub mod HandleLaws
 pub mod OpensLaws
 pub mod PasswordLaws
 pub mod CodecLaws
+pub mod TripLaws
+pub mod HeldLaws
 pub mod CodeLaws
 pub mod WeakenLaws
 pub mod ExamplesHold
