@@ -3,7 +3,7 @@
 -- Assumes nothing.
 use mathlib.Core.Path.{_≡_, refl, sym, ap, _∙_, subst}
 use mathlib.Core.Logic.{_≢_, _⊎_, inl, inr}
-use mathlib.Core.Bool.{Bool, true, false, _||_, or-true}
+use mathlib.Core.Bool.{true, false}
 use mathlib.Core.List.{List}
 use mathlib.Core.Option.{some}
 use Prim.Native.Nat.{ℕ, _≤_, _<_}
@@ -29,7 +29,7 @@ use Rattle.store.specs.Placement.{newBase}
 use Rattle.store.proofs.PlaceLaws.{apart-sym}
 use Rattle.store.proofs.PlacementLaws.{newBase-fits}
 use Rattle.store.proofs.SoundLaws.{Sound, segment-inside, segment-mark, segment-present, present-mark, sound-out, sound-in}
-use Rattle.store.proofs.SoundLaws.{settled-active, settled-inactive, sized-settled, sized-at}
+use Rattle.store.proofs.SoundLaws.{settled-active, settled-inactive, sized-settled, sized-at, allowed-absent, allowed-below}
 
 -- ---- one record replaced
 
@@ -51,8 +51,7 @@ unfolding sized below
 sized-started w read write e =
     and-both (isWidth w) (below (started w read write)) e
     (every-in segments _ (λ i h.
-    ap (λ (g : Segment). allowed (g .place) i w) (getD-replicate segments i absentSegment absentSegment h)
-    ∙ or-true (ltb i w)))
+    allowed-absent _ i w (ap (λ (g : Segment). g .place) (getD-replicate segments i absentSegment absentSegment h))))
 
 -- another segment in its place, which the width allows
 pub sized-with : (c : Cluster) (i : ℕ) (g : Segment) → sized c ≡ true
@@ -257,13 +256,13 @@ module _ (s : Store) (size : ℕ) (e : sound s size ≡ true) (node local : ℕ)
         size ≡ true
     sound-made z base length q =
         let f = newBase-fits (tableAt s) node length base q in
-        one (segmentAt (Present base length)) (λ h. ap (λ (b : Bool). b || false) z)
+        one (segmentAt (Present base length)) (λ h. allowed-below (Present base length) i (c .width) z)
         (fresh refl (segment-present (segmentAt (Present base length)) base length refl ∙ f .within) (f .free))
 
     -- a segment deleted: call 4
     pub sound-removed : sound (putRecord s (recordOf node local) (withPlace (clusterAt s (recordOf node local)) i Absent))
         size ≡ true
-    sound-removed = one absentSegment (λ h. or-true (ltb i (c .width))) (gone refl)
+    sound-removed = one absentSegment (λ h. allowed-absent Absent i (c .width) refl) (gone refl)
 
     -- a present segment frozen: call 10
     pub sound-frozen : isAbsent (placeOf (tableOf c) i) ≡ false

@@ -7,13 +7,13 @@ use mathlib.Core.Bool.{Bool, true, false, not, _&&_, _||_, or-true, and-true}
 use Prim.Native.Nat.{ℕ, _<_}
 use native.Mathlib.Omega.{arith}
 use native.Mathlib.Decide.{ℕ-discrete}
-use lib.Dec.{eqb}
+use lib.Dec.{ltb, eqb}
 use lib.ListN.{getD-replicate}
 use borrow.Author.Tests.{eqb-true, eq-eqb}
 use Rattle.loops.specs.Below.{every}
 use Rattle.loops.proofs.BelowLaws.{and-left, and-right, and-both, every-in, every-at, every-pair-in, every-pair-at}
 use Rattle.store.specs.declared.Place.{Place}
-use Rattle.store.specs.declared.Place.the-variants.{Present}
+use Rattle.store.specs.declared.Place.the-variants.{Absent, Present}
 use Rattle.store.specs.declared.Segment.{Segment}
 use Rattle.store.specs.declared.Cluster.{Cluster}
 use Rattle.store.specs.declared.Store.{Store}
@@ -70,6 +70,14 @@ unfolding sized below
 sized-at c z i h =
     every-at segments (λ i. allowed (placeOf (tableOf c) i) i (c .width))
     (and-right (soundWidth (c .active) (c .width)) (below c) z) i h
+
+-- what the width allows: an absent segment anywhere, any below it
+module _ (p : Place) (i w : ℕ) where
+  pub allowed-absent : p ≡ Absent → allowed p i w ≡ true
+  allowed-absent e = ap (λ (q : Place). allowed q i w) e ∙ or-true (ltb i w)
+
+  pub allowed-below : ltb i w ≡ true → allowed p i w ≡ true
+  allowed-below e = ap (λ (t : Bool). t || isAbsent p) e
 
 pub settled-inactive : settled inactive ≡ true
 unfolding settled sized below idle zeroBytes every
