@@ -10,6 +10,7 @@ pub mod CaseLaws
 pub mod TestLaws
 pub mod KindLaws
 pub mod SelectorWords
+pub mod HandleWords
 pub mod PresentedWords
 pub mod WordLaws
 pub mod ValidWords

@@ -22,7 +22,7 @@ use Rattle.calls.specs.declared.Answer.{Answer}
 use Rattle.calls.specs.declared.RecordLeft.{RecordLeft}
 use Rattle.calls.specs.Calls.{Call, makingCluster, weakeningBy}
 use Rattle.calls.specs.Numbers.{number, tests}
-use Rattle.calls.specs.Steps.{zeroHandle, handles, weakenReply, aesStep, left, given, clusterMade}
+use Rattle.calls.specs.Steps.{noBytes, handles, weakenReply, aesStep, left, given, clusterMade}
 use Rattle.calls.specs.Answers.{copyOf, ended, handlesAlone, recordAlone}
 use Rattle.calls.proofs.StepLaws.{step-done}
 use Rattle.calls.proofs.WeakenLaws.{step-weaken}
@@ -118,11 +118,11 @@ module _ (s : Store) (m : List ℕ) (current local : ℕ) (r w : List ℕ) where
 
 pub weaken-is : (b : List ℕ) (mask : ℕ) (g : Handle) → g ≡ decoded b → (w : Weakened)
     → w ≡ weakening (widthOf g) (product (nameOf g)) g mask → (e : List ℕ) → e ≡ encoded (w .handle) → (s : Store) (m : List ℕ)
-    → ended s m (record { number = w .number; first = e; second = zeroHandle; count = w .count; length = 0 }) []
+    → ended s m (record { number = w .number; first = e; second = noBytes; count = w .count; length = 0 }) []
     ≡ aesStep (weakeningBy mask b) (copyOf s m)
 weaken-is b mask g eg w ew e ee s m =
     ap
-    (λ (y : List ℕ). ended s m (record { number = w .number; first = y; second = zeroHandle; count = w .count; length = 0 }) [])
+    (λ (y : List ℕ). ended s m (record { number = w .number; first = y; second = noBytes; count = w .count; length = 0 }) [])
     ee
     ∙ ap (λ (v : Weakened). record { copy = copyOf s m; reply = weakenReply v })
     (ew ∙ ap (λ (k : Handle). weakening (widthOf k) (product (nameOf k)) k mask) eg)

@@ -18,7 +18,7 @@ use Rattle.store.specs.Sound.{sound}
 use Rattle.calls.specs.declared.Answer.{Answer}
 use Rattle.calls.specs.Calls.{joining, recordNamed}
 use Rattle.calls.specs.Numbers.{number}
-use Rattle.calls.specs.Steps.{zeroHandle, handles, aesStep, left, given}
+use Rattle.calls.specs.Steps.{noBytes, handles, aesStep, left, given}
 use Rattle.calls.specs.Answers.{copyOf, ended, numberAlone, handlesAlone}
 use Rattle.refusals.specs.Rows.{badModes, joinBelow, joinRows}
 use Rattle.calls.specs.Clear.{Clear}
@@ -109,7 +109,7 @@ module _ (s : Store) (m a b : List ℕ) (mode : ℕ) where
       abbrev Joined : Bool → Handle → Handle → Cluster → Type 0
       Joined sd h k c = Told sd h k c → n ≡ 0 → (p : List ℕ) → p ≡ primaryOf c mode → (r : Handle)
           → r ≡ joined (widthOf h) (product (nameOf h)) h k p → (e : List ℕ) → e ≡ encoded r → (q : Answer)
-          → q ≡ handlesAlone e zeroHandle → ended s m q [] ≡ aesStep (joining mode a b) (copyOf s m)
+          → q ≡ handlesAlone e noBytes → ended s m q [] ≡ aesStep (joining mode a b) (copyOf s m)
 
       pub join-done : Joined sd h k c
       unfolding left given
@@ -117,7 +117,7 @@ module _ (s : Store) (m a b : List ℕ) (mode : ℕ) where
           given-both Joined
           (λ en z p ep r er e ee q qq.
           ap (λ (x : Answer). ended s m x []) qq
-          ∙ ap (λ (x : List ℕ). record { copy = copyOf s m; reply = handles x zeroHandle 0 })
+          ∙ ap (λ (x : List ℕ). record { copy = copyOf s m; reply = handles x noBytes 0 })
           (ee ∙ ap encoded (er ∙ ap (joined (widthOf u) (product (nameOf u)) u (decoded b)) (ep ∙ there en z)))
           ∙ sym (step-done product (joining mode a b) (copyOf s m) (told en ∙ z)))
         where

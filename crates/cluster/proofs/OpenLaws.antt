@@ -14,7 +14,7 @@ use Rattle.store.specs.Records.{clusterAt, primaryOf}
 use Rattle.calls.specs.declared.Answer.{Answer}
 use Rattle.calls.specs.Calls.{reducing, validating}
 use Rattle.calls.specs.Numbers.{number}
-use Rattle.calls.specs.Steps.{zeroHandle, handles, outcome, step, aesStep, left, given}
+use Rattle.calls.specs.Steps.{noBytes, handles, outcome, step, aesStep, left, given}
 use Rattle.calls.specs.Answers.{copyOf, ended, numberAlone, handlesAlone}
 use Rattle.calls.proofs.StepLaws.{number-validate, step-done}
 use Rattle.refusals.specs.Rows.{badModes, sharedRows}
@@ -55,7 +55,7 @@ module _ (s : Store) (m b : List ℕ) (mode : ℕ) (bad : Bool) (eb : bad ≡ ba
     abbrev Reduces : Bool → Handle → Cluster → Type 0
     Reduces sd h c = Told sd h c → n ≡ 0 → (p : List ℕ) → p ≡ primaryOf c mode → (r : Handle)
         → r ≡ reduced (widthOf h) (product (nameOf h)) h p → (e : List ℕ) → e ≡ encoded r → (a : Answer)
-        → a ≡ handlesAlone e zeroHandle → ended s m a [] ≡ aesStep (reducing mode b) (copyOf s m)
+        → a ≡ handlesAlone e noBytes → ended s m a [] ≡ aesStep (reducing mode b) (copyOf s m)
 
     pub reduce-done : Reduces sd h c
     unfolding left given
@@ -63,7 +63,7 @@ module _ (s : Store) (m b : List ℕ) (mode : ℕ) (bad : Bool) (eb : bad ≡ ba
         by-given s m b Reduces sd h c g
         (λ en z p ep r er e ee a aa.
         ap (λ (x : Answer). ended s m x []) aa
-        ∙ ap (λ (x : List ℕ). record { copy = copyOf s m; reply = handles x zeroHandle 0 })
+        ∙ ap (λ (x : List ℕ). record { copy = copyOf s m; reply = handles x noBytes 0 })
         (ee ∙ ap encoded (er ∙ ap (λ (q : List ℕ). reduced (widthOf k) (product (nameOf k)) k q) (ep ∙ there en z)))
         ∙ sym (step-done product (reducing mode b) (copyOf s m) (told en ∙ z)))
       where

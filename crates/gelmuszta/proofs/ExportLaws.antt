@@ -21,7 +21,7 @@ use Rattle.calls.specs.declared.Answer.{Answer}
 use Rattle.calls.specs.declared.RecordLeft.{RecordLeft}
 use Rattle.calls.specs.Calls.{Call, Copy, among, buffer, weaken, call, Arguments}
 use Rattle.calls.specs.Numbers.{number, unsound}
-use Rattle.calls.specs.Steps.{Reply, Outcome, zeroHandle, plain, outcome, step, aesStep}
+use Rattle.calls.specs.Steps.{Reply, Outcome, noBytes, plain, outcome, step, aesStep}
 use Rattle.calls.specs.Answers.{copyOf, replied, ended}
 use Rattle.calls.proofs.StepLaws.{step-refused}
 use Rattle.refusals.specs.Given.{Given, GivenPlace}
@@ -91,16 +91,16 @@ module _ (b m : List ℕ) (sd : Bool) (es : sd ≡ (good b && sound (storeIn b) 
     (whole : good b ≡ true → imageOf (storeIn b) ≡ b) where
   -- a call that looks at the store gets 1
   pub refused-unsound : (x : Call) → among (7 ∷ []) (x .kind) ≡ false → (buf : List ℕ) → buf ≡ buffer x → not sd ≡ true
-      → returned unsoundNumber zeroHandle zeroHandle 0 0 buf b m ≡ exported x b m
+      → returned unsoundNumber noBytes noBytes 0 0 buf b m ≡ exported x b m
   unfolding exported
   refused-unsound x looks buf e t =
-      ap (λ (l : List ℕ). returned unsoundNumber zeroHandle zeroHandle 0 0 l b m) e ∙ go (good b) refl (sym es ∙ not-true sd t)
+      ap (λ (l : List ℕ). returned unsoundNumber noBytes noBytes 0 0 l b m) e ∙ go (good b) refl (sym es ∙ not-true sd t)
     where
       go : (g : Bool) → good b ≡ g → (good b && sound (storeIn b) (length m)) ≡ false
-          → returned unsoundNumber zeroHandle zeroHandle 0 0 (buffer x) b m ≡ picked x b m (good b)
+          → returned unsoundNumber noBytes noBytes 0 0 (buffer x) b m ≡ picked x b m (good b)
       go false eg f = sym (ap (λ (u : Bool). damagedBy u x b m) looks) ∙ sym (ap (picked x b m) eg)
       go true eg f =
-          ap (λ (i : List ℕ). returned unsoundNumber zeroHandle zeroHandle 0 0 (buffer x) i m) (sym (whole eg))
+          ap (λ (i : List ℕ). returned unsoundNumber noBytes noBytes 0 0 (buffer x) i m) (sym (whole eg))
           ∙ sym (ap imaged (step-refused product x (copyOf (storeIn b) m) 1
           (number-unsound x (storeIn b) (length m) looks (ap (λ (u : Bool). u && sound (storeIn b) (length m)) (sym eg) ∙ f)) (λ z. omega (arith, z))))
           ∙ sym (ap (picked x b m) eg)
@@ -162,11 +162,11 @@ module _ (b m : List ℕ) (sd : Bool) (es : sd ≡ (good b && sound (storeIn b) 
         same : n ≡ left .copy .memory
         same = bytes (putRecord (storeIn b) i (l .cluster)) n (l .answer) [] e
 
-        pub kept-silent : Silent x → returned (l .answer .number) zeroHandle zeroHandle 0 0 [] after n ≡ exported x b m
+        pub kept-silent : Silent x → returned (l .answer .number) noBytes noBytes 0 0 [] after n ≡ exported x b m
         kept-silent r = finished _ after n (silent-reply x (copyOf (storeIn b) m) (l .answer) [] silent r) image-left same
 
         pub kept-handle : OneHandle x
-            → returned (l .answer .number) (l .answer .first) zeroHandle 0 0 [] after n ≡ exported x b m
+            → returned (l .answer .number) (l .answer .first) noBytes 0 0 [] after n ≡ exported x b m
         kept-handle r = finished _ after n (handle-reply x (copyOf (storeIn b) m) (l .answer) [] silent r) image-left same
 
         pub kept-handles : TwoHandles x
@@ -178,17 +178,17 @@ module _ (b m : List ℕ) (sd : Bool) (es : sd ≡ (good b && sound (storeIn b) 
         image-same : b ≡ imageOf (left .copy .store)
         image-same = sym (whole held-good) ∙ ap (λ (o : Outcome). imageOf (o .copy .store)) e
 
-        pub same-silent : Silent x → returned (a .number) zeroHandle zeroHandle 0 0 buf b n ≡ exported x b m
+        pub same-silent : Silent x → returned (a .number) noBytes noBytes 0 0 buf b n ≡ exported x b m
         same-silent r =
             finished _ b n (silent-reply x (copyOf (storeIn b) m) a buf (replies (storeIn b) n a buf e) r) image-same
             (bytes (storeIn b) n a buf e)
 
-        pub same-handle : OneHandle x → returned (a .number) (a .first) zeroHandle 0 0 buf b n ≡ exported x b m
+        pub same-handle : OneHandle x → returned (a .number) (a .first) noBytes 0 0 buf b n ≡ exported x b m
         same-handle r =
             finished _ b n (handle-reply x (copyOf (storeIn b) m) a buf (replies (storeIn b) n a buf e) r) image-same
             (bytes (storeIn b) n a buf e)
 
-        pub same-told : Length x → returned (a .number) zeroHandle zeroHandle 0 (a .length) buf b n ≡ exported x b m
+        pub same-told : Length x → returned (a .number) noBytes noBytes 0 (a .length) buf b n ≡ exported x b m
         same-told r =
             finished _ b n (length-reply x (copyOf (storeIn b) m) a buf (replies (storeIn b) n a buf e) r) image-same
             (bytes (storeIn b) n a buf e)
@@ -209,7 +209,7 @@ place-of b m l node local w t =
 
 pub weaken-always : (g : Arguments) (a : Answer)
     → ((s : Store) (m : List ℕ) → ended s m a [] ≡ aesStep (call weaken g) (copyOf s m))
-    → Always (call weaken g) (replyOf (a .number) (a .first) zeroHandle (a .count) 0 [])
+    → Always (call weaken g) (replyOf (a .number) (a .first) noBytes (a .count) 0 [])
 weaken-always g a h s m =
     λ j. record {
       copy = h s m j .copy;

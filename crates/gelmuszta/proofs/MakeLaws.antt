@@ -12,7 +12,7 @@ use Rattle.store.specs.Records.{tableAt}
 use Rattle.store.specs.Placement.{placement, placedBy}
 use Rattle.calls.specs.declared.RecordLeft.{RecordLeft}
 use Rattle.calls.specs.Calls.{Call, makingSegment}
-use Rattle.calls.specs.Steps.{zeroHandle, aesStep}
+use Rattle.calls.specs.Steps.{noBytes, aesStep}
 use Rattle.calls.specs.Answers.{copyOf, ended, numberAlone}
 use Rattle.refusals.specs.Given.{Given, recordFound, put}
 use Rattle.cluster.specs.inner.Makes.{makeRows}
@@ -30,7 +30,7 @@ module _ (b m hb : List ℕ) (current segment size : ℕ) (o : Opened) (w : Open
   abbrev x : Call
   x = makingSegment current segment size hb
 
-  pub new-segment-refused : (n ≡ 0 → ⊥) → returned n zeroHandle zeroHandle 0 0 [] b m ≡ exported x b m
+  pub new-segment-refused : (n ≡ 0 → ⊥) → returned n noBytes noBytes 0 0 [] b m ≡ exported x b m
   new-segment-refused t =
       same-silent b m (o .sound) (w .sound) (w .whole) held x m (numberAlone n) []
       (segment-refused (storeIn b) m hb current segment size true (o .handle) (o .cluster) (given-of b m hb o w held) n en t)
@@ -43,7 +43,7 @@ module _ (b m hb : List ℕ) (current segment size : ℕ) (o : Opened) (w : Open
       → placedBy f ≡ placement (tableAt s) (nodeOf (o .handle)) size
       → ended (put (o .handle) (l .cluster) s) after (l .answer) [] ≡ aesStep (makingSegment i segment size d) (copyOf s m))
       → (image : List ℕ) → Kept l (o .at) b image
-      → returned (l .answer .number) zeroHandle zeroHandle 0 0 [] image after ≡ exported x b m
+      → returned (l .answer .number) noBytes noBytes 0 0 [] image after ≡ exported x b m
   new-segment-kept z v ev f ef after l core image k =
       kept-silent b m (o .sound) (w .sound) (w .whole) held x (o .at) (recordFound (o .handle)) (w .at) l after
       (core true (storeIn b) hb current (given-of b m hb o w held) (sym en ∙ z)

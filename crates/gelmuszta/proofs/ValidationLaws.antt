@@ -25,7 +25,7 @@ use Rattle.store.specs.Records.{clusterAt, recordAt}
 use Rattle.store.specs.Sound.{sound}
 use Rattle.calls.specs.Calls.{Copy, Call, Arguments, call, validate, validating}
 use Rattle.calls.specs.Numbers.{number, unsound}
-use Rattle.calls.specs.Steps.{Outcome, zeroHandle, left as lefts, outcome, step, aesStep}
+use Rattle.calls.specs.Steps.{Outcome, noBytes, left as lefts, outcome, step, aesStep}
 use Rattle.calls.specs.Answers.{copyOf}
 use Rattle.refusals.specs.Given.{Given, recordFound}
 use Rattle.image.specs.Parts.{slot}
@@ -102,10 +102,10 @@ validate-leaves g c = go (number product (call validate g) (c .store) (length (c
 pub validate-told : (b m : List ℕ) (mode : ℕ) (hb : List ℕ) (o : Opened) → Opens o b (length m) hb → (n : ℕ)
     → ((s : Store) (k d : List ℕ) → Given (o .sound) (o .handle) (o .cluster) s k d
     → n ≡ aesStep (validating mode d) (copyOf s k) .reply .number)
-    → returned n zeroHandle zeroHandle 0 0 [] b m ≡ exported (validating mode hb) b m
+    → returned n noBytes noBytes 0 0 [] b m ≡ exported (validating mode hb) b m
 unfolding exported
 validate-told b m mode hb o w n core =
-    ap (λ (k : ℕ). returned k zeroHandle zeroHandle 0 0 [] b m)
+    ap (λ (k : ℕ). returned k noBytes noBytes 0 0 [] b m)
     (number-told (o .sound) b mode m (w .sound) hb (o .handle) (w .handle) (o .cluster) (w .cluster) n core)
     ∙ go (good b) refl
   where
@@ -116,9 +116,9 @@ validate-told b m mode hb o w n core =
     left = aesStep x (copyOf (storeIn b) m)
 
     go : (g : Bool) → good b ≡ g
-        → returned (picked x b m (good b) .reply .number) zeroHandle zeroHandle 0 0 [] b m ≡ picked x b m (good b)
+        → returned (picked x b m (good b) .reply .number) noBytes noBytes 0 0 [] b m ≡ picked x b m (good b)
     go true eg =
-        ap (λ (u : Bool). returned (picked x b m u .reply .number) zeroHandle zeroHandle 0 0 [] b m) eg
+        ap (λ (u : Bool). returned (picked x b m u .reply .number) noBytes noBytes 0 0 [] b m) eg
         ∙ (λ j.
         record {
           reply = silent-known x (copyOf (storeIn b) m) (validate-silent (x .args)) j;
@@ -127,7 +127,7 @@ validate-told b m mode hb o w n core =
         })
         ∙ sym (ap (picked x b m) eg)
     go false eg =
-        ap (λ (u : Bool). returned (picked x b m u .reply .number) zeroHandle zeroHandle 0 0 [] b m) eg
+        ap (λ (u : Bool). returned (picked x b m u .reply .number) noBytes noBytes 0 0 [] b m) eg
         ∙ sym (ap (picked x b m) eg)
 
 -- ---- the loop

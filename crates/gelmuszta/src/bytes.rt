@@ -7,7 +7,7 @@ use numbers::UNSOUND;
 ghost use mathlib.Core.Path.{_≡_};
 ghost use mathlib.Core.List.{[]};
 ghost use Rattle.calls.specs.Calls as calls;
-ghost use Rattle.calls.specs.Steps.{zeroHandle};
+ghost use Rattle.calls.specs.Steps.{noBytes};
 ghost use lib.ListN as lists;
 ghost use Rattle.gelmuszta.specs.Exported.{returned, showing, exported, partFrom, exportedPart};
 
@@ -21,7 +21,7 @@ pub extern "C" fn gelmuszta_new_segment(
     size: usize,
     handle: &HandleBytes,
 ) -> u8
-    ensures { λ r. ⌜ returned r zeroHandle zeroHandle 0 0 [] (now (image .exit)) (now (memory .exit))
+    ensures { λ r. ⌜ returned r noBytes noBytes 0 0 [] (now (image .exit)) (now (memory .exit))
         ≡ exported (calls.makingSegment current segment size (now (handle .entry))) (now (image .entry)) (now (memory .entry)) ⌝ }
 {
     let h = *handle;
@@ -52,7 +52,7 @@ pub extern "C" fn gelmuszta_read(
     buffer: &mut [u8],
     length: &mut usize,
 ) -> u8
-    ensures { λ r. ⌜ returned r zeroHandle zeroHandle 0 (now (length .exit)) (now (buffer .exit)) (now (image .entry)) (now (memory .entry))
+    ensures { λ r. ⌜ returned r noBytes noBytes 0 (now (length .exit)) (now (buffer .exit)) (now (image .entry)) (now (memory .entry))
         ≡ exported (calls.reading segment (now (handle .entry)) (now (buffer .entry))) (now (image .entry)) (now (memory .entry)) ⌝ }
 {
     let h = *handle;
@@ -76,7 +76,7 @@ pub extern "C" fn gelmuszta_write(
     handle: &HandleBytes,
     written: &[u8],
 ) -> u8
-    ensures { λ r. ⌜ returned r zeroHandle zeroHandle 0 0 (now (written .entry)) (now (image .entry)) (now (memory .exit))
+    ensures { λ r. ⌜ returned r noBytes noBytes 0 0 (now (written .entry)) (now (image .entry)) (now (memory .exit))
         ≡ exported (calls.writing segment (now (handle .entry)) (now (written .entry))) (now (image .entry)) (now (memory .entry)) ⌝ }
 {
     let h = *handle;

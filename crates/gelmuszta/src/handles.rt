@@ -10,7 +10,7 @@ ghost use mathlib.Core.Path.{_≡_};
 ghost use mathlib.Core.List.{[]};
 ghost use Rattle.handle.specs.Conversion.{conversion};
 ghost use Rattle.calls.specs.Calls as calls;
-ghost use Rattle.calls.specs.Steps.{zeroHandle};
+ghost use Rattle.calls.specs.Steps.{noBytes};
 ghost use Rattle.gelmuszta.specs.Exported.{replyOf, returned, exported, Always};
 
 // The password that a parameter turns a password into.
@@ -33,7 +33,7 @@ pub extern "C" fn gelmuszta_weaken(
     count: &mut u8,
 ) -> u8
     ensures { λ r. ⌜ Always (calls.weakeningBy mask (now (handle .entry)))
-        (replyOf r (now (given .exit)) zeroHandle (now (count .exit)) 0 []) ⌝ }
+        (replyOf r (now (given .exit)) noBytes (now (count .exit)) 0 []) ⌝ }
 {
     let h = *handle;
     let answer = cluster::weaken(h, mask);
@@ -52,7 +52,7 @@ pub extern "C" fn gelmuszta_reduce(
     handle: &HandleBytes,
     given: &mut HandleBytes,
 ) -> u8
-    ensures { λ r. ⌜ returned r (now (given .exit)) zeroHandle 0 0 [] (now (image .entry)) (now (memory .entry))
+    ensures { λ r. ⌜ returned r (now (given .exit)) noBytes 0 0 [] (now (image .entry)) (now (memory .entry))
         ≡ exported (calls.reducing mode (now (handle .entry))) (now (image .entry)) (now (memory .entry)) ⌝ }
 {
     let h = *handle;
@@ -78,7 +78,7 @@ pub extern "C" fn gelmuszta_join(
     other: &HandleBytes,
     given: &mut HandleBytes,
 ) -> u8
-    ensures { λ r. ⌜ returned r (now (given .exit)) zeroHandle 0 0 [] (now (image .entry)) (now (memory .entry))
+    ensures { λ r. ⌜ returned r (now (given .exit)) noBytes 0 0 [] (now (image .entry)) (now (memory .entry))
         ≡ exported (calls.joining mode (now (handle .entry)) (now (other .entry))) (now (image .entry)) (now (memory .entry)) ⌝ }
 {
     let h = *handle;

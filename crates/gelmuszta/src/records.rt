@@ -10,7 +10,7 @@ use sizes::Password;
 ghost use mathlib.Core.Path.{_≡_};
 ghost use mathlib.Core.List.{[]};
 ghost use Rattle.calls.specs.Calls as calls;
-ghost use Rattle.calls.specs.Steps.{zeroHandle};
+ghost use Rattle.calls.specs.Steps.{noBytes};
 ghost use Rattle.gelmuszta.specs.Exported.{returned, exported};
 
 // Call 1: a cluster of the current node becomes active; its read and its write primary handle.
@@ -55,7 +55,7 @@ pub extern "C" fn gelmuszta_delete_cluster(
     current: usize,
     handle: &HandleBytes,
 ) -> u8
-    ensures { λ r. ⌜ returned r zeroHandle zeroHandle 0 0 [] (now (image .exit)) (now (memory .entry))
+    ensures { λ r. ⌜ returned r noBytes noBytes 0 0 [] (now (image .exit)) (now (memory .entry))
         ≡ exported (calls.deletingCluster current (now (handle .entry))) (now (image .entry)) (now (memory .entry)) ⌝ }
 {
     let h = *handle;
@@ -79,7 +79,7 @@ pub extern "C" fn gelmuszta_delete_segment(
     segment: usize,
     handle: &HandleBytes,
 ) -> u8
-    ensures { λ r. ⌜ returned r zeroHandle zeroHandle 0 0 [] (now (image .exit)) (now (memory .entry))
+    ensures { λ r. ⌜ returned r noBytes noBytes 0 0 [] (now (image .exit)) (now (memory .entry))
         ≡ exported (calls.deletingSegment current segment (now (handle .entry))) (now (image .entry)) (now (memory .entry)) ⌝ }
 {
     let h = *handle;
@@ -104,7 +104,7 @@ pub extern "C" fn gelmuszta_new_password(
     password: &Password,
     given: &mut HandleBytes,
 ) -> u8
-    ensures { λ r. ⌜ returned r (now (given .exit)) zeroHandle 0 0 [] (now (image .exit)) (now (memory .entry))
+    ensures { λ r. ⌜ returned r (now (given .exit)) noBytes 0 0 [] (now (image .exit)) (now (memory .entry))
         ≡ exported (calls.renewing mode (now (handle .entry)) (now (password .entry))) (now (image .entry)) (now (memory .entry)) ⌝ }
 {
     let h = *handle;
@@ -132,7 +132,7 @@ pub extern "C" fn gelmuszta_freeze(
     segment: usize,
     handle: &HandleBytes,
 ) -> u8
-    ensures { λ r. ⌜ returned r zeroHandle zeroHandle 0 0 [] (now (image .exit)) (now (memory .entry))
+    ensures { λ r. ⌜ returned r noBytes noBytes 0 0 [] (now (image .exit)) (now (memory .entry))
         ≡ exported (calls.freezing current segment (now (handle .entry))) (now (image .entry)) (now (memory .entry)) ⌝ }
 {
     let h = *handle;

@@ -12,7 +12,7 @@ ghost use lib.ListN.{length};
 ghost use Rattle.aes.specs.Tables.{IsTables};
 ghost use Rattle.handle.specs.Sizes.{handleBytes};
 ghost use Rattle.calls.specs.Calls as calls;
-ghost use Rattle.calls.specs.Steps.{zeroHandle};
+ghost use Rattle.calls.specs.Steps.{noBytes};
 ghost use Rattle.gelmuszta.specs.Exported.{returned, exported};
 ghost use Rattle.gelmuszta.specs.Validation as spec;
 
@@ -24,7 +24,7 @@ pub extern "C" fn gelmuszta_validate(
     mode: usize,
     handle: &HandleBytes,
 ) -> u8
-    ensures { λ r. ⌜ returned r zeroHandle zeroHandle 0 0 [] (now (image .entry)) (now (memory .entry))
+    ensures { λ r. ⌜ returned r noBytes noBytes 0 0 [] (now (image .entry)) (now (memory .entry))
         ≡ exported (calls.validating mode (now (handle .entry))) (now (image .entry)) (now (memory .entry)) ⌝ }
 {
     let tables = aes::tables();

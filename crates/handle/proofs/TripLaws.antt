@@ -18,8 +18,8 @@ use Rattle.sizes.specs.Sizes.{passwordBytes}
 use Rattle.handle.specs.Sizes.{subselectors, nodeBytes, localAt, passwordAt, selectorAt}
 use Rattle.handle.specs.Widths.{bitsOf, selectorBytes, lengthOf, mostBytes, halves, packed, unpacked}
 use Rattle.handle.specs.Selectors.{Within}
-use Rattle.handle.specs.Handles.{encoded, bytesIn, laid, decoded, noHandle, Holdable}
-use Rattle.handle.proofs.CodecLaws.{elements, listed, elementsFrom, handleOf}
+use Rattle.handle.specs.Handles.{encodedAs, encoded, bytesIn, laid, decodedAs, decoded, noHandle, Holdable}
+use Rattle.handle.proofs.CodecLaws.{elements, listed, elementsFrom, handleOf, width-cases}
 
 -- ---- the round trips of selectors
 
@@ -163,3 +163,39 @@ bytes-laid b = take-append-seam b (replicate (mostBytes - length b) 0)
 pub encoded-none : encoded noHandle ≡ []
 unfolding encoded
 encoded-none = refl
+
+-- the handle that a reply gives is read back from it
+pub read-laid : (h : Handle) → Holdable h → decoded (bytesIn (laid (encoded h))) ≡ h
+read-laid h o = ap decoded (bytes-laid (encoded h)) ∙ decode-encode h o
+
+-- ---- lengths
+
+-- the handle with a password in the place of its own
+abbrev passing : Handle → List ℕ → Handle
+passing h p = handleOf (h .node) (h .local) p (h .width) (h .selector)
+
+spelled-length : (v : Width) (h : Handle) → length (h .password) ≡ passwordBytes → length (encodedAs v h) ≡ lengthOf v
+unfolding bytes packed tabulate
+spelled-length None h e = refl
+spelled-length Four h e = ap (λ (p : List ℕ). length (encodedAs Four (passing h p))) (listed passwordBytes (h .password) e)
+spelled-length Eight h e = ap (λ (p : List ℕ). length (encodedAs Eight (passing h p))) (listed passwordBytes (h .password) e)
+spelled-length Sixteen h e =
+    ap (λ (p : List ℕ). length (encodedAs Sixteen (passing h p))) (listed passwordBytes (h .password) e)
+
+-- the bytes of a handle are as many as its width has
+pub length-encoded : (h : Handle) → Holdable h → length (encoded h) ≡ lengthOf (h .width)
+unfolding encoded
+length-encoded h o = spelled-length (h .width) h (o .password)
+
+-- and so are those that a handle is read from
+pub length-decoded : (b : List ℕ) → 0 < bitsOf (decoded b .width) → length b ≡ lengthOf (decoded b .width)
+unfolding decoded
+length-decoded b =
+    width-cases (λ v. 0 < bitsOf (decodedAs v b .width) → length b ≡ lengthOf (decodedAs v b .width)) (length b)
+    (λ l. absurd (omega arith)) other
+  where
+    other : (v : Width) → length b ≡ lengthOf v → 0 < bitsOf (decodedAs v b .width) → length b ≡ lengthOf (decodedAs v b .width)
+    other None e l = absurd (omega arith)
+    other Four e l = e
+    other Eight e l = e
+    other Sixteen e l = e

@@ -2,7 +2,7 @@
 -- Assumes nothing.
 use Prim.Native.Nat.{ℕ, _≤_}
 use native.Mathlib.Omega.{arith}
-use mathlib.Core.Path.{_≡_, sym, ap, ap₂, _∙_}
+use mathlib.Core.Path.{_≡_, refl, sym, ap, ap₂, _∙_}
 use mathlib.Core.Bool.{Bool, true, false}
 use lib.Dec.{eqb}
 use borrow.Author.Tests.{eq-eqb, ne-eqb}
@@ -77,3 +77,22 @@ module _ (w : ℕ) where
           sym
           (ap₂ (λ (a b : Bool). chosen a b (eqb w 16)) (ne-eqb w 4 n4) (ne-eqb w 8 n8)
           ∙ ap last (ne-eqb w 16 e))
+
+-- widths of as many bits are one
+pub bits-same : (v u : Width) → bitsOf v ≡ bitsOf u → v ≡ u
+bits-same None None e = refl
+bits-same None Four e = absurd (omega arith)
+bits-same None Eight e = absurd (omega arith)
+bits-same None Sixteen e = absurd (omega arith)
+bits-same Four None e = absurd (omega arith)
+bits-same Four Four e = refl
+bits-same Four Eight e = absurd (omega arith)
+bits-same Four Sixteen e = absurd (omega arith)
+bits-same Eight None e = absurd (omega arith)
+bits-same Eight Four e = absurd (omega arith)
+bits-same Eight Eight e = refl
+bits-same Eight Sixteen e = absurd (omega arith)
+bits-same Sixteen None e = absurd (omega arith)
+bits-same Sixteen Four e = absurd (omega arith)
+bits-same Sixteen Eight e = absurd (omega arith)
+bits-same Sixteen Sixteen e = refl

@@ -77,7 +77,7 @@ module _ (f : Name → List ℕ → ℕ → List ℕ) where
   primary-valid n mode p s hn hl hp e =
       ap (λ (h : Handle). valid f mode h s) (primary-back n p hn hl hp)
       ∙ equal-validates segments (f n) h _
-      (ap (through segments (f n) (flats segments)) e ∙ opens-primary segments (f n) n p .valid)
+      (ap (through segments (f n) (flats 8)) e ∙ opens-primary segments (f n) n p .valid)
     where
       h : Handle
       h = primaryHandle segments n p
