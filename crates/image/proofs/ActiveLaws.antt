@@ -9,7 +9,7 @@ use native.Mathlib.Omega.{arith}
 use native.Mathlib.Decide.{decLt}
 use mir.Syntax.{w8}
 use mir.Val.{Fits}
-use lib.Dec.{ltb, eqb}
+use lib.Dec.{eqb}
 use lib.ListN.{length, getD, replicate, length-replicate, getD-replicate}
 use lib.Seq.{ext-getD}
 use borrow.Author.Tests.{eqb-true, lt-ltb, le-ltb, not-true, not-false}
@@ -24,7 +24,7 @@ use Rattle.store.specs.declared.Place.the-variants.{Absent}
 use Rattle.store.specs.declared.Segment.{Segment}
 use Rattle.store.specs.Records.{absentSegment, tableOf, segmentOf, placeOf}
 use Rattle.store.specs.Sound.{inRanges, endsInside, inside, isAbsent, soundMark, soundSegment, isWidth, soundWidth, allowed}
-use Rattle.store.specs.Sound.{idle, below, sized, settled}
+use Rattle.store.specs.Sound.{below, sized, settled}
 use Rattle.store.specs.inner.Passes.{Map, free, claimable, stamped, stampedBy, claims}
 use Rattle.store.proofs.SoundLaws.{settled-active, settled-width, sized-settled, sized-at, allowed-absent, allowed-below}
 use Rattle.image.specs.Parts.{part, slot}
