@@ -8,7 +8,7 @@ use native.Mathlib.Omega.{arith}
 use mathlib.Core.Path.{_≡_, refl, sym, ap, ap₂, _∙_, subst}
 use mathlib.Core.Bool.{Bool, true, false, not, _&&_, _||_, false≢true, and-true, and-false, or-false}
 use mathlib.Core.List.{List, [], _∷_}
-use lib.Dec.{eqb}
+use lib.Dec.{eqb, leb}
 use lib.Bits.{bitAnd, bitOr, and-le-l, and-le-r}
 use lib.Count.{ones, ones-le}
 use lib.ListN.{length, getD, set, drop, replicate}
@@ -276,3 +276,6 @@ refused-is n h e = λ j. record { number = n; handle = e j; count = 0 }
 
 pub code-width : (h : Handle) (b w : ℕ) → b ≡ widthOf h → eqb b w ≡ eqb (widthOf h) w
 code-width h b w e = ap (λ (n : ℕ). eqb n w) e
+
+pub code-beyond : (h : Handle) (b i : ℕ) → b ≡ widthOf h → leb b i ≡ leb (widthOf h) i
+code-beyond h b i e = ap (λ (n : ℕ). leb n i) e
