@@ -6,6 +6,7 @@ pub mod PasswordLaws
 pub mod CodecLaws
 pub mod TripLaws
 pub mod HeldLaws
+pub mod TripStatements
 pub mod CodeLaws
 pub mod WeakenLaws
 pub mod ExamplesHold
