@@ -10,6 +10,7 @@ pub mod TripStatements
 pub mod CodeLaws
 pub mod WeakenLaws
 pub mod ExamplesHold
+pub mod WidthCasesHold
 pub mod LiteralLaws
 pub mod WordLaws
 pub mod EmptyLaws
