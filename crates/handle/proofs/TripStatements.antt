@@ -1,5 +1,5 @@
--- Handles and bytes read back from each other, whatever the length; and 23 bytes are read and written as document 01 has it: a
--- byte of the selector is the number of one byte.
+-- Handles and bytes read back from each other, at every width and length. At 23 bytes a subselector is the number of one
+-- byte, so that the selector's bytes are its subselectors as they stand.
 -- Assumes nothing.
 use Prim.Native.Nat.{ℕ, _<_}
 use native.Mathlib.Omega.{arith}

@@ -1,5 +1,5 @@
 -- Document 01, "The handle", "Reduction" and "Weakening", and document 02, §5 and §8, in their own words and numbers: handles
--- of four subselectors and clusters of w segments, for every width w; of eight, 2 ^ w is 256 and all bits are 255. Nothing
+-- of four subselectors and clusters of w segments, for every width w; of 4, 8 and 16, all bits are 15, 255 and 65535. Nothing
 -- here is a test; `reduced`, `joined`, `weakened` and `referenced` are held to it.
 --     allBits w             a bit for each segment of the width: what a flat subselector is
 --     Bit i s               bit i of s is set, 0 the least
