@@ -17,10 +17,9 @@ use lib.Seq.{drop-cons}
 use mir.Val.{Fits}
 use mir.Syntax.{w8, w16}
 use borrow.Author.Tests.{eq-eqb, ne-eqb}
-use Rattle.bits.specs.Sets.{has, full, setOf}
+use Rattle.bits.specs.Sets.{has, full}
 use Rattle.bits.proofs.SetLaws.{setOf-lt, has-setOf, same-bits, ones-setOf, has-beyond}
 use Rattle.bits.proofs.OperationLaws.{has-and, has-or, has-full, full-lt, mask-test}
-use Rattle.bits.specs.Bytes.{bytes}
 use Rattle.bits.proofs.ByteLaws.{bytes-word16}
 use Rattle.loops.specs.Tabulate.{tabulate}
 use Rattle.aes.specs.Cipher.{cipher}
@@ -29,7 +28,7 @@ use Rattle.handle.specs.declared.Weakened.{Weakened}
 use Rattle.handle.specs.Conversion.{conversion}
 use Rattle.handle.specs.Sizes.{subselectors}
 use Rattle.handle.specs.Widths.{room}
-use Rattle.handle.specs.Selectors.{references, either, flat, allFlat, gapped, firstFlat, common, referenced, inFirst}
+use Rattle.handle.specs.Selectors.{references, either, allFlat, gapped, firstFlat, common, referenced}
 use Rattle.handle.specs.Selectors.{union, wholeUnion}
 use Rattle.handle.specs.Handles.{nodeOf, widthOf, sameName, noHandle, refusal, renewed, cut, samePassword, converted, through}
 use Rattle.handle.specs.Handles.{validates, made, reduced, joined}

@@ -1,12 +1,13 @@
--- Reduction, joining, weakening and the count in words. The definitions go along the row of subselectors and make sets of bits;
+-- Reduction, joining, weakening, its masks and the count in words. The definitions go along the row of subselectors and make sets of bits;
 -- a row of four tells of each of them, and a set has the bits that it was made of.
 -- Assumes nothing.
 use mathlib.Core.Path.{_≡_, refl, sym, ap, _∙_, subst}
 use mathlib.Core.Logic.{_≢_, _⊎_, inl, inr, _↔_}
-use Prim.Native.Nat.{ℕ, zero, suc, _+_, _^_, _<_}
+use Prim.Native.Nat.{ℕ, zero, suc, _+_, _-_, _^_, _<_}
 use native.Mathlib.Omega.{arith}
 use mathlib.Core.Bool.{Bool, true, false, not, _&&_, _||_, false≢true, or-true}
 use mathlib.Core.List.{List, [], _∷_}
+use lib.Dec.{eqb}
 use lib.ListN.{length, getD, set, length-set}
 use lib.Seq.{getD-set-same, getD-set-other}
 use borrow.Author.Tests.{eqb-true, eq-eqb, ne-eqb}
@@ -14,13 +15,14 @@ use Rattle.bits.specs.Sets.{has, full, one, setOf, count}
 use Rattle.bits.proofs.SetLaws.{setOf-lt, has-setOf, setOf-same, count-none}
 use Rattle.loops.proofs.BelowLaws.{and-left, and-right, and-both, test-off}
 use Rattle.handle.specs.declared.Handle.{Handle}
-use Rattle.handle.specs.Selectors.{references, excludes, either, flat, allFlat, firstFlat, keepsAll, parameter}
-use Rattle.handle.specs.Handles.{renewed, made, reduced, joined}
+use Rattle.handle.specs.Selectors.{references, excludes, keeps, either, flat, allFlat, anyFlat, gapped}
+use Rattle.handle.specs.Selectors.{firstFlat, keepsAll, keepsNone, parameter, referenced}
+use Rattle.handle.specs.Handles.{renewed, cut, noWidth, noSuchPlace, reply, weakenNumber, weakened, made}
+use Rattle.handle.specs.Handles.{reduced, joined, weakening}
 use Rattle.handle.specs.Words.{Bit, subselector, Four, References, Excluded, Holding, ReducedInWords}
-use Rattle.handle.specs.Words.{JoinedInWords, sum}
-use Rattle.handle.specs.Words.{Cut, WeakenedInWords, CountInWords}
+use Rattle.handle.specs.Words.{JoinedInWords, Cut, WeakenedInWords, MaskInWords, sum, CountInWords}
 use Rattle.handle.proofs.SelectorLaws.{first-here, first-past, has-parameter, parameter-lt, keeps-each}
-use Rattle.handle.proofs.HandleLaws.{weakened-cases, reduced-cases}
+use Rattle.handle.proofs.HandleLaws.{telling, weakened-cases, reduced-cases}
 
 -- ---- one bit, and a row of subselectors
 
@@ -220,6 +222,55 @@ module _ (w : ℕ) where
                 subst (λ (k : ℕ). Cut w f mask h j (renewed h (f (h .password) v) (set ss k v)))
                 (sym (first-is ss j (rw e a) q b)) (cut-at j a));
           }
+
+  -- ---- masks with the same bits below the width
+
+  module _ (m n : ℕ) (same : (i : ℕ) → i < w → Bit i m ↔ Bit i n) where
+    same-bit : (i : ℕ) → i < w → has i m ≡ has i n
+    same-bit i l =
+        go (has i m) (has i n) (λ q. bit-in i n (same i l .0 (bit-out i m q))) (λ q. bit-in i m (same i l .1 (bit-out i n q)))
+      where
+        go : (a b : Bool) → (a ≡ true → b ≡ true) → (b ≡ true → a ≡ true) → a ≡ b
+        go true b p q = sym (p refl)
+        go false true p q = q refl
+        go false false p q = refl
+
+    module _ (ss : List ℕ) where
+      same-excluded : setOf w (excludes m ss) ≡ setOf w (excludes n ss)
+      same-excluded =
+          setOf-same w (excludes m ss) (excludes n ss) (λ i l. ap (λ (b : Bool). references ss i && not b) (same-bit i l))
+
+      same-kept : setOf w (keeps m ss) ≡ setOf w (keeps n ss)
+      same-kept = setOf-same w (keeps m ss) (keeps n ss) (λ i l. ap (λ (b : Bool). references ss i && b) (same-bit i l))
+
+      same-all : keepsAll w m ss ≡ keepsAll w n ss
+      same-all =
+          count-none w (excludes m ss) ∙ ap (λ (x : ℕ). eqb x 0) same-excluded ∙ sym (count-none w (excludes n ss))
+
+      same-none : keepsNone w m ss ≡ keepsNone w n ss
+      same-none = count-none w (keeps m ss) ∙ ap (λ (x : ℕ). eqb x 0) same-kept ∙ sym (count-none w (keeps n ss))
+
+    module _ (f : List ℕ → ℕ → List ℕ) (h : Handle) where
+      same-number : weakenNumber w h m ≡ weakenNumber w h n
+      unfolding weakenNumber
+      same-number j =
+          telling (noWidth h) (noSuchPlace h) (gapped w (h .selector)) (same-none (h .selector) j)
+          (not (same-all (h .selector) j) && not (anyFlat w (h .selector)))
+
+      same-weakened : weakened w f h m ≡ weakened w f h n
+      unfolding weakened
+      same-weakened j =
+          elim (same-all (h .selector) j) [
+            | true ↦ h
+            | false ↦ cut f h (firstFlat w (h .selector)) (full w - same-excluded (h .selector) j)
+          ]
+
+      same-weakening : weakening w f h m ≡ weakening w f h n
+      unfolding weakening
+      same-weakening j = reply (same-number j) (same-weakened j) (referenced w (same-weakened j .selector))
+
+  pub mask-in-words : (f : List ℕ → ℕ → List ℕ) (h : Handle) → MaskInWords w f h
+  mask-in-words f h m n same = same-weakening m n same f h
 
   -- ---- joining
 

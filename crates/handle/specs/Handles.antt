@@ -10,7 +10,8 @@
 --     laid b             the bytes b with their length, in an array of the longest handle's bytes that ends in zeros
 --     written h          the bytes of h so laid out
 --     bytesIn a          the bytes that such an array and its length hold
---     Holdable h         h has a width; node, local number and subselectors fit in their bytes; the password has sixteen
+--     Holdable h         h has a width; node and local number fit in their bytes, and the four subselectors in the width;
+--                        the password has sixteen bytes
 --     samePassword a b   the sixteen bytes of a are those of b
 --     renewed h p ss     the name and the width of h, with the password p and the selector ss
 -- Weakening's numbers and replies:

@@ -5,6 +5,7 @@ pub mod Handles
 pub mod Conversion
 pub mod Opens
 pub mod Examples
+pub mod WidthCases
 pub mod Literals
 pub mod Trips
 pub mod Words

@@ -4,8 +4,8 @@
 --     Whole h              h has four subselectors, and none has a bit at or above the width
 --     Opens n p r h        h has the name n and the width w, is whole and ungapped, validates from the primary password
 --                          p, and references exactly the segments that r gives
--- A number of 256 or more can have all eight bits of 255 without being flat, so the laws ask for whole handles; any bytes
--- hold one.
+-- A number with a bit at or above the width can have all bits below it without being flat, so the laws ask for whole
+-- handles; any bytes hold one.
 -- Assumes nothing.
 use Prim.Native.Nat.{ℕ, _<_}
 use mathlib.Core.Path.{_≡_}

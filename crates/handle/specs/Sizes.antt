@@ -1,4 +1,4 @@
--- Document 01, "The handle": the bytes of a handle.
+-- Document 01, "The handle": the bytes of a handle up to its selector, which all widths have alike.
 --     nodeBytes        the bytes of its node, which come first
 --     localAt, passwordAt, selectorAt    where the local number, the password and the selector begin
 --     subselectors     the subselectors of a selector

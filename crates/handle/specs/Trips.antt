@@ -1,11 +1,11 @@
--- Mission, condition 2, "its 23 bytes read back as the handle they were written from", which document 02, §8, makes 21 or 27
--- with the width: handles and bytes, each read back from the other. And that at 23 bytes all is as document 01 has it.
+-- Mission, condition 2, as far as it speaks of a handle's bytes, at the three lengths that document 02, §8, gives them:
+-- handles and bytes, each read back from the other. And that at 23 bytes all is as document 01 has it.
 --     OfWidth n          n is the length of a handle: 21, 23 or 27
 --     RoundTrips         handle: what can be written is read back from its bytes, of every width
 --                        bytes: bytes with the length of a handle are those of the handle that they hold
 --                        other: bytes of any other length hold no handle
 --                        none: no handle has no bytes
---                        reply: what a reply holds of some bytes and their length are these bytes
+--                        reply: bytes laid out in a reply with their length are there, as many as it tells
 --     AsBefore           of 23 bytes: the handle read is node, local number, password and the last four bytes as they stand; a
 --                        handle of width 8 is written so; flat is 255; and a parameter below 256 is the last of sixteen
 --                        bytes, after fifteen zeros

@@ -1,5 +1,5 @@
 -- Document 01, "The handle", "Reduction" and "Weakening", and document 02, §5 and §8, in their own words and numbers: handles
--- of four subselectors and clusters of w segments, for every width w; of eight, 2 ^ w is 256 and all bits are 255. Nothing
+-- of four subselectors and clusters of w segments, for every width w; of 4, 8 and 16, all bits are 15, 255 and 65535. Nothing
 -- here is a test; `reduced`, `joined`, `weakened` and `referenced` are held to it.
 --     allBits w             a bit for each segment of the width: what a flat subselector is
 --     Bit i s               bit i of s is set, 0 the least
@@ -16,6 +16,7 @@
 --                           is that of h through f with this number
 --     WeakenedInWords       what weakening makes, where it is not refused: if none is excluded the handle as it came;
 --                           otherwise it is cut at the first subselector that has all bits
+--     MaskInWords           masks that have the same bits below the width weaken h alike: the reply is the same as a whole
 --     sum n f               f 0 + .. + f (n - 1)
 --     CountInWords          the count has 1 for each segment that is referenced, and nothing for the others
 -- Assumes nothing.
@@ -26,7 +27,7 @@ use mathlib.Core.List.{List}
 use lib.ListN.{length, getD}
 use Rattle.handle.specs.declared.Handle.{Handle}
 use Rattle.handle.specs.Selectors.{referenced}
-use Rattle.handle.specs.Handles.{weakened, reduced, joined}
+use Rattle.handle.specs.Handles.{weakened, reduced, joined, weakening}
 
 abbrev pub Bit : ℕ → ℕ → Type 0
 Bit i s = s / 2 ^ i % 2 ≡ 1
@@ -87,6 +88,10 @@ module _ (w : ℕ) where
       pub kept : ((i : ℕ) → i < w → ¬ Excluded h mask i) → weakened w f h mask ≡ h
       pub cut : (i : ℕ) → i < w → Excluded h mask i → (j : ℕ) → j < 4 → subselector h j ≡ allBits w
           → ((k : ℕ) → k < j → subselector h k ≢ allBits w) → Cut mask h j (weakened w f h mask)
+
+    abbrev pub MaskInWords : Handle → Type 0
+    MaskInWords h =
+        (m n : ℕ) → ((i : ℕ) → i < w → Bit i m ↔ Bit i n) → weakening w f h m ≡ weakening w f h n
 
   pub record CountInWords (h : Handle) : Type 0 where
     pub ones : ℕ → ℕ

@@ -2,13 +2,16 @@
 use crate::HANDLE_BYTES;
 use crate::Handle;
 use crate::HandleBytes;
+use crate::LARGE;
+use crate::MIDDLE;
+use crate::SMALL;
 use crate::SUBSELECTORS;
 use crate::Width;
 use bits::BYTE;
 use sizes::PASSWORD_BYTES;
 use sizes::Password;
 ghost use mathlib.Core.Path.{_≡_};
-ghost use mathlib.Core.List.{_∷_, []};
+ghost use mathlib.Core.List.{[]};
 ghost use lib.ListN.{length};
 ghost use Prim.Native.Nat.{_≤_, _/_, _%_};
 ghost use Rattle.handle.specs.Sizes.{selectorAt};
@@ -16,15 +19,10 @@ ghost use Rattle.handle.specs.Widths as widths;
 ghost use Rattle.handle.specs.Handles as spec;
 ghost use Rattle.handle.specs.Opens.{primaryBytes};
 
+// The numbers that half a byte has room for.
 const HALF: u16 = 16;
 
-// How many bytes the handles of the widths have.
-const SMALL: usize = 21;
-
-const MIDDLE: usize = 23;
-
-const LARGE: usize = 27;
-
+// The byte as a wider number.
 fn wide(byte: u8) -> u16
     ensures { λ r. ⌜ r ≡ byte ⌝ }
 {
@@ -216,7 +214,7 @@ fn halves(a: u16, b: u16) -> u8
     (a % HALF + b % HALF * HALF) as u8
 }
 
-// The bytes of the primary handle of a cluster with a password.
+// The bytes of the primary handle, with a password, of a cluster of a width.
 pub fn primary_bytes(width: Width, node: u16, local: u8, password: Password) -> HandleBytes
     ensures { λ r. ⌜ r ≡ spec.laid (primaryBytes width node local password) ⌝ }
 {

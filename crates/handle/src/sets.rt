@@ -57,7 +57,7 @@ impl Handle {
         (ours | theirs) & width.full()
     }
 
-    // Whether these are all segments.
+    // Whether these are all of the width.
     pub fn whole_union(self, other: Handle) -> bool
         ensures { λ r. ⌜ r ≡ sel.wholeUnion (spec.widthOf self) (self .selector) (other .selector) ⌝ }
     {

@@ -1,10 +1,9 @@
+-- A flat subselector is skipped; any other is converted.
+-- Assumes nothing.
 use Rattle.handle.proofs.CodeLaws.{converted-flat, converted-other}
 use borrow.Author.Needs.{needs}
 use Rattle.handle.proofs.converted_with.Statement.{statement}
 use Rattle.handle.proofs.converted_with.Tie as tie
-use Rattle.handle.proofs.converted_with.Reads as reads
-use Rattle.handle.proofs.Width.full.Reads as full-reads
-use Rattle.handle.proofs.convert_with.Reads as convert-with-reads
 
 returns : tie.Need-returns
 returns c = search (needs, converted-flat)

@@ -1,10 +1,10 @@
+-- The count of ones is that of the segments, and no width has more than sixteen.
+-- Assumes nothing.
 use Rattle.handle.proofs.CodeLaws.{count-fits, code-count}
 use Rattle.handle.proofs.WidthLaws.{bits-le}
 use borrow.Author.Needs.{needs}
 use Rattle.handle.proofs.Handle.count.Statement.{statement}
 use Rattle.handle.proofs.Handle.count.Tie as tie
-use Rattle.handle.proofs.Handle.count.Reads as reads
-use Rattle.handle.proofs.Handle.common.Reads as common-reads
 
 cast-result : tie.Need-cast-result
 cast-result c = search (needs, count-fits, bits-le)

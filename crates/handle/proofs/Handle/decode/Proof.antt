@@ -1,11 +1,9 @@
+-- A return for each length, and one for every other: the bytes read are those of the definition.
+-- Assumes nothing.
 use Rattle.handle.proofs.CodecLaws.{decoded-four, decoded-eight, decoded-sixteen, decoded-none}
 use borrow.Author.Needs.{needs}
 use Rattle.handle.proofs.Handle.decode.Statement.{statement}
 use Rattle.handle.proofs.Handle.decode.Tie as tie
-use Rattle.handle.proofs.Handle.decode.Reads as reads
-use Rattle.handle.proofs.Handle.none.Reads as none-reads
-use Rattle.handle.proofs.Handle.with.Reads as with-reads
-use Rattle.handle.proofs.codec.wide.Reads as wide-reads
 
 returns : tie.Need-returns
 returns c = search (needs, decoded-four)

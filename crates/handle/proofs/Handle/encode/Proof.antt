@@ -1,12 +1,9 @@
+-- A return for each width: the bytes of the selector, zeros after them, and the rest as it is laid out.
+-- Assumes nothing.
 use Rattle.handle.proofs.CodecLaws.{written-none, written-four, written-eight, written-sixteen}
 use borrow.Author.Needs.{needs}
 use Rattle.handle.proofs.Handle.encode.Statement.{statement}
 use Rattle.handle.proofs.Handle.encode.Tie as tie
-use Rattle.handle.proofs.Handle.encode.Reads as reads
-use Rattle.handle.proofs.Handle.laid.Reads as laid-reads
-use Rattle.handle.proofs.codec.halves.Reads as halves-reads
-use Rattle.handle.proofs.codec.high.Reads as high-reads
-use Rattle.handle.proofs.codec.low.Reads as low-reads
 
 returns : tie.Need-returns
 returns c = search (needs, written-none)

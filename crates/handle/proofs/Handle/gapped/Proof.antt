@@ -1,9 +1,9 @@
+-- The three places below the last one, each looked at with all that stand above it.
+-- Assumes nothing.
 use Rattle.handle.proofs.CodeLaws.{code-gapped}
 use borrow.Author.Needs.{needs}
 use Rattle.handle.proofs.Handle.gapped.Statement.{statement}
 use Rattle.handle.proofs.Handle.gapped.Tie as tie
-use Rattle.handle.proofs.Handle.gapped.Reads as reads
-use Rattle.handle.proofs.Width.full.Reads as full-reads
 
 returns : tie.Need-returns
 returns c = search (needs, code-gapped)

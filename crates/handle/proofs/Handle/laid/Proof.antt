@@ -1,3 +1,5 @@
+-- Two bytes of the node, and the rest one by one.
+-- Assumes nothing.
 use Rattle.handle.proofs.CodecLaws.{laid-is}
 use Rattle.loops.specs.Tabulate.{tabulate}
 use borrow.Author.Needs.{needs}

@@ -1,9 +1,9 @@
+-- Four conversions, one after the other.
+-- Assumes nothing.
 use Rattle.handle.proofs.CodeLaws.{code-opened}
 use borrow.Author.Needs.{needs}
 use Rattle.handle.proofs.Handle.opened_with.Statement.{statement}
 use Rattle.handle.proofs.Handle.opened_with.Tie as tie
-use Rattle.handle.proofs.Handle.opened_with.Reads as reads
-use Rattle.handle.proofs.converted_with.Reads as converted-with-reads
 
 returns : tie.Need-returns
 returns c = search (needs, code-opened)

@@ -1,9 +1,9 @@
+-- All four are flat.
+-- Assumes nothing.
 use Rattle.handle.proofs.CodeLaws.{code-primary}
 use borrow.Author.Needs.{needs}
 use Rattle.handle.proofs.Handle.primary.Statement.{statement}
 use Rattle.handle.proofs.Handle.primary.Tie as tie
-use Rattle.handle.proofs.Handle.primary.Reads as reads
-use Rattle.handle.proofs.Width.full.Reads as full-reads
 
 returns : tie.Need-returns
 returns c = search (needs, code-primary)

@@ -1,9 +1,6 @@
 -- Test by test, in the order of the rows.
 -- Assumes nothing.
 use Rattle.handle.proofs.WeakenLaws.{own-length, own-node, own-local, own-gapped, own-none}
--- Test by test, in the order of the rows.
--- Assumes nothing.
-use Rattle.handle.proofs.WeakenLaws.{own-length, own-node, own-local, own-gapped, own-none}
 use borrow.Author.Needs.{needs}
 use Rattle.handle.proofs.Handle.standing.Statement.{statement}
 use Rattle.handle.proofs.Handle.standing.Tie as tie

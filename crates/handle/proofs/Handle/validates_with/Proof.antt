@@ -1,10 +1,9 @@
+-- The chain of conversions, and its end compared.
+-- Assumes nothing.
 use Rattle.handle.proofs.CodeLaws.{code-validates}
 use borrow.Author.Needs.{needs}
 use Rattle.handle.proofs.Handle.validates_with.Statement.{statement}
 use Rattle.handle.proofs.Handle.validates_with.Tie as tie
-use Rattle.handle.proofs.Handle.validates_with.Reads as reads
-use Rattle.handle.proofs.Handle.opened_with.Reads as opened-with-reads
-use Rattle.handle.proofs.same.Reads as same-reads
 
 returns : tie.Need-returns
 returns c = search (needs, code-validates)

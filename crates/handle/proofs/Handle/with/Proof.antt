@@ -1,9 +1,10 @@
+-- The node from two bytes, and the rest one by one.
+-- Assumes nothing.
 use Rattle.handle.proofs.CodecLaws.{with-is}
 use Rattle.loops.specs.Tabulate.{tabulate}
 use borrow.Author.Needs.{needs}
 use Rattle.handle.proofs.Handle.with.Statement.{statement}
 use Rattle.handle.proofs.Handle.with.Tie as tie
-use Rattle.handle.proofs.Handle.with.Reads as reads
 
 returns : tie.Need-returns
 unfolding tabulate

@@ -1,3 +1,5 @@
+-- Width by width.
+-- Assumes nothing.
 use Rattle.handle.proofs.WidthLaws.{full-none, full-four, full-eight, full-sixteen}
 use borrow.Author.Needs.{needs}
 use Rattle.handle.proofs.Width.full.Statement.{statement}

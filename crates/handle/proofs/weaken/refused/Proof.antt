@@ -1,9 +1,9 @@
+-- No handle, and a count of zero.
+-- Assumes nothing.
 use Rattle.handle.proofs.CodeLaws.{refused-is}
 use borrow.Author.Needs.{needs}
-use Rattle.handle.proofs.refused.Statement.{statement}
-use Rattle.handle.proofs.refused.Tie as tie
-use Rattle.handle.proofs.refused.Reads as reads
-use Rattle.handle.proofs.Handle.none.Reads as none-reads
+use Rattle.handle.proofs.weaken.refused.Statement.{statement}
+use Rattle.handle.proofs.weaken.refused.Tie as tie
 
 returns : tie.Need-returns
 returns c = search (needs, refused-is)
