@@ -102,8 +102,8 @@ module _ (f : Name → List ℕ → ℕ → List ℕ) where
   -- the records before the last calls: the other node's cluster has its segment, and the one that is frozen stays
   abbrev records : Store
   records =
-      putRecord (putRecord (one .store) 4 (withMark (withPlace (started (sixteen 3) (sixteen 4)) 6 (Present 4 1)) 6)) 26
-      (withPlace (started (sixteen 3) (sixteen 4)) 7 (Present 0 2))
+      putRecord (putRecord (one .store) 4 (withMark (withPlace (started 8 (sixteen 3) (sixteen 4)) 6 (Present 4 1)) 6)) 26
+      (withPlace (started 8 (sixteen 3) (sixteen 4)) 7 (Present 0 2))
 
   records-before : left .store ≡ records
   unfolding tests effects computing
