@@ -15,6 +15,7 @@ pub mod ReplyLaws
 pub mod WitnessLaws
 pub mod ReaderWitnessLaws
 pub mod FrozenWitnessLaws
+pub mod PrimaryLaws
 pub mod GivenLaws
 pub mod RenewalLaws
 pub mod RenewedLaws

@@ -4,15 +4,18 @@ use mathlib.Core.Path.{_≡_, refl, sym, ap, _∙_}
 use mathlib.Core.Logic.{_≢_}
 use Prim.Native.Nat.{ℕ}
 use native.Mathlib.Omega.{arith}
+use mathlib.Core.Bool.{true}
 use mathlib.Core.List.{List}
+use lib.ListN.{length}
 use Rattle.handle.specs.Handles.{Name, reduced}
 use Rattle.store.specs.Records.{startingStore, clusterAt}
+use Rattle.store.proofs.QuickLaws.{quick, quickly, sound-quick}
 use Rattle.store.proofs.ChangeLaws.{put-other}
 use Rattle.calls.specs.Calls.{start}
 use Rattle.calls.specs.Numbers.{tests}
 use Rattle.calls.specs.Steps.{Ran, effects, run}
 use Rattle.calls.specs.Cases.{added}
-use Rattle.calls.proofs.Computing.{computing, sounding}
+use Rattle.calls.proofs.Computing.{computing}
 use Rattle.isolation.specs.Copies.{SoundCopy}
 use Rattle.isolation.specs.Renewals.{guesses}
 use Rattle.isolation.specs.RenewalReplies.{renewCalls, seen, BothDone, alone, tries, answers, Guessed}
@@ -24,9 +27,12 @@ unfolding reduced tests effects computing
 both-done = ap seen (run-below added renewCalls start start-sound) ∙ refl
 
 -- soundness does not look at the passwords of an active cluster
+quick-alone : (r w : ℕ) → quick (alone r w .store) (length (alone r w .memory)) ≡ true
+unfolding quickly
+quick-alone r w = refl
+
 sound-alone : (r w : ℕ) → SoundCopy (alone r w)
-unfolding sounding
-sound-alone r w = refl
+sound-alone r w = sound-quick (alone r w .store) (length (alone r w .memory)) ∙ quick-alone r w
 
 others-same : (r w q v k : ℕ) → k ≢ 10 → clusterAt (alone r w .store) k ≡ clusterAt (alone q v .store) k
 others-same r w q v k n = put-other startingStore 10 _ k n ∙ sym (put-other startingStore 10 _ k n)

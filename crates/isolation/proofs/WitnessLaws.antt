@@ -21,6 +21,7 @@ use Rattle.store.specs.declared.Place.the-variants.{Present}
 use Rattle.store.specs.declared.Store.{Store}
 use Rattle.store.specs.declared.Cluster.{Cluster}
 use Rattle.store.specs.Records.{startingStore, started, tableAt, placeOn, putRecord, withPlace, withMark}
+use Rattle.store.proofs.QuickLaws.{quick, quickly, sound-quick}
 use Rattle.store.proofs.ChangeLaws.{put-other}
 use Rattle.calls.specs.Calls.{Copy, Call}
 use Rattle.calls.specs.Steps.{Reply, Ran, Outcome, effects, outcome, run}
@@ -36,16 +37,22 @@ use Rattle.calls.proofs.StepLaws.{numberBelow, number-below}
 use Rattle.isolation.proofs.RunLaws.{stepBelow, step-below, runBelow, run-below, then-below, append-below, someBelow, isKeyed, shut-below}
 use Rattle.isolation.proofs.RunLaws.{lookedBelow, placesBelow, places-below, append-places}
 use Rattle.calls.specs.Numbers.{valid, violated, tests, otherTests}
-use Rattle.calls.proofs.Computing.{computing, sounding}
+use Rattle.calls.proofs.Computing.{computing}
 use Rattle.isolation.proofs.TwoCopies.{two-copies}
 
+quick-holding : (r w b : ℕ) → quick (holding r w b .store) (length (holding r w b .memory)) ≡ true
+unfolding quickly
+quick-holding r w b = refl
+
+-- soundness does not look at the passwords of an active cluster, nor at bytes
+sound-holding : (r w b : ℕ) → SoundCopy (holding r w b)
+sound-holding r w b = sound-quick (holding r w b .store) (length (holding r w b .memory)) ∙ quick-holding r w b
+
 pub sound-one : SoundCopy one
-unfolding sounding
-sound-one = refl
+sound-one = sound-holding 17 34 7
 
 sound-two : SoundCopy two
-unfolding sounding
-sound-two = refl
+sound-two = sound-holding 1 2 9
 
 alike : Alike 0 2 one two
 alike =
@@ -102,8 +109,8 @@ module _ (f : Name → List ℕ → ℕ → List ℕ) where
   -- the records before the last calls: the other node's cluster has its segment, and the one that is frozen stays
   abbrev records : Store
   records =
-      putRecord (putRecord (one .store) 4 (withMark (withPlace (started (sixteen 3) (sixteen 4)) 6 (Present 4 1)) 6)) 26
-      (withPlace (started (sixteen 3) (sixteen 4)) 7 (Present 0 2))
+      putRecord (putRecord (one .store) 4 (withMark (withPlace (started 8 (sixteen 3) (sixteen 4)) 6 (Present 4 1)) 6)) 26
+      (withPlace (started 8 (sixteen 3) (sixteen 4)) 7 (Present 0 2))
 
   records-before : left .store ≡ records
   unfolding tests effects computing

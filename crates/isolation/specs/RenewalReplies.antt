@@ -34,7 +34,7 @@ weak b = handle 1 2 (b + 32) (32 ∷ 255 ∷ 255 ∷ 255 ∷ [])
 
 abbrev pub renewCalls : List Call
 renewCalls =
-    makingCluster 1 2 (sixteen 3) (sixteen 4)
+    makingCluster 1 2 8 (sixteen 3) (sixteen 4)
     ∷ makingSegment 1 5 3 (primary 1 2 4)
     ∷ renewing 1 (primary 1 2 3) (sixteen 3)
     ∷ renewing 2 (primary 1 2 4) (sixteen 4)
@@ -69,10 +69,10 @@ renewCalls =
     ∷ validating 1 (primary 1 2 6)
     ∷ validating 2 (primary 1 2 6)
     -- a cluster is deleted with such a handle, and is not made with two equal passwords
-    ∷ makingCluster 1 3 (sixteen 6) (sixteen 7)
+    ∷ makingCluster 1 3 8 (sixteen 6) (sixteen 7)
     ∷ renewing 1 (primary 1 3 6) (sixteen 7)
     ∷ deletingCluster 1 (primary 1 3 7)
-    ∷ makingCluster 1 3 (sixteen 6) (sixteen 6)
+    ∷ makingCluster 1 3 8 (sixteen 6) (sixteen 6)
     ∷ []
 
 abbrev pub renewReplies : List Reply
@@ -139,9 +139,10 @@ alone r w =
           putRecord startingStore 10
           (record {
             active = true;
+            width = 8;
             read = sixteen r;
             write = sixteen w;
-            segments = replicate 8 (record { place = Absent; frozen = false });
+            segments = replicate 16 (record { place = Absent; frozen = false });
           });
       memory = start .memory;
     }

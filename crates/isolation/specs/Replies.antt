@@ -29,7 +29,7 @@ weak b = handle 1 2 (b + 32) (32 ∷ 255 ∷ 255 ∷ 255 ∷ [])
 
 abbrev pub doneCalls : List Call
 doneCalls =
-    makingCluster 1 2 (sixteen 3) (sixteen 4)
+    makingCluster 1 2 8 (sixteen 3) (sixteen 4)
     ∷ makingSegment 1 5 3 (primary 1 2 4)
     ∷ reading 5 (primary 1 2 3) (1 ∷ 2 ∷ 3 ∷ 4 ∷ [])
     ∷ writing 5 (primary 1 2 4) (7 ∷ 8 ∷ 9 ∷ 10 ∷ [])
@@ -45,10 +45,10 @@ doneCalls =
     ∷ deletingSegment 1 5 (primary 1 2 4)
     ∷ deletingCluster 1 (primary 1 2 4)
     ∷ validating 2 (primary 1 2 4)
-    ∷ makingCluster 3 7 (sixteen 5) (sixteen 6)
+    ∷ makingCluster 3 7 8 (sixteen 5) (sixteen 6)
     ∷ makingSegment 3 7 4096 (primary 3 7 6)
     ∷ deletingCluster 3 (primary 3 7 6)
-    ∷ makingCluster 0 0 (sixteen 7) (sixteen 8)
+    ∷ makingCluster 0 0 8 (sixteen 7) (sixteen 8)
     ∷ makingSegment 0 0 1 (primary 0 0 8)
     ∷ freezing 0 0 (primary 0 0 8)
     ∷ []
@@ -85,9 +85,10 @@ frozenStore =
     putRecord startingStore 0
     (record {
       active = true;
+      width = 8;
       read = sixteen 7;
       write = sixteen 8;
-      segments = record { place = Present 0 1; frozen = true } ∷ replicate 7 (record { place = Absent; frozen = false });
+      segments = record { place = Present 0 1; frozen = true } ∷ replicate 15 (record { place = Absent; frozen = false });
     })
 
 pub record Seen : Type 0 where

@@ -52,7 +52,7 @@ use Rattle.isolation.specs.Copies.{SixteenBytes, SoundCopy, setApart, Al
 abbrev pub holding : ℕ → ℕ → ℕ → Copy
 holding r w b =
     record {
-      store = putRecord startingStore (recordOf 0 2) (withPlace (started (sixteen r) (sixteen w)) 5 (Present 0 4));
+      store = putRecord startingStore (recordOf 0 2) (withPlace (started 8 (sixteen r) (sixteen w)) 5 (Present 0 4));
       memory = b ∷ b ∷ b ∷ b ∷ replicate (memory - 4) 0;
     }
 
@@ -108,7 +108,7 @@ module _ (f : Name → List ℕ → ℕ → List ℕ) where
   abbrev pub before : List Call
   before =
       -- the cluster set apart
-      makingCluster 0 2 (sixteen 3) (sixteen 4)
+      makingCluster 0 2 8 (sixteen 3) (sixteen 4)
       ∷ deletingCluster 0 (primary 0 2 5)
       ∷ makingSegment 0 1 4 (primary 0 2 5)
       ∷ deletingSegment 0 5 (primary 0 2 5)
@@ -123,7 +123,7 @@ module _ (f : Name → List ℕ → ℕ → List ℕ) where
       ∷ validating 2 (primary 0 2 5)
       ∷ looking 0 5 (primary 0 2 5)
       -- a cluster of the same node
-      ∷ makingCluster 0 3 (sixteen 3) (sixteen 4)
+      ∷ makingCluster 0 3 8 (sixteen 3) (sixteen 4)
       ∷ makingSegment 0 7 2 (primary 0 3 4)
       ∷ writing 7 (primary 0 3 4) (5 ∷ 6 ∷ 7 ∷ [])
       ∷ reading 7 (primary 0 3 3) (9 ∷ 9 ∷ 9 ∷ [])
@@ -138,13 +138,13 @@ module _ (f : Name → List ℕ → ℕ → List ℕ) where
       ∷ validating 2 (primary 0 3 6)
       ∷ deletingSegment 0 7 (primary 0 3 6)
       ∷ deletingCluster 0 (primary 0 3 6)
-      ∷ makingCluster 0 4 (sixteen 3) (sixteen 4)
+      ∷ makingCluster 0 4 8 (sixteen 3) (sixteen 4)
       ∷ makingSegment 0 6 1 (primary 0 4 4)
       ∷ freezing 0 6 (primary 0 4 4)
       ∷ freezing 0 6 (primary 0 4 4)
       ∷ deletingCluster 0 (primary 0 4 4)
       -- a cluster with the same local number
-      ∷ makingCluster 3 2 (sixteen 3) (sixteen 4)
+      ∷ makingCluster 3 2 8 (sixteen 3) (sixteen 4)
       ∷ makingSegment 3 7 2 (primary 3 2 4)
       ∷ writing 7 (primary 3 2 4) (8 ∷ 9 ∷ [])
       ∷ looking 3 7 (primary 3 2 3)
