@@ -8,7 +8,7 @@ use native.Mathlib.Omega.{arith}
 use mathlib.Core.Path.{_≡_, refl, sym, ap, ap₂, _∙_, subst}
 use mathlib.Core.Bool.{Bool, true, false, not, _&&_, _||_, false≢true, and-true, and-false, or-false}
 use mathlib.Core.List.{List, [], _∷_}
-use lib.Dec.{eqb}
+use lib.Dec.{eqb, leb}
 use lib.Bits.{bitAnd, bitOr, and-le-l, and-le-r}
 use lib.Count.{ones, ones-le}
 use lib.ListN.{length, getD, set, drop, replicate}
@@ -31,7 +31,7 @@ use Rattle.handle.specs.Sizes.{subselectors}
 use Rattle.handle.specs.Widths.{room}
 use Rattle.handle.specs.Selectors.{references, either, flat, allFlat, gapped, firstFlat, common, referenced, inFirst}
 use Rattle.handle.specs.Selectors.{union, wholeUnion}
-use Rattle.handle.specs.Handles.{nodeOf, sameName, noHandle, refusal, renewed, cut, samePassword, converted, through}
+use Rattle.handle.specs.Handles.{nodeOf, widthOf, sameName, noHandle, refusal, renewed, cut, samePassword, converted, through}
 use Rattle.handle.specs.Handles.{validates, made, reduced, joined}
 use Rattle.handle.proofs.SelectorLaws.{first-here, first-past}
 use Rattle.handle.proofs.HandleLaws.{reduced-cases}
@@ -271,3 +271,11 @@ code-converted p c h a b ea eb r er =
 
 pub refused-is : (n : ℕ) (h : Handle) → h ≡ noHandle → _≡_ {A = Weakened} (record { number = n; handle = h; count = 0 }) (refusal n)
 refused-is n h e = λ j. record { number = n; handle = e j; count = 0 }
+
+-- ---- the width, as the code has it
+
+pub code-width : (h : Handle) (b w : ℕ) → b ≡ widthOf h → eqb b w ≡ eqb (widthOf h) w
+code-width h b w e = ap (λ (n : ℕ). eqb n w) e
+
+pub code-beyond : (h : Handle) (b i : ℕ) → b ≡ widthOf h → leb b i ≡ leb (widthOf h) i
+code-beyond h b i e = ap (λ (n : ℕ). leb n i) e

@@ -18,6 +18,7 @@ use sizes::PASSWORD_BYTES;
 use sizes::Password;
 ghost use mathlib.Core.Path.{_≡_};
 ghost use Prim.Native.Nat.{_-_, _≤_, _<_};
+ghost use lib.Dec.{eqb, leb};
 ghost use Rattle.aes.specs.Tables.{IsTables};
 ghost use Rattle.bits.specs.Sets.{full};
 ghost use Rattle.handle.specs.Widths.{bitsOf, lengthOf, widthFrom, room};
@@ -190,6 +191,22 @@ impl Handle {
         ensures { λ r. ⌜ r ≡ spec.nodeOf self ⌝ }
     {
         self.node as usize
+    }
+
+    // Whether the handle has this width; none where there is no handle.
+    pub fn has_width(self, width: u8) -> bool
+        ensures { λ r. ⌜ r ≡ eqb (spec.widthOf self) width ⌝ }
+    {
+        let own = self.width;
+        own.bits() == width
+    }
+
+    // Whether a segment's number is at or above the handle's width.
+    pub fn beyond(self, segment: usize) -> bool
+        ensures { λ r. ⌜ r ≡ leb (spec.widthOf self) segment ⌝ }
+    {
+        let own = self.width;
+        own.bits() as usize <= segment
     }
 
     // The bits that all four subselectors have, as far as a subselector has room.

@@ -64,6 +64,18 @@ pub sized-settled : (c : Cluster) → settled c ≡ true → sized c ≡ true
 unfolding settled
 sized-settled c e = and-right (c .active || idle c) (sized c) e
 
+-- what an inactive cluster is, and the width of one that is active or not
+module _ (c : Cluster) (e : settled c ≡ true) where
+  pub settled-idle : c .active ≡ false → idle c ≡ true
+  unfolding settled
+  settled-idle q = ap (λ (b : Bool). b || idle c) (sym q) ∙ and-left (c .active || idle c) (sized c) e
+
+  pub settled-width : (b : Bool) → c .active ≡ b → soundWidth b (c .width) ≡ true
+  unfolding sized
+  settled-width b q =
+      sound-width (c .active) b (c .width) q
+      ∙ and-left (soundWidth (c .active) (c .width)) (below c) (sized-settled c e)
+
 -- segment i of a record that is sized
 pub sized-at : (c : Cluster) → sized c ≡ true → (i : ℕ) → i < segments → allowed (placeOf (tableOf c) i) i (c .width) ≡ true
 unfolding sized below

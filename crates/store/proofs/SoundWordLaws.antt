@@ -27,7 +27,7 @@ use Rattle.store.proofs.PlaceLaws.{Inside, inside-out, inside-in, holds
 use Rattle.store.specs.inner.Passes.{holds}
 use Rattle.store.proofs.PlaceLaws.{apart-shares-none, not-apart-shares}
 use Rattle.store.proofs.SoundLaws.{Sound, segment-inside, segment-mark, sound-out, sound-in}
-use Rattle.store.proofs.SoundLaws.{sound-width, sized-settled, sized-at}
+use Rattle.store.proofs.SoundLaws.{settled-idle, settled-width, sized-settled, sized-at}
 
 -- ---- places
 
@@ -126,14 +126,10 @@ module _ (c : Cluster) where
   vacant : Bool
   vacant = every segments (λ i. isAbsent (placeOf (tableOf c) i))
 
-  idle-of : settled c ≡ true → c .active ≡ false → idle c ≡ true
-  unfolding settled
-  idle-of e q = ap (λ (b : Bool). b || idle c) (sym q) ∙ and-left (c .active || idle c) (sized c) e
-
   module _ (e : settled c ≡ true) (q : c .active ≡ false) where
     passwords : (zeroBytes (c .read) && zeroBytes (c .write)) ≡ true
     unfolding idle vacant
-    passwords = and-left (zeroBytes (c .read) && zeroBytes (c .write)) vacant (idle-of e q)
+    passwords = and-left (zeroBytes (c .read) && zeroBytes (c .write)) vacant (settled-idle c e q)
 
     read-words : ZeroPassword (c .read)
     read-words = zero-words (c .read) (and-left (zeroBytes (c .read)) (zeroBytes (c .write)) passwords)
@@ -146,14 +142,7 @@ module _ (c : Cluster) where
     segment-words i h =
         absent-words (placeOf (tableOf c) i)
         (every-at segments (λ i. isAbsent (placeOf (tableOf c) i))
-        (and-right (zeroBytes (c .read) && zeroBytes (c .write)) vacant (idle-of e q)) i h)
-
-  -- the width of a cluster, active or not
-  width-of : settled c ≡ true → (b : Bool) → c .active ≡ b → soundWidth b (c .width) ≡ true
-  unfolding sized
-  width-of e b q =
-      sound-width (c .active) b (c .width) q
-      ∙ and-left (soundWidth (c .active) (c .width)) (below c) (sized-settled c e)
+        (and-right (zeroBytes (c .read) && zeroBytes (c .write)) vacant (settled-idle c e q)) i h)
 
   above-words : settled c ≡ true → (i : ℕ) → i < 16 → c .width ≤ i → placeOf (tableOf c) i ≡ Absent
   above-words e i h = allowed-words (placeOf (tableOf c) i) i (c .width) (sized-at c (sized-settled c e) i h)
@@ -199,8 +188,8 @@ module _ (s : Store) (size : ℕ) where
         noSegment = λ n i h hi q. segment-words (clusterAt s n) (r .settling n h) q i hi;
         noMark = λ n i hn hi e.
             mark-words (segmentOf (tableAt s n) i) (segment-mark (segmentOf (tableAt s n) i) (r .ranged n i hn hi)) e;
-        widths = λ n h q. width-words (clusterAt s n .width) (width-of (clusterAt s n) (r .settling n h) true q);
-        noWidth = λ n h q. eqb-true (clusterAt s n .width) 0 (width-of (clusterAt s n) (r .settling n h) false q);
+        widths = λ n h q. width-words (clusterAt s n .width) (settled-width (clusterAt s n) (r .settling n h) true q);
+        noWidth = λ n h q. eqb-true (clusterAt s n .width) 0 (settled-width (clusterAt s n) (r .settling n h) false q);
         noneAbove = λ n i h hi q. above-words (clusterAt s n) (r .settling n h) i hi q;
       }
     where
