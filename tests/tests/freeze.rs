@@ -3,7 +3,7 @@
 mod support;
 
 use model::call::{Call, Reply};
-use model::handle::Handle;
+use model::handle::{Handle, Width};
 use model::sizes::{MEMORY_BYTES, NODES};
 use model::store::{Cluster, Segment};
 use model::table::{numbers_of_calls, word};
@@ -24,14 +24,17 @@ fn bench(marks: u8) -> Bench {
 }
 
 fn delete_cluster(handle: Handle) -> Call {
-    Call::DeleteCluster { node: 0, handle }
+    Call::DeleteCluster {
+        node: 0,
+        handle: handle.into(),
+    }
 }
 
 fn freeze_by(node: u32, segment: u32, handle: Handle) -> Call {
     Call::Freeze {
         node,
         segment,
-        handle,
+        handle: handle.into(),
     }
 }
 
@@ -39,7 +42,7 @@ fn freeze_by(node: u32, segment: u32, handle: Handle) -> Call {
 fn its_word_and_its_places() {
     assert_eq!(word(22), Some("frozen"));
     let places = [
-        1, 2, 3, 4, 24, 5, 6, 7, 8, 9, 23, 10, 22, 11, 12, 13, 14, 22, 15, 16, 21, 17,
+        25, 1, 2, 3, 4, 24, 5, 6, 7, 8, 25, 9, 23, 10, 22, 11, 12, 13, 14, 22, 15, 16, 21, 17,
     ];
     assert!(numbers_of_calls().eq(places));
 }
@@ -92,23 +95,23 @@ fn new_ones_are_not_frozen() {
 fn everything_else_is_as_with_any_other() {
     let (mut frozen, mut free) = (bench(0xff), bench(0));
     let weaker = reader().weaken(0x11).unwrap();
-    let renewed = |mode, handle| Call::NewPassword {
+    let renewed = |mode, handle: Handle| Call::NewPassword {
         mode,
-        handle,
+        handle: handle.into(),
         password: [0x33; 16],
     };
     let calls = [
         Call::Reduce {
             mode: READ_MODE,
-            handle: weaker,
+            handle: weaker.into(),
         },
         Call::Validate {
             mode: WRITE_MODE,
-            handle: writer(),
+            handle: writer().into(),
         },
         Call::Weaken {
             mask: 0x0f,
-            handle: weaker,
+            handle: weaker.into(),
         },
         new_segment(4, 4096),
         new_segment(4, 0),
@@ -122,11 +125,11 @@ fn everything_else_is_as_with_any_other() {
         }
     }
     for call in calls {
-        assert_eq!(frozen.reply(call), free.reply(call), "{call:?}");
+        assert_eq!(frozen.reply(&call), free.reply(&call), "{call:?}");
     }
     for (mode, handle) in [(READ_MODE, reader()), (WRITE_MODE, writer())] {
         let mut revoked = frozen.clone();
-        let given = Reply::with_handle(&Handle::primary(0, 2, [0x33; 16]));
+        let given = Reply::with_handle(&Handle::primary(Width::Eight, 0, 2, [0x33; 16]));
         assert_eq!(revoked.reply(renewed(mode, handle)), given);
         let [before, after] = [&frozen, &revoked].map(|bench| bench.store.clusters[0][2].segments);
         assert_eq!(after, before);
@@ -172,7 +175,7 @@ fn numbers_in_their_order() {
                 0 => done(&faulty, kind, &buffer),
                 _ => put_to(&faulty),
             };
-            let reply = bench.ask(faulty.call, &mut buffer);
+            let reply = bench.ask(&faulty.call, &mut buffer);
             assert_eq!(reply, Reply::refused(faulty.number()), "{faulty:?}");
             assert!(bench == expected, "{faulty:?}");
             assert_eq!(buffer, vec![0xee; faulty.buffer_bytes]);
@@ -209,8 +212,14 @@ fn a_frozen_segment_elsewhere_does_not_keep_a_cluster() {
     let mut bench = bench(0xff);
     for (node, local) in [(0, 3), (1, 2)] {
         assert_eq!(bench.number(new_cluster(node, local)), 0);
-        let handle = Handle::primary(node as u16, local as u8, WRITE_SECRET);
-        assert_eq!(bench.number(Call::DeleteCluster { node, handle }), 0);
+        let handle = Handle::primary(Width::Eight, node as u16, local as u8, WRITE_SECRET);
+        assert_eq!(
+            bench.number(Call::DeleteCluster {
+                node,
+                handle: handle.into()
+            }),
+            0
+        );
     }
 }
 
@@ -255,7 +264,7 @@ fn arguments_out_of_range() {
     for node in [4, 5, 255, 256, 65_536, u32::MAX] {
         assert_eq!(bench.number(freeze_by(node, 8, writer())), 2, "{node}");
     }
-    let at = |node, local| Handle::primary(node, local, WRITE_SECRET);
+    let at = |node, local| Handle::primary(Width::Eight, node, local, WRITE_SECRET);
     for handle in [at(4, 2), at(256, 2), at(0x8000, 2), at(0, 8), at(0, 255)] {
         assert_eq!(bench.number(freeze_by(0, 8, handle)), 2, "{handle:?}");
     }
@@ -265,7 +274,7 @@ fn arguments_out_of_range() {
     for node in 1..NODES as u32 {
         assert_eq!(bench.number(freeze_by(node, 5, writer())), 5);
     }
-    let zero = Handle::primary(0, 3, [0; 16]);
+    let zero = Handle::primary(Width::Eight, 0, 3, [0; 16]);
     assert_eq!(bench.number(freeze_by(0, 5, zero)), 8);
     assert_eq!(bench.number(freeze_by(0, 5, reader())), 9);
     assert!(!bench.store.clusters[0][2].has_frozen());

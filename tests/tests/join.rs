@@ -4,7 +4,7 @@
 mod support;
 
 use model::call::{Call, Reply};
-use model::handle::{convert, Handle, Selector};
+use model::handle::{convert, Handle, Width};
 use model::sizes::MEMORY_BYTES;
 use model::table::{numbers_of_calls, word};
 use support::joint::{self, LOCAL, NODE, UNION};
@@ -12,29 +12,29 @@ use support::naive::{has, selectors};
 use support::*;
 
 /// A handle of cluster 2 of node 0 to read, with the password that goes with its selector.
-fn handle(selector: [u8; 4]) -> Handle {
-    Handle::converted(0, 2, &READ_SECRET, Selector(selector))
+fn handle(selector: [u16; 4]) -> Handle {
+    Handle::converted(0, 2, &READ_SECRET, eight(selector))
 }
 
 /// The reduced handle for these segments.
-fn reduced(segments: u8) -> Handle {
+fn reduced(segments: u16) -> Handle {
     Handle {
         node: 0,
         local: 2,
         password: convert(&READ_SECRET, segments),
-        selector: Selector([segments, 255, 255, 255]),
+        selector: eight([segments, 255, 255, 255]),
     }
 }
 
 /// Whether every subselector has the segment.
-fn references(selector: [u8; 4], segment: u32) -> bool {
+fn references(selector: [u16; 4], segment: u32) -> bool {
     selector.iter().all(|&part| has(part, segment))
 }
 
 #[test]
 fn their_words_and_their_places() {
     assert_eq!((word(23), word(24)), (Some("whole"), Some("apart")));
-    assert_eq!(word(25), None);
+    assert_eq!(word(26), None);
     let numbers: Vec<u8> = numbers_of_calls().collect();
     assert!(numbers.windows(3).any(|row| row == [4, 24, 5]));
     assert!(numbers.windows(3).any(|row| row == [9, 23, 10]));
@@ -55,7 +55,7 @@ fn one_handle_for_the_strips_of_two() {
     let reply = bench.ask(join(READ_MODE, one, other), &mut buffer);
     assert_eq!(reply, Reply::with_handle(&reduced(0x1f)));
     assert_eq!((bench.clone(), buffer), (before, [0xee; 3]));
-    let joined = Handle::from_bytes(&reply.first);
+    let joined = given(&reply);
     for segment in 0..8 {
         let expected = match segment {
             0..=4 => Ok(vec![0; 4]),
@@ -70,26 +70,31 @@ fn one_handle_for_the_strips_of_two() {
 fn what_either_references_whichever_comes_first() {
     let mut bench = Bench::with_segment();
     let before = bench.clone();
-    let all: Vec<Handle> = selectors().map(handle).collect();
+    let all: Vec<Handle> = selectors(Width::Eight).map(handle).collect();
     let with = |segments: usize, kind: usize| all[(4 * segments + kind % 4).min(all.len() - 1)];
     let (mut done, mut whole) = (0, 0);
     for at in (0..256 * 256).filter(|at| at % 256 <= at / 256) {
         let (one, other) = (with(at % 256, at / 256), with(at / 256, at % 7));
         let reply = bench.ask(join(READ_MODE, one, other), &mut []);
         assert_eq!(reply, bench.ask(join(READ_MODE, other, one), &mut []));
-        let either =
-            |segment| references(one.selector.0, segment) || references(other.selector.0, segment);
+        let either = |segment| {
+            references(one.selector.subselectors, segment)
+                || references(other.selector.subselectors, segment)
+        };
         if (0..8).all(either) {
             assert_eq!(reply, Reply::refused(23));
             whole += 1;
             continue;
         }
-        let given = Handle::from_bytes(&reply.first);
+        let given = given(&reply);
         assert_eq!(reply, Reply::with_handle(&given));
         for segment in 0..8 {
-            assert_eq!(references(given.selector.0, segment), either(segment));
+            assert_eq!(
+                references(given.selector.subselectors, segment),
+                either(segment)
+            );
         }
-        assert_eq!(given, reduced(given.selector.0[0]));
+        assert_eq!(given, reduced(given.selector.subselectors[0]));
         done += 1;
     }
     assert_eq!(bench, before);
@@ -102,18 +107,18 @@ fn what_either_references_whichever_comes_first() {
 fn what_is_given_validates_in_the_mode_and_is_not_primary() {
     let mut bench = Bench::with_cluster();
     for (mode, secret) in [(READ_MODE, READ_SECRET), (WRITE_MODE, WRITE_SECRET)] {
-        let at = |segments| Handle::converted(0, 2, &secret, Selector([segments, 255, 255, 255]));
-        for segments in 0..255_u8 {
+        let at = |segments| Handle::converted(0, 2, &secret, eight([segments, 255, 255, 255]));
+        for segments in 0..255_u16 {
             let one = at(segments & 0x3c | 0x01);
             let reply = bench.reply(join(mode, at(segments), one));
             if segments | 0x01 == 255 {
                 assert_eq!(reply, Reply::refused(23));
                 continue;
             }
-            let given = Handle::from_bytes(&reply.first);
+            let given = given(&reply);
             let validate = |mode| Call::Validate {
                 mode,
-                handle: given,
+                handle: given.into(),
             };
             assert_eq!(bench.reply(validate(mode)), Reply::DONE);
             assert_eq!(bench.number(validate(3 - mode)), 9);
@@ -128,11 +133,11 @@ fn what_is_given_validates_in_the_mode_and_is_not_primary() {
 #[test]
 fn with_itself_and_with_less() {
     let mut bench = Bench::with_cluster();
-    for selector in selectors() {
+    for selector in selectors(Width::Eight) {
         let handle = handle(selector);
         let reduction = bench.reply(Call::Reduce {
             mode: READ_MODE,
-            handle,
+            handle: handle.into(),
         });
         let expected = match selector {
             [255, 255, 255, 255] => Reply::refused(23),
@@ -166,7 +171,7 @@ fn what_is_joined_is_joined_again() {
     let mut joined = |one, other| {
         let reply = bench.reply(join(READ_MODE, one, other));
         assert_eq!(reply.number, 0);
-        Handle::from_bytes(&reply.first)
+        given(&reply)
     };
     let [one, two, three] = [0x03, 0x7e, 0x70].map(|mask| reader().weaken(mask).unwrap());
     let (first, last) = (joined(one, two), joined(two, three));
@@ -218,13 +223,13 @@ fn numbers_in_their_order() {
             node: NODE,
             local: LOCAL,
             password: convert(&joint.primary, UNION),
-            selector: Selector([UNION, 255, 255, 255]),
+            selector: eight([UNION, 255, 255, 255]),
         };
         let expected = match joint.number() {
             0 => Reply::with_handle(&given),
             number => Reply::refused(number),
         };
-        assert_eq!(bench.ask(joint.call, &mut []), expected, "{joint:?}");
+        assert_eq!(bench.ask(&joint.call, &mut []), expected, "{joint:?}");
         assert!(bench == before, "{joint:?}");
         asked += 1;
         done += usize::from(joint.number() == 0);
@@ -271,11 +276,13 @@ fn both_have_to_validate() {
     assert_eq!(bench.number(join(WRITE_MODE, reads, reads)), 9);
     let renew = Call::NewPassword {
         mode: READ_MODE,
-        handle: reader(),
+        handle: reader().into(),
         password: [0x33; 16],
     };
     assert_eq!(bench.number(renew), 0);
-    let renewed = Handle::primary(0, 2, [0x33; 16]).weaken(0x30).unwrap();
+    let renewed = Handle::primary(Width::Eight, 0, 2, [0x33; 16])
+        .weaken(0x30)
+        .unwrap();
     assert_eq!(bench.number(join(READ_MODE, reads, renewed)), 9);
     assert_eq!(bench.number(join(READ_MODE, renewed, reads)), 9);
     assert_eq!(bench.number(join(READ_MODE, renewed, renewed)), 0);

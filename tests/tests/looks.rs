@@ -3,7 +3,7 @@
 mod support;
 
 use model::call::{Call, Part, Reply};
-use model::handle::{Handle, Selector};
+use model::handle::{Handle, Width};
 use model::list::{request, Request, CODE_AT, RECORD_BYTES};
 use model::random::Random;
 use model::sizes::{MEMORY_BYTES, NODES, NODE_BYTES};
@@ -15,7 +15,7 @@ fn look(node: u32, segment: u32, handle: Handle) -> Call {
     Call::Look {
         node,
         segment,
-        handle,
+        handle: handle.into(),
     }
 }
 
@@ -34,6 +34,7 @@ fn bench(node: usize, segments: &[(u16, u16)]) -> Bench {
     let cluster = &mut bench.store.clusters[node][2];
     *cluster = Cluster {
         active: true,
+        width: 8,
         read: READ_SECRET,
         write: WRITE_SECRET,
         ..Cluster::INACTIVE
@@ -66,7 +67,7 @@ fn all_of_the_segment_and_no_other_byte() {
         (4095, 1),
     ];
     for node in 0..NODES {
-        let handle = Handle::primary(node as u16, 2, READ_SECRET);
+        let handle = Handle::primary(Width::Eight, node as u16, 2, READ_SECRET);
         for (base, length) in extents {
             let mut bench = bench(node, &[(base, length)]);
             let (base, length) = (usize::from(base), usize::from(length));
@@ -79,7 +80,8 @@ fn all_of_the_segment_and_no_other_byte() {
             assert_eq!(bench.look(node as u32, 0, handle), Ok(expected));
         }
     }
-    let last = bench(3, &[(4095, 1)]).reply(look(3, 0, Handle::primary(3, 2, READ_SECRET)));
+    let last =
+        bench(3, &[(4095, 1)]).reply(look(3, 0, Handle::primary(Width::Eight, 3, 2, READ_SECRET)));
     assert_eq!(last.shown.from + last.shown.length, MEMORY_BYTES);
 }
 
@@ -87,7 +89,7 @@ fn all_of_the_segment_and_no_other_byte() {
 fn handles(node: u16) -> Vec<Handle> {
     let mut handles = Vec::new();
     for secret in [READ_SECRET, WRITE_SECRET] {
-        let mut handle = Handle::primary(node, 2, secret);
+        let mut handle = Handle::primary(Width::Eight, node, 2, secret);
         handles.push(handle);
         for mask in [0xfe, 0x7f, 0xf7, 0xcf] {
             handle = handle.weaken(mask).expect("one is flat");
@@ -95,9 +97,9 @@ fn handles(node: u16) -> Vec<Handle> {
             handles.push(handle.reduce(&secret));
             handles.push(handle.reduce(&[7; 16]));
         }
-        let nothing = Selector([0xf0, 0x0f, 255, 255]);
+        let nothing = eight([0xf0, 0x0f, 255, 255]);
         handles.push(Handle::converted(node, 2, &secret, nothing));
-        handles.push(Handle::primary(node, 3, secret));
+        handles.push(Handle::primary(Width::Eight, node, 3, secret));
     }
     handles
 }
@@ -131,7 +133,7 @@ fn what_a_read_gives() {
 #[test]
 fn whatever_the_buffer() {
     let mut bench = bench(1, &[(10, 100)]);
-    let handle = Handle::primary(1, 2, READ_SECRET);
+    let handle = Handle::primary(Width::Eight, 1, 2, READ_SECRET);
     for bytes in [0, 1, 99, 100, 101, NODE_BYTES] {
         let mut buffer = vec![0xee; bytes];
         let reply = bench.ask(look(1, 0, handle), &mut buffer);
@@ -167,7 +169,7 @@ fn no_such_place_in_the_handle_or_the_call() {
         assert_eq!(bench.look(node, 5, reader()), Err(2), "{node}");
         assert_eq!(bench.look(node, 8, reader()), Err(2), "{node}");
     }
-    let at = |node, local| Handle::primary(node, local, READ_SECRET);
+    let at = |node, local| Handle::primary(Width::Eight, node, local, READ_SECRET);
     for handle in [at(4, 2), at(256, 2), at(0x8000, 2), at(0, 8), at(0, 255)] {
         let node = u32::from(handle.node);
         assert_eq!(bench.look(0, 5, handle), Err(2), "{handle:?}");
@@ -188,8 +190,8 @@ fn segments_above_7() {
 fn elsewhere_is_every_other_node() {
     for node in 0..NODES as u32 {
         let mut bench = bench(node as usize, &[(0, 4)]);
-        let handle = Handle::primary(node as u16, 2, READ_SECRET);
-        let unknown = Handle::primary(node as u16, 2, [9; 16]);
+        let handle = Handle::primary(Width::Eight, node as u16, 2, READ_SECRET);
+        let unknown = Handle::primary(Width::Eight, node as u16, 2, [9; 16]);
         for current in 0..NODES as u32 {
             let (known, other) = match current == node {
                 true => (None, Err(9)),
@@ -217,7 +219,7 @@ fn by_read_handles_alone() {
 #[test]
 fn a_zero_password_opens_no_inactive_cluster() {
     let mut bench = Bench::starting();
-    let zero = Handle::primary(0, 2, [0; 16]);
+    let zero = Handle::primary(Width::Eight, 0, 2, [0; 16]);
     for segment in 0..8 {
         assert_eq!(bench.look(0, segment, zero), Err(8));
     }
@@ -247,7 +249,7 @@ fn what_the_calls_before_it_left() {
     assert_eq!(bench.look(0, 6, reader()), Ok(vec![0; 3]));
     let renew = Call::NewPassword {
         mode: READ_MODE,
-        handle: reader(),
+        handle: reader().into(),
         password: [0x33; 16],
     };
     assert_eq!(bench.number(renew), 0);

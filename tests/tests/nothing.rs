@@ -4,7 +4,7 @@
 mod support;
 
 use model::call::{Call, Reply};
-use model::handle::{convert, Handle, Selector};
+use model::handle::{convert, Handle, Width};
 use model::table::word;
 use support::naive::{has, number, referenced_and_kept, selectors};
 use support::*;
@@ -13,11 +13,19 @@ const EMPTY: u8 = 21;
 
 /// The read handle of [`Bench::with_segment`] with another selector, and the password that goes with it.
 fn handle(selector: u32) -> Handle {
-    Handle::converted(0, 2, &READ_SECRET, Selector(selector.to_be_bytes()))
+    Handle::converted(
+        0,
+        2,
+        &READ_SECRET,
+        eight(selector.to_be_bytes().map(u16::from)),
+    )
 }
 
-fn weaken(mask: u8, handle: Handle) -> Call {
-    Call::Weaken { mask, handle }
+fn weaken(mask: u16, handle: Handle) -> Call {
+    Call::Weaken {
+        mask,
+        handle: handle.into(),
+    }
 }
 
 /// Handles that reference nothing, with three flat subselectors to none.
@@ -87,7 +95,7 @@ fn one_segment_kept_is_done_and_counted() {
         let reply = bench.reply(weaken(mask, reader()));
         let kept = Handle {
             password: convert(&READ_SECRET, mask),
-            selector: Selector([mask, 255, 255, 255]),
+            selector: eight([mask, 255, 255, 255]),
             ..reader()
         };
         let expected = Reply {
@@ -105,13 +113,13 @@ fn one_segment_kept_is_done_and_counted() {
 fn a_weakening_done_never_counts_0() {
     let mut bench = Bench::starting();
     let mut numbers = [0u32; 22];
-    for selector in selectors() {
+    for selector in selectors(Width::Eight) {
         let handle = Handle {
-            selector: Selector(selector),
+            selector: eight(selector),
             ..reader()
         };
         for mask in 0..=255 {
-            let expected = number(selector, mask);
+            let expected = number(Width::Eight, selector, mask);
             let reply = bench.reply(weaken(mask, handle));
             assert_eq!(reply.number, expected, "{selector:?} {mask}");
             numbers[usize::from(expected)] += 1;
@@ -119,11 +127,11 @@ fn a_weakening_done_never_counts_0() {
                 assert_eq!(reply, Reply::refused(expected));
                 continue;
             }
-            let (_, kept) = referenced_and_kept(selector, mask);
+            let (_, kept) = referenced_and_kept(Width::Eight, selector, mask);
             assert_ne!(reply.count, 0);
             assert_eq!(reply.count, kept);
-            let given = Handle::from_bytes(&reply.first).selector.0;
-            assert_eq!(referenced_and_kept(given, mask), (kept, kept));
+            let given = given(&reply).selector.subselectors;
+            assert_eq!(referenced_and_kept(Width::Eight, given, mask), (kept, kept));
         }
     }
     // Four selectors for each set of segments but all eight, one for these; 3^8 pairs of sets share nothing.
@@ -135,21 +143,36 @@ fn a_weakening_done_never_counts_0() {
 #[test]
 fn reduction_of_a_handle_that_references_nothing_is_done() {
     let mut bench = Bench::with_segment();
-    let mut given = [0; 23];
+    let mut given = vec![0; 23];
     given[2] = 2;
     given[3..19].copy_from_slice(&convert(&READ_SECRET, 0));
     given[20..].fill(255);
     for handle in to_nothing() {
         let before = bench.clone();
         let mode = READ_MODE;
-        let reply = bench.reply(Call::Reduce { mode, handle });
+        let reply = bench.reply(Call::Reduce {
+            mode,
+            handle: handle.into(),
+        });
         let expected = Reply {
-            first: given,
+            first: given.clone(),
             ..Reply::DONE
         };
         assert_eq!(reply, expected);
-        assert_eq!(bench.reply(Call::Validate { mode, handle }), Reply::DONE);
-        assert_eq!(bench.number(Call::Reduce { mode: 2, handle }), 9);
+        assert_eq!(
+            bench.reply(Call::Validate {
+                mode,
+                handle: handle.into()
+            }),
+            Reply::DONE
+        );
+        assert_eq!(
+            bench.number(Call::Reduce {
+                mode: 2,
+                handle: handle.into()
+            }),
+            9
+        );
         assert_eq!(bench, before);
     }
 }
@@ -157,19 +180,19 @@ fn reduction_of_a_handle_that_references_nothing_is_done() {
 #[test]
 fn other_calls_give_what_they_gave() {
     let mut bench = Bench::with_segment();
-    let write = |selector| Handle::converted(0, 2, &WRITE_SECRET, Selector(selector));
+    let write = |selector| Handle::converted(0, 2, &WRITE_SECRET, eight(selector));
     for reads in to_nothing() {
-        let writes = write(reads.selector.0);
+        let writes = write(reads.selector.subselectors);
         assert_eq!(bench.read(5, reads), Err(11));
         assert_eq!(bench.write(5, b"efgh", writes), 11);
         let delete = Call::DeleteCluster {
             node: 0,
-            handle: writes,
+            handle: writes.into(),
         };
         assert_eq!(bench.number(delete), 10);
         let renew = Call::NewPassword {
             mode: READ_MODE,
-            handle: reads,
+            handle: reads.into(),
             password: [0x33; 16],
         };
         assert_eq!(bench.number(renew), 10);

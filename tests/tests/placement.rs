@@ -9,7 +9,7 @@ fn store_with(extents: &[(u16, u16)]) -> Store {
     let mut store = Store::starting();
     for (at, &(base, length)) in extents.iter().enumerate() {
         let cluster = &mut store.clusters[0][at / 8];
-        cluster.active = true;
+        (cluster.active, cluster.width) = (true, 8);
         cluster.segments[at % 8] = Segment::present(base, length);
     }
     store

@@ -4,7 +4,7 @@
 mod support;
 
 use model::call::{Call, Reply};
-use model::handle::{Handle, Password};
+use model::handle::{Handle, Password, Width};
 use support::renewed::{self, LOCAL, NODE};
 use support::*;
 
@@ -39,7 +39,10 @@ fn neighbours(password: Password) -> impl Iterator<Item = Password> {
 }
 
 fn validates(state: &mut Bench, mode: u32, handle: Handle) -> bool {
-    let number = state.number(Call::Validate { mode, handle });
+    let number = state.number(Call::Validate {
+        mode,
+        handle: handle.into(),
+    });
     assert!(number == 0 || number == 9);
     number == 0
 }
@@ -56,11 +59,14 @@ fn family(state: &mut Bench, mode: u32, primary: Handle) -> Vec<Handle> {
     let twice = once.weaken(0x60).unwrap();
     let reduce = Call::Reduce {
         mode,
-        handle: twice,
+        handle: twice.into(),
     };
     let joined = join(mode, twice, primary.weaken(0x08).unwrap());
-    let made = [reduce, joined].map(|call| Handle::from_bytes(&state.reply(call).first));
-    assert_eq!(made.map(|handle| handle.selector.0[0]), [0x60, 0x68]);
+    let made = [reduce, joined].map(|call| given(&state.reply(call)));
+    assert_eq!(
+        made.map(|handle| handle.selector.subselectors[0]),
+        [0x60, 0x68]
+    );
     [vec![primary, once, twice], made.to_vec()].concat()
 }
 
@@ -81,7 +87,7 @@ fn by_the_mode_s_own_password_alone() {
                 assert_eq!(reply, Reply::refused(12));
                 refused += 1;
             } else {
-                let renewed = Handle::primary(0, 2, password);
+                let renewed = Handle::primary(Width::Eight, 0, 2, password);
                 assert_eq!(reply, Reply::with_handle(&renewed));
                 let cluster = &mut expected.store.clusters[0][2];
                 match mode {
@@ -132,7 +138,7 @@ fn numbers_in_their_order() {
             }
             number => Reply::refused(number),
         };
-        assert_eq!(state.ask(renewed.call, &mut []), reply, "{renewed:?}");
+        assert_eq!(state.ask(&renewed.call, &mut []), reply, "{renewed:?}");
         assert!(state == expected, "{renewed:?}");
         asked += 1;
         done += usize::from(reply.is_done());
@@ -149,6 +155,7 @@ fn call_1_still_refuses_twins() {
         let new_cluster = |local, write| Call::NewCluster {
             node: 0,
             local,
+            width: 8,
             read: both.password,
             write,
         };
@@ -160,7 +167,7 @@ fn call_1_still_refuses_twins() {
         assert_eq!(state.number(new_cluster(3, [0x44; 16])), 0);
         let delete = Call::DeleteCluster {
             node: 0,
-            handle: both,
+            handle: both.into(),
         };
         assert_eq!(state.number(delete), 0);
         assert_eq!(state.number(new_cluster(2, both.password)), 7);
@@ -198,8 +205,11 @@ fn the_same_is_made_from_it_in_either_mode() {
     let [reads, writes] = [READ_MODE, WRITE_MODE].map(|mode| family(&mut state, mode, both));
     assert_eq!(reads, writes);
     for call in [
-        |mode, handle| Call::Reduce { mode, handle },
-        |mode, handle| join(mode, handle, handle),
+        |mode, handle: Handle| Call::Reduce {
+            mode,
+            handle: handle.into(),
+        },
+        |mode, handle: Handle| join(mode, handle, handle),
     ] {
         for &handle in &reads {
             let [one, other] = [READ_MODE, WRITE_MODE].map(|mode| state.reply(call(mode, handle)));
@@ -215,24 +225,30 @@ fn it_does_all_that_a_write_primary_handle_does() {
         let (node, segment, size) = (0, 6, 3);
         #[rustfmt::skip]
         let calls = [
-            Call::NewSegment { node, segment, size, handle },
-            Call::DeleteSegment { node, segment, handle },
-            Call::NewSegment { node, segment, size, handle },
-            Call::Read { segment, handle },
-            Call::DeleteSegment { node, segment, handle },
-            Call::Freeze { node, segment: 5, handle },
-            Call::Read { segment: 5, handle },
+            Call::NewSegment { node, segment, size, handle: handle.into() },
+            Call::DeleteSegment { node, segment, handle: handle.into() },
+            Call::NewSegment { node, segment, size, handle: handle.into() },
+            Call::Read { segment, handle: handle.into() },
+            Call::DeleteSegment { node, segment, handle: handle.into() },
+            Call::Freeze { node, segment: 5, handle: handle.into() },
+            Call::Read { segment: 5, handle: handle.into() },
         ];
         for call in calls {
-            assert_eq!(state.number(call), 0, "{call:?}");
+            assert_eq!(state.number(&call), 0, "{call:?}");
         }
-        assert_eq!(state.number(Call::DeleteCluster { node, handle }), 22);
+        assert_eq!(
+            state.number(Call::DeleteCluster {
+                node,
+                handle: handle.into()
+            }),
+            22
+        );
         let weaker = handle.weaken(0x20).unwrap();
         assert_eq!(state.number(freeze(5)), u8::from(made == WRITE_MODE) * 9);
         let by_the_weaker = Call::DeleteSegment {
             node,
             segment: 5,
-            handle: weaker,
+            handle: weaker.into(),
         };
         assert_eq!(state.number(by_the_weaker), 10);
     }
@@ -246,7 +262,7 @@ fn a_change_of_one_mode_ends_it() {
             let (mut state, both) = equal(made);
             let old = family(&mut state, changed, both);
             let reply = state.reply(renew(changed, both, [0x33; 16]));
-            let renewed = Handle::primary(0, 2, [0x33; 16]);
+            let renewed = Handle::primary(Width::Eight, 0, 2, [0x33; 16]);
             assert_eq!(reply, Reply::with_handle(&renewed));
             let reads = changed == READ_MODE;
             for handle in old {

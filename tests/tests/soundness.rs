@@ -1,7 +1,7 @@
 //! What makes a store unsound, one thing at a time, and what looks odd and is sound.
 
 use model::call::{Call, Reply};
-use model::handle::Handle;
+use model::handle::{Handle, Width};
 use model::model::run;
 use model::sizes::MEMORY_BYTES;
 use model::store::{Segment, Store};
@@ -14,7 +14,7 @@ const WRITE: [u8; 16] = [0x22; 16];
 fn store() -> Store {
     let mut store = Store::starting();
     let cluster = &mut store.clusters[1][3];
-    cluster.active = true;
+    (cluster.active, cluster.width) = (true, 8);
     cluster.read = READ;
     cluster.write = WRITE;
     cluster.segments[0] = Segment::present(10, 20);
@@ -75,6 +75,7 @@ fn segments_out_of_range_or_overlapping() {
     }
     let mut overlapping = store();
     overlapping.clusters[1][4].active = true;
+    overlapping.clusters[1][4].width = 8;
     overlapping.clusters[1][4].segments[2] = Segment::present(29, 5);
     assert!(!overlapping.is_sound(MEMORY_BYTES));
 }
@@ -111,22 +112,22 @@ fn marks_on_absent_segments() {
 
 /// Every call, a look and validation, all of them about places where nothing is damaged.
 fn calls() -> Vec<Call> {
-    let reader = Handle::primary(1, 3, READ);
-    let handle = Handle::primary(1, 3, WRITE);
+    let reader = Handle::primary(Width::Eight, 1, 3, READ);
+    let handle = Handle::primary(Width::Eight, 1, 3, WRITE);
     let (node, segment, mode) = (1, 0, 2);
     #[rustfmt::skip]
     let calls = vec![
-        Call::NewCluster { node: 0, local: 0, read: READ, write: WRITE },
-        Call::DeleteCluster { node, handle },
-        Call::NewSegment { node, segment: 1, size: 5, handle },
-        Call::DeleteSegment { node, segment, handle },
-        Call::Read { segment, handle: reader },
-        Call::Write { segment, handle },
-        Call::Reduce { mode, handle },
-        Call::NewPassword { mode, handle, password: [9; 16] },
-        Call::Freeze { node, segment, handle },
-        Call::Look { node, segment, handle: reader },
-        Call::Validate { mode, handle },
+        Call::NewCluster { node: 0, local: 0, width: 8, read: READ, write: WRITE },
+        Call::DeleteCluster { node, handle: handle.into() },
+        Call::NewSegment { node, segment: 1, size: 5, handle: handle.into() },
+        Call::DeleteSegment { node, segment, handle: handle.into() },
+        Call::Read { segment, handle: reader.into() },
+        Call::Write { segment, handle: handle.into() },
+        Call::Reduce { mode, handle: handle.into() },
+        Call::NewPassword { mode, handle: handle.into(), password: [9; 16] },
+        Call::Freeze { node, segment, handle: handle.into() },
+        Call::Look { node, segment, handle: reader.into() },
+        Call::Validate { mode, handle: handle.into() },
     ];
     calls
 }
@@ -165,10 +166,13 @@ fn damage_anywhere_refuses_all_but_weakening_and_changes_nothing() {
 
 #[test]
 fn damage_does_not_matter_to_weakening() {
-    let handle = Handle::primary(1, 3, READ);
+    let handle = Handle::primary(Width::Eight, 1, 3, READ);
     for mut damaged in damaged() {
         let mut weaken = |mask| {
-            let call = Call::Weaken { mask, handle };
+            let call = Call::Weaken {
+                mask,
+                handle: handle.into(),
+            };
             run(&mut damaged, &mut [], &mut [], &call)
         };
         let reply = weaken(1);
@@ -181,7 +185,7 @@ fn damage_does_not_matter_to_weakening() {
 fn unsound_comes_before_everything() {
     let nowhere = Call::Read {
         segment: 99,
-        handle: Handle::primary(9, 9, READ),
+        handle: Handle::primary(Width::Eight, 9, 9, READ).into(),
     };
     let reply = run(&mut store(), &mut [0; 4], &mut [], &nowhere);
     assert_eq!(reply, Reply::refused(UNSOUND));

@@ -5,10 +5,12 @@ mod support;
 
 use model::call::{Call, Reply};
 use model::frozen::Watch;
-use model::handle::Handle;
-use model::list::{output, Record, CODE_AT, HANDLE_AT, NODE_AT, RECORD_BYTES, SEGMENT_AT};
+use model::handle::{Handle, Width};
+use model::list::{
+    output, Record, CODE_AT, HANDLE_AT, HANDLE_BYTES, NODE_AT, RECORD_BYTES, SEGMENT_AT,
+};
 use model::random::Random;
-use model::sizes::{HANDLE_BYTES, MEMORY_BYTES};
+use model::sizes::MEMORY_BYTES;
 use model::store::Segment;
 use std::collections::BTreeMap;
 use support::valid::valid_call;
@@ -25,7 +27,7 @@ fn row(random: &mut Random, refused: &mut BTreeMap<&'static str, usize>) -> usiz
         let call = valid_call(random, &bench);
         let equal = bench.store.clusters[0].map(|cluster| cluster.has_equal_passwords());
         let mut buffer: [u8; 40] = random.bytes();
-        let reply = bench.ask(call, &mut buffer);
+        let reply = bench.ask(&call, &mut buffer);
         assert_eq!(watch.see(&bench.store, &bench.memory), Ok(()), "{call:?}");
         assert!(bench.store.is_sound(MEMORY_BYTES));
         let name = match call {
@@ -62,7 +64,7 @@ fn a_freeze_between_all_other_calls() {
     let before = bench.clone();
     let delete = Call::DeleteCluster {
         node: 0,
-        handle: writer(),
+        handle: writer().into(),
     };
     for call in [
         delete,
@@ -146,7 +148,7 @@ fn freezes(unused: u8) -> Vec<Record> {
         by(4, 5, writer()),
         by(0, 8, writer()),
         by(1, 5, writer()),
-        by(0, 5, Handle::primary(0, 3, [0; 16])),
+        by(0, 5, Handle::primary(Width::Eight, 0, 3, [0; 16])),
         by(0, 5, reader()),
         by(0, 5, writer().weaken(0x20).unwrap()),
         by(0, 6, writer()),

@@ -4,7 +4,7 @@
 mod support;
 
 use model::call::Call;
-use model::handle::{Handle, Password, Selector};
+use model::handle::{Handle, Password, Selector, Width};
 use model::list::{output, Record, RECORD_BYTES};
 use model::random::Random;
 use model::store::Mode;
@@ -31,7 +31,7 @@ fn state(mode: Mode, own: Password, other: Password) -> Bench {
 /// but for these nothing differs.
 fn number(mode: Mode, own: Password, others: [Password; 2], call: Call) -> u8 {
     let mut states = others.map(|other| state(mode, own, other));
-    let [one, two] = states.each_mut().map(|state| state.reply(call));
+    let [one, two] = states.each_mut().map(|state| state.reply(&call));
     assert_eq!(one, two, "{own:?} {others:?} {call:?}");
     let left = states.each_mut().map(|state| {
         let cluster = &mut state.store.clusters[0][2];
@@ -46,14 +46,14 @@ fn number(mode: Mode, own: Password, others: [Password; 2], call: Call) -> u8 {
 /// that of the mode, primary and not, or one made from the other mode's password in either store.
 #[test]
 fn whatever_the_four_passwords_are() {
-    let weaker = Selector([0x7e, 255, 255, 255]);
+    let weaker = eight([0x7e, 255, 255, 255]);
     let mut numbers: BTreeMap<u8, usize> = BTreeMap::new();
     for at in 0..2 * FEW.len().pow(4) {
         let mode = Mode::ALL[at % 2];
         let [own, one, two, password] =
             [0, 1, 2, 3].map(|place| FEW[at / 2 / 5_usize.pow(place) % 5]);
         for made_from in [own, one, two] {
-            for selector in [Selector::PRIMARY, weaker] {
+            for selector in [Selector::primary(Width::Eight), weaker] {
                 let handle = Handle::converted(0, 2, &made_from, selector);
                 let call = renew(mode.number(), handle, password);
                 let number = number(mode, own, [one, two], call);
@@ -69,7 +69,7 @@ fn whatever_the_four_passwords_are() {
 #[test]
 fn whatever_the_handle_is() {
     let random = &mut Random::from_seed(1);
-    let selectors = selectors()
+    let selectors = selectors(Width::Eight)
         .chain([[255; 4]; 400])
         .chain([[255, 0, 255, 255]; 9]);
     let mut numbers: BTreeMap<u8, usize> = BTreeMap::new();
@@ -78,7 +78,7 @@ fn whatever_the_handle_is() {
         let [own, one, two, third] = passwords;
         let mode = Mode::ALL[random.below(2) as usize];
         let made_from = *random.pick(&[own, own, own, one, two, third]).unwrap();
-        let handle = Handle::converted(0, 2, &made_from, Selector(selector));
+        let handle = Handle::converted(0, 2, &made_from, eight(selector));
         // Either store may have equal passwords, or neither.
         let others = *random.pick(&[[one, two], [own, two], [one, own]]).unwrap();
         for password in passwords {
@@ -103,7 +103,7 @@ fn list(mode: Mode, own: Password, other: Password, password: Password) -> Vec<u
     new_cluster[48..].copy_from_slice(&write);
     let mut renewed: Record = [0; RECORD_BYTES];
     (renewed[1], renewed[3]) = (9, mode.number() as u8);
-    renewed[8..31].copy_from_slice(&Handle::primary(0, 2, own).to_bytes());
+    renewed[8..31].copy_from_slice(&Handle::primary(Width::Eight, 0, 2, own).to_bytes());
     renewed[32..48].copy_from_slice(&password);
     [new_cluster, renewed].concat()
 }

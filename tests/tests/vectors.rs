@@ -1,6 +1,6 @@
 //! The published handles are those of the model, and are what the calls give.
 
-use model::handle::{Handle, HandleBytes, Password};
+use model::handle::{Handle, Password};
 use model::hexadecimal::decode;
 use model::vectors::text;
 use std::collections::HashMap;
@@ -20,19 +20,18 @@ fn read(line: &str) -> (&str, HashMap<&str, &str>) {
 }
 
 fn handle(text: &str) -> Handle {
-    let bytes: HandleBytes = decode(text).unwrap().try_into().unwrap();
-    Handle::from_bytes(&bytes)
+    Handle::from_bytes(&decode(text).unwrap()).unwrap()
 }
 
 /// What a line about a weakening has to say: counted segment by segment.
-fn weakening(old: &Handle, mask: u8) -> (&'static str, Option<&'static str>) {
+fn weakening(old: &Handle, mask: u16) -> (&'static str, Option<&'static str>) {
     let segments = || (0..8).filter(|&segment| old.selector.references(segment));
     let kept = |segment: &usize| mask >> segment & 1 == 1;
     let left = segments().filter(kept).count();
     match left {
         0 => ("empty", Some("21")),
         _ if left == segments().count() => ("weakened", None),
-        _ if old.selector.0.contains(&255) => ("weakened", None),
+        _ if old.selector.subselectors.contains(&255) => ("weakened", None),
         _ => ("spent", Some("17")),
     }
 }
@@ -46,7 +45,7 @@ fn either(one: &Handle, two: &Handle) -> Vec<usize> {
 
 /// What a line about a join has to say; both handles have to validate where they are.
 fn joining(one: &Handle, two: &Handle, primary: &Password) -> (&'static str, Option<&'static str>) {
-    assert!(one.validates(primary) && two.validates(primary));
+    assert!(one.is_made_from(primary) && two.is_made_from(primary));
     match (one.node, one.local) == (two.node, two.local) {
         false => ("apart", Some("24")),
         true if either(one, two).len() == 8 => ("whole", Some("23")),
@@ -61,8 +60,8 @@ fn joined_in_the_form_of_a_reduced_handle() {
     for (_, values) in lines.map(read) {
         let [one, two, new] = ["one", "two", "new"].map(|key| handle(values[key]));
         assert_eq!((new.node, new.local), (one.node, one.local));
-        assert_eq!(new.selector.0[1..], [255; 3]);
-        assert_ne!(new.selector.0[0], 255);
+        assert_eq!(new.selector.subselectors[1..], [255; 3]);
+        assert_ne!(new.selector.subselectors[0], 255);
         assert_eq!(either(&new, &new), either(&one, &two));
         if one == two {
             let reduced = format!("old={} new={} ", values["one"], values["new"]);
@@ -83,13 +82,13 @@ fn every_handle_validates_and_every_count_is_right() {
         *kinds.entry(kind).or_default() += 1;
         if let (Some(new), Some(primary)) = (values.get("new"), values.get("primary")) {
             let new = handle(new);
-            assert!(new.validates(&decode(primary).unwrap().try_into().unwrap()));
+            assert!(new.is_made_from(&decode(primary).unwrap().try_into().unwrap()));
             assert_eq!(new.selector.count().to_string(), values["count"]);
             assert_ne!(values["count"], "0");
             assert!(!new.selector.is_gapped());
         }
         if let (Some(old), Some(mask)) = (values.get("old"), values.get("mask")) {
-            let mask = u8::from_str_radix(mask, 16).unwrap();
+            let mask = u16::from_str_radix(mask, 16).unwrap();
             let number = values.get("number").copied();
             assert_eq!((kind, number), weakening(&handle(old), mask));
         }

@@ -5,7 +5,7 @@
 mod support;
 
 use model::call::{Call, Reply};
-use model::handle::{derive, Handle};
+use model::handle::{derive, Handle, Width};
 use model::random::Random;
 use model::store::{Cluster, Mode, Segment};
 use std::collections::BTreeMap;
@@ -28,6 +28,7 @@ fn pair(random: &mut Random) -> [Bench; 2] {
     for local in [APART, BESIDE] {
         let mut cluster = Cluster {
             active: true,
+            width: 8,
             read: random.bytes(),
             write: random.bytes(),
             ..Cluster::INACTIVE
@@ -57,13 +58,16 @@ fn parts(state: &Bench, local: usize) -> Vec<Range<usize>> {
 
 /// Whether no handle of the cluster reads by this call, in either state.
 fn is_free(states: &[Bench; 2], call: &Call) -> bool {
-    let reads = |&handle: &Handle| {
+    let reads = |handle: Handle| {
         let mode = READ_MODE;
-        let validation = Call::Validate { mode, handle };
+        let validation = Call::Validate {
+            mode,
+            handle: handle.into(),
+        };
         let mut states = states.iter();
-        states.any(|state| state.clone().number(validation) == 0)
+        states.any(|state| state.clone().number(&validation) == 0)
     };
-    let of_cluster = |handle: &&Handle| handle.name() == (0, APART as u8);
+    let of_cluster = |handle: &Handle| handle.name() == (0, APART as u8);
     let mut own = call.presented().filter(of_cluster);
     call.needed_mode() != Some(Mode::Read) || !own.any(reads)
 }
@@ -76,12 +80,14 @@ fn free_call(random: &mut Random, states: &[Bench; 2]) -> Call {
         let mut call = valid_call(random, state);
         let cluster = &state.store.clusters[0][APART];
         if let Call::Read { handle, .. } | Call::Look { handle, .. } = &mut call {
-            if usize::from(handle.local) == APART {
-                handle.password = derive(&cluster.write, &handle.selector);
+            let mut read_by = Handle::from_bytes(handle).expect("it has a width");
+            if usize::from(read_by.local) == APART {
+                read_by.password = derive(&cluster.write, &read_by.selector);
+                *handle = read_by.into();
             }
         }
         if let (Call::Weaken { handle, .. }, true) = (&mut call, random.one_in(2)) {
-            *handle = Handle::primary(0, APART as u8, cluster.read);
+            *handle = Handle::primary(Width::Eight, 0, APART as u8, cluster.read).into();
         }
         let deletes = matches!(call, Call::DeleteCluster { .. });
         if is_free(states, &call) && (!deletes || random.one_in(8)) {
@@ -91,7 +97,7 @@ fn free_call(random: &mut Random, states: &[Bench; 2]) -> Call {
 }
 
 /// The reply, the buffer afterwards, and the bytes that a look shows.
-fn answer(state: &mut Bench, call: Call, data: &[u8]) -> (Reply, Vec<u8>, Vec<u8>) {
+fn answer(state: &mut Bench, call: &Call, data: &[u8]) -> (Reply, Vec<u8>, Vec<u8>) {
     let mut buffer = data.to_vec();
     let reply = state.ask(call, &mut buffer);
     let shown = reply.shown.of(&state.memory).expect("a part of it");
@@ -119,7 +125,7 @@ fn list(random: &mut Random, met: &mut BTreeMap<(usize, String, u8), usize>) -> 
     for _ in 0..LIST_CALLS {
         let call = free_call(random, &states);
         let data: [u8; BUFFER_BYTES] = random.bytes();
-        let [one, two] = states.each_mut().map(|state| answer(state, call, &data));
+        let [one, two] = states.each_mut().map(|state| answer(state, &call, &data));
         assert_eq!(one, two, "{call:?}");
         assert!(agree(&states), "{call:?}");
         let local = match call {
@@ -186,7 +192,7 @@ fn whoever_reads_does_not() {
         let [one, two] = states
             .each_ref()
             .map(|state| state.store.clusters[0][APART]);
-        let reader = Handle::primary(0, APART as u8, one.read);
+        let reader = Handle::primary(Width::Eight, 0, APART as u8, one.read);
         let read = |states: &mut [Bench; 2]| states.each_mut().map(|state| state.read(1, reader));
         let there = states.each_ref().map(|state| {
             let part = parts(state, APART).swap_remove(1);

@@ -1,12 +1,12 @@
 //! Joins: pairs of handles of one cluster with the handle that joining gives, and pairs that are refused.
 
 use super::{Cluster, Family};
-use crate::handle::{Handle, Password};
+use crate::handle::{Handle, Password, Width};
 use crate::hexadecimal::encode;
 use crate::table::{APART, WHOLE};
 
 /// The masks that two handles are made with from the primary one, each going on from the one before.
-type Pair = (&'static [u8], &'static [u8]);
+type Pair = (&'static [u16], &'static [u16]);
 
 /// Segments 0 to 2 and 3 to 4, in either order; others that share none, with one to four subselectors not flat; some
 /// that share segments; one inside the other; and a handle with itself.
@@ -49,7 +49,7 @@ pub fn of(family: &Family, primary: Handle) -> String {
 }
 
 fn both(primary: Handle, (first, second): Pair) -> [Handle; 2] {
-    let weaken = |handle: Handle, mask: &u8| handle.weaken(*mask).expect("some are left");
+    let weaken = |handle: Handle, mask: &u16| handle.weaken(*mask).expect("some are left");
     [first, second].map(|masks| masks.iter().fold(primary, weaken))
 }
 
@@ -79,7 +79,7 @@ fn apart_in(
     (node, local): (u16, u8),
 ) -> String {
     let secret = Family { mode, primary }.secret();
-    let one = Handle::primary(cluster.node, cluster.local, *primary);
+    let one = Handle::primary(Width::Eight, cluster.node, cluster.local, *primary);
     let one = one.weaken(0x18).expect("all are flat");
     let two = Handle { node, local, ..one };
     let [one, two] = [one, two].map(|handle| encode(&handle.to_bytes()));

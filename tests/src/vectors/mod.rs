@@ -3,7 +3,7 @@
 
 mod joins;
 
-use crate::handle::{convert, Handle, Password, Selector, FLAT};
+use crate::handle::{convert, Handle, Password, Selector, Width};
 use crate::hexadecimal::encode;
 use crate::sizes::{PASSWORD_BYTES, SUBSELECTORS};
 use crate::table::{word, DONE, EMPTY, GAPPED, SPENT, VIOLATED_PROTECTION};
@@ -54,7 +54,7 @@ const CLUSTERS: [Cluster; 4] = [
 ];
 
 /// Masks that a primary handle is weakened by, one after the other. One that is refused is the last.
-const PATHS: [&[u8]; 7] = [
+const PATHS: [&[u16]; 7] = [
     &[0x7f, 0x3f, 0x0f, 0x01, 0x00],
     &[0xfe, 0xfd, 0xfb, 0xf7, 0xef],
     &[0xfe, 0x7d, 0x70],
@@ -64,7 +64,7 @@ const PATHS: [&[u8]; 7] = [
     &[0xaa, 0x0f, 0x08],
 ];
 
-const PARAMETERS: [u8; 8] = [0x00, 0x01, 0x20, 0x7f, 0x80, 0xf3, 0xfe, 0xff];
+const PARAMETERS: [u16; 8] = [0x00, 0x01, 0x20, 0x7f, 0x80, 0xf3, 0xfe, 0xff];
 
 /// The whole text.
 pub fn text() -> String {
@@ -92,7 +92,7 @@ fn conversions() -> String {
 
 /// The primary handle of one mode and all that is made from it.
 fn family(cluster: &Cluster, mode: &'static str, primary: &Password) -> String {
-    let handle = Handle::primary(cluster.node, cluster.local, *primary);
+    let handle = Handle::primary(Width::Eight, cluster.node, cluster.local, *primary);
     let family = Family { mode, primary };
     let mut text = format!(
         "\n# Cluster {}, to {mode}.\nprimary {} node={:04x} local={:02x} handle={} count={}\n",
@@ -122,8 +122,9 @@ impl Family<'_> {
     }
 
     /// Each weakening, and each of its outcomes reduced.
-    fn weakenings(&self, mut handle: Handle, masks: &[u8]) -> String {
-        let mut text = format!("# Masks {}.\n", encode(masks));
+    fn weakenings(&self, mut handle: Handle, masks: &[u16]) -> String {
+        let shown: String = masks.iter().map(|mask| format!("{mask:02x}")).collect();
+        let mut text = format!("# Masks {shown}.\n");
         for &mask in masks {
             let Some(weaker) = handle.weaken(mask) else {
                 text.push_str(&refused(&handle, mask));
@@ -140,7 +141,7 @@ impl Family<'_> {
 }
 
 /// A weakening that is refused: its kind is the number's word.
-fn refused(old: &Handle, mask: u8) -> String {
+fn refused(old: &Handle, mask: u16) -> String {
     let number = match old.kept(mask) {
         0 => EMPTY,
         _ => SPENT,
@@ -168,31 +169,32 @@ fn validations(cluster: &Cluster) -> String {
 
 /// Four handles that open something; then some made from them by changing one part.
 fn right_and_wrong(cluster: &Cluster) -> Vec<Handle> {
-    let reader = Handle::primary(cluster.node, cluster.local, cluster.read);
-    let writer = Handle::primary(cluster.node, cluster.local, cluster.write);
+    let reader = Handle::primary(Width::Eight, cluster.node, cluster.local, cluster.read);
+    let writer = Handle::primary(Width::Eight, cluster.node, cluster.local, cluster.write);
     let weaker = reader.weaken(0x7d).and_then(|handle| handle.weaken(0x30));
     let weaker = weaker.expect("two subselectors are flat");
     let mut handles = vec![reader, writer, weaker, weaker.reduce(&cluster.read)];
 
-    let [first, second, ..] = weaker.selector.0;
+    let flat = Width::Eight.flat();
+    let [first, second, ..] = weaker.selector.subselectors;
     let selectors = [
-        [second, first, FLAT, FLAT],
-        [first, FLAT, FLAT, FLAT],
-        [weaker.selector.referenced(), FLAT, FLAT, FLAT],
-        [FLAT; SUBSELECTORS],
-        [first, FLAT, second, FLAT],
-        [FLAT, first, second, FLAT],
+        [second, first, flat, flat],
+        [first, flat, flat, flat],
+        [weaker.selector.referenced(), flat, flat, flat],
+        [flat; SUBSELECTORS],
+        [first, flat, second, flat],
+        [flat, first, second, flat],
     ];
     handles.extend(selectors.map(|selector| with_selector(weaker, selector)));
     let mut flipped = weaker.password;
     flipped[PASSWORD_BYTES - 1] ^= 1;
     handles.push(with_password(weaker, flipped));
-    handles.push(with_password(reader, convert(&cluster.read, FLAT)));
+    handles.push(with_password(reader, convert(&cluster.read, flat)));
     handles
 }
 
-fn with_selector(mut handle: Handle, selector: [u8; SUBSELECTORS]) -> Handle {
-    handle.selector = Selector(selector);
+fn with_selector(mut handle: Handle, selector: [u16; SUBSELECTORS]) -> Handle {
+    handle.selector = Selector::new(Width::Eight, selector);
     handle
 }
 
@@ -204,7 +206,7 @@ fn with_password(mut handle: Handle, password: Password) -> Handle {
 fn validation(mode: &str, primary: &Password, handle: &Handle) -> String {
     let number = if handle.selector.is_gapped() {
         GAPPED
-    } else if handle.validates(primary) {
+    } else if handle.is_made_from(primary) {
         DONE
     } else {
         VIOLATED_PROTECTION

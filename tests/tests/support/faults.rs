@@ -2,8 +2,9 @@
 //! set alone.
 #![allow(dead_code)] // each test file uses its own part
 
+use super::eight;
 use model::call::Call;
-use model::handle::{Handle, Password, Selector};
+use model::handle::{Handle, Password, Selector, Width};
 use model::sizes::MEMORY_BYTES;
 use model::store::{Cluster, Segment, Store};
 
@@ -101,6 +102,7 @@ fn store(kind: Kind, frozen: bool) -> Store {
     for cluster in &mut store.clusters[NODE][LOCAL..=LOCAL + 1] {
         *cluster = Cluster {
             active: true,
+            width: 8,
             read: READ,
             write: WRITE,
             ..Cluster::INACTIVE
@@ -140,11 +142,11 @@ fn with(kind: Kind, faults: Vec<u8>, frozen: bool) -> Faulty {
     let handle = handle(kind, &faults);
     #[rustfmt::skip]
     let call = match kind {
-        Kind::DeleteCluster => Call::DeleteCluster { node, handle },
-        Kind::DeleteSegment => Call::DeleteSegment { node, segment, handle },
-        Kind::Write => Call::Write { segment, handle },
-        Kind::Freeze => Call::Freeze { node, segment, handle },
-        Kind::Look => Call::Look { node, segment, handle },
+        Kind::DeleteCluster => Call::DeleteCluster { node, handle: handle.into() },
+        Kind::DeleteSegment => Call::DeleteSegment { node, segment, handle: handle.into() },
+        Kind::Write => Call::Write { segment, handle: handle.into() },
+        Kind::Freeze => Call::Freeze { node, segment, handle: handle.into() },
+        Kind::Look => Call::Look { node, segment, handle: handle.into() },
     };
     Faulty {
         store: store(kind, frozen),
@@ -159,8 +161,8 @@ fn with(kind: Kind, faults: Vec<u8>, frozen: bool) -> Faulty {
 fn handle(kind: Kind, faults: &[u8]) -> Handle {
     let has = |number: u8| faults.contains(&number);
     let selector = match kind.needs_primary() && !has(10) {
-        true => Selector::PRIMARY,
-        false => Selector([0x22, 255, 255, 255]),
+        true => Selector::primary(Width::Eight),
+        false => eight([0x22, 255, 255, 255]),
     };
     let primary = kind.primary_password();
     let mut handle = Handle::converted(NODE as u16, LOCAL as u8, primary, selector);
@@ -168,7 +170,7 @@ fn handle(kind: Kind, faults: &[u8]) -> Handle {
         handle.local = 8;
     }
     if has(4) {
-        handle.selector = Selector([255, 0x22, 255, 255]);
+        handle.selector = eight([255, 0x22, 255, 255]);
     }
     if has(8) && handle.local < 8 {
         handle.local -= 1;

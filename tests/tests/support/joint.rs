@@ -2,8 +2,9 @@
 //! refused with is known from the set alone.
 #![allow(dead_code)] // each test file uses its own part
 
+use super::eight;
 use model::call::Call;
-use model::handle::{Handle, Password, Selector};
+use model::handle::{Handle, Password};
 use model::sizes::MEMORY_BYTES;
 use model::store::{Cluster, Mode, Segment, Store};
 
@@ -11,13 +12,13 @@ use model::store::{Cluster, Mode, Segment, Store};
 pub const NODE: u16 = 2;
 pub const LOCAL: u8 = 6;
 /// What the two reference together where nothing is wrong: segments 0 to 2, and 3 and 4.
-pub const UNION: u8 = 0x1f;
+pub const UNION: u16 = 0x1f;
 
 const READ: Password = [0x11; 16];
 const WRITE: Password = [0x22; 16];
 
 /// Selectors of the two: the first pair is not whole, the others are.
-const SELECTORS: [[[u8; 4]; 2]; 5] = [
+const SELECTORS: [[[u16; 4]; 2]; 5] = [
     [[0x07, 255, 255, 255], [0x7e, 0x99, 255, 255]],
     [[0x0f, 0x37, 255, 255], [0xf8, 255, 255, 255]],
     [[255; 4], [0x7e, 0x99, 255, 255]],
@@ -96,8 +97,8 @@ fn with(choices: [usize; 8]) -> Joint {
         let (node, local) = places[at];
         let cluster = &store.clusters[usize::from(node)][usize::from(local)];
         let selector = match has(gapped) {
-            true => Selector([255, SELECTORS[0][at][0], 255, 255]),
-            false => Selector(SELECTORS[selectors][at]),
+            true => eight([255, SELECTORS[0][at][0], 255, 255]),
+            false => eight(SELECTORS[selectors][at]),
         };
         let mut handle = Handle::converted(node, local, cluster.primary(mode), selector);
         handle.password[15] ^= u8::from(has(violated));
@@ -113,8 +114,8 @@ fn with(choices: [usize; 8]) -> Joint {
         memory_bytes: MEMORY_BYTES - unsound,
         call: Call::Join {
             mode: [1, 2, 0, 3][2 * field + write],
-            handle: handle(0),
-            other: handle(1),
+            handle: handle(0).into(),
+            other: handle(1).into(),
         },
         primary: [READ, WRITE][write],
         store,
@@ -140,6 +141,7 @@ fn store(places: [(u16, u8); 2], inactive: usize) -> Store {
 fn active() -> Cluster {
     Cluster {
         active: true,
+        width: 8,
         read: READ,
         write: WRITE,
         ..Cluster::INACTIVE

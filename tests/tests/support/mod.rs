@@ -2,10 +2,11 @@
 #![allow(dead_code)] // each test file uses its own part
 
 use model::call::{Call, Reply};
-use model::handle::{Handle, Password};
+use model::handle::{Handle, HandleBytes, Password, Selector, Width};
 use model::model::run;
 use model::sizes::{MEMORY_BYTES, NODE_BYTES};
 use model::store::Store;
+use std::borrow::Borrow;
 
 pub mod faults;
 pub mod joint;
@@ -47,28 +48,42 @@ impl Bench {
         bench
     }
 
-    pub fn ask(&mut self, call: Call, buffer: &mut [u8]) -> Reply {
-        run(&mut self.store, &mut self.memory, buffer, &call)
+    pub fn ask(&mut self, call: impl Borrow<Call>, buffer: &mut [u8]) -> Reply {
+        run(&mut self.store, &mut self.memory, buffer, call.borrow())
     }
 
     /// The number of a call with a buffer that nothing is too long for.
-    pub fn number(&mut self, call: Call) -> u8 {
+    pub fn number(&mut self, call: impl Borrow<Call>) -> u8 {
         self.reply(call).number
     }
 
-    pub fn reply(&mut self, call: Call) -> Reply {
+    pub fn reply(&mut self, call: impl Borrow<Call>) -> Reply {
         self.ask(call, &mut [0; NODE_BYTES])
     }
 
-    pub fn write(&mut self, segment: u32, data: &[u8], handle: Handle) -> u8 {
-        self.ask(Call::Write { segment, handle }, &mut data.to_vec())
-            .number
+    pub fn write(&mut self, segment: u32, data: &[u8], handle: impl Into<HandleBytes>) -> u8 {
+        let handle = handle.into();
+        self.ask(
+            Call::Write {
+                segment,
+                handle: handle.into(),
+            },
+            &mut data.to_vec(),
+        )
+        .number
     }
 
     /// The bytes of a segment, or the number of the refusal.
-    pub fn read(&mut self, segment: u32, handle: Handle) -> Result<Vec<u8>, u8> {
+    pub fn read(&mut self, segment: u32, handle: impl Into<HandleBytes>) -> Result<Vec<u8>, u8> {
+        let handle = handle.into();
         let mut buffer = vec![0xee; NODE_BYTES];
-        let reply = self.ask(Call::Read { segment, handle }, &mut buffer);
+        let reply = self.ask(
+            Call::Read {
+                segment,
+                handle: handle.into(),
+            },
+            &mut buffer,
+        );
         let (told, rest) = buffer.split_at(reply.length as usize);
         assert!(rest.iter().all(|&byte| byte == 0xee));
         match reply.number {
@@ -79,14 +94,20 @@ impl Bench {
 
     /// The bytes that a look shows, or the number of the refusal. It changes nothing, not even a
     /// buffer beside it, and gives nothing but the part.
-    pub fn look(&mut self, node: u32, segment: u32, handle: Handle) -> Result<Vec<u8>, u8> {
+    pub fn look(
+        &mut self,
+        node: u32,
+        segment: u32,
+        handle: impl Into<HandleBytes>,
+    ) -> Result<Vec<u8>, u8> {
+        let handle = handle.into();
         let (before, mut buffer) = (self.clone(), [0xee; 3]);
         let call = Call::Look {
             node,
             segment,
-            handle,
+            handle: handle.into(),
         };
-        let reply = self.ask(call, &mut buffer);
+        let reply = self.ask(&call, &mut buffer);
         assert!(*self == before && buffer == [0xee; 3], "{call:?}");
         let shown = reply.shown;
         let number = reply.number;
@@ -109,18 +130,29 @@ impl Bench {
     }
 }
 
+/// A selector of width 8.
+pub fn eight(subselectors: [u16; 4]) -> Selector {
+    Selector::new(Width::Eight, subselectors)
+}
+
 pub fn reader() -> Handle {
-    Handle::primary(0, 2, READ_SECRET)
+    Handle::primary(Width::Eight, 0, 2, READ_SECRET)
 }
 
 pub fn writer() -> Handle {
-    Handle::primary(0, 2, WRITE_SECRET)
+    Handle::primary(Width::Eight, 0, 2, WRITE_SECRET)
+}
+
+/// The handle that a reply gives.
+pub fn given(reply: &Reply) -> Handle {
+    Handle::from_bytes(&reply.first).expect("it has a width")
 }
 
 pub fn new_cluster(node: u32, local: u32) -> Call {
     Call::NewCluster {
         node,
         local,
+        width: 8,
         read: READ_SECRET,
         write: WRITE_SECRET,
     }
@@ -131,7 +163,7 @@ pub fn new_segment(segment: u32, size: u32) -> Call {
         node: 0,
         segment,
         size,
-        handle: writer(),
+        handle: writer().into(),
     }
 }
 
@@ -139,7 +171,7 @@ pub fn delete_segment(segment: u32) -> Call {
     Call::DeleteSegment {
         node: 0,
         segment,
-        handle: writer(),
+        handle: writer().into(),
     }
 }
 
@@ -147,14 +179,14 @@ pub fn freeze(segment: u32) -> Call {
     Call::Freeze {
         node: 0,
         segment,
-        handle: writer(),
+        handle: writer().into(),
     }
 }
 
 pub fn renew(mode: u32, handle: Handle, password: Password) -> Call {
     Call::NewPassword {
         mode,
-        handle,
+        handle: handle.into(),
         password,
     }
 }
@@ -162,7 +194,7 @@ pub fn renew(mode: u32, handle: Handle, password: Password) -> Call {
 pub fn join(mode: u32, handle: Handle, other: Handle) -> Call {
     Call::Join {
         mode,
-        handle,
-        other,
+        handle: handle.into(),
+        other: other.into(),
     }
 }

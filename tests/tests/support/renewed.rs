@@ -2,8 +2,9 @@
 //! equal: what each has to be refused with is known from the set alone.
 #![allow(dead_code)] // each test file uses its own part
 
+use super::eight;
 use model::call::Call;
-use model::handle::{Handle, Password, Selector};
+use model::handle::{Handle, Password, Selector, Width};
 use model::sizes::MEMORY_BYTES;
 use model::store::{Cluster, Mode, Segment, Store};
 
@@ -38,7 +39,7 @@ impl Renewed {
 
     /// The primary handle that it gives where it is done.
     pub fn given(&self) -> Handle {
-        Handle::primary(NODE, LOCAL, self.password)
+        Handle::primary(Width::Eight, NODE, LOCAL, self.password)
     }
 }
 
@@ -72,9 +73,9 @@ fn with(choices: [usize; 10]) -> Renewed {
     ];
     let mode = [Mode::Read, Mode::Write][write];
     let selector = match (gapped, weaker) {
-        (1, _) => Selector([255, 0x7e, 255, 255]),
-        (_, 1) => Selector([0x7e, 255, 255, 255]),
-        _ => Selector::PRIMARY,
+        (1, _) => eight([255, 0x7e, 255, 255]),
+        (_, 1) => eight([0x7e, 255, 255, 255]),
+        _ => Selector::primary(Width::Eight),
     };
     let mut handle = Handle::converted(NODE, LOCAL, &OWN, selector);
     handle.password[15] ^= u8::from(violated == 1);
@@ -90,7 +91,7 @@ fn with(choices: [usize; 10]) -> Renewed {
         memory_bytes: MEMORY_BYTES - unsound,
         call: Call::NewPassword {
             mode: [1, 2, 0, 3][2 * field + write],
-            handle,
+            handle: handle.into(),
             password,
         },
         mode,
@@ -102,6 +103,7 @@ fn with(choices: [usize; 10]) -> Renewed {
 fn store(mode: Mode, other: Password) -> Store {
     let active = Cluster {
         active: true,
+        width: 8,
         ..Cluster::INACTIVE
     };
     let mut own = active;
