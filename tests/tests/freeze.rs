@@ -7,7 +7,7 @@ use model::handle::{Handle, Width};
 use model::sizes::{MEMORY_BYTES, NODES};
 use model::store::{Cluster, Segment};
 use model::table::{numbers_of_calls, word};
-use support::faults::{self, Faulty, Kind, LOCAL, NODE, SEGMENT};
+use support::faults::{self, Faulty, Kind, LOCAL, NODE};
 use support::*;
 
 /// Cluster 2 of node 0 with all eight segments, of four bytes each, those of `marks` frozen.
@@ -141,13 +141,13 @@ fn everything_else_is_as_with_any_other() {
 /// What a call leaves that nothing speaks against.
 fn done(faulty: &Faulty, kind: Kind, buffer: &[u8]) -> Bench {
     let mut bench = put_to(faulty);
-    let segment = &mut bench.store.clusters[NODE][LOCAL].segments[SEGMENT];
+    let segment = &mut bench.store.clusters[NODE][LOCAL].segments[faulty.segment];
     match kind {
         Kind::Freeze => segment.frozen = true,
         Kind::DeleteSegment => *segment = Segment::ABSENT,
         Kind::DeleteCluster => bench.store.clusters[NODE][LOCAL] = Cluster::INACTIVE,
         Kind::Write => bench.memory[8292..8296].copy_from_slice(&buffer[..4]),
-        Kind::Look => {}
+        _ => {}
     }
     bench
 }
@@ -163,10 +163,10 @@ fn put_to(faulty: &Faulty) -> Bench {
 #[test]
 fn numbers_in_their_order() {
     let kinds = [
-        (Kind::DeleteCluster, 256),
-        (Kind::DeleteSegment, 768),
-        (Kind::Write, 768),
-        (Kind::Freeze, 1024),
+        (Kind::DeleteCluster, 1024),
+        (Kind::DeleteSegment, 3072),
+        (Kind::Write, 3072),
+        (Kind::Freeze, 4096),
     ];
     for (kind, count) in kinds {
         for faulty in faults::all(kind) {
@@ -180,7 +180,7 @@ fn numbers_in_their_order() {
             assert!(bench == expected, "{faulty:?}");
             assert_eq!(buffer, vec![0xee; faulty.buffer_bytes]);
         }
-        assert_eq!(faults::all(kind).count(), count, "{kind:?}");
+        assert_eq!(faults::all(kind).count(), 3 * count, "{kind:?}");
     }
 }
 

@@ -4,10 +4,10 @@
 mod support;
 
 use model::call::{Call, Reply};
-use model::handle::{convert, Handle, Width};
+use model::handle::{convert, Handle, Selector, Width};
 use model::sizes::MEMORY_BYTES;
 use model::table::{numbers_of_calls, word};
-use support::joint::{self, LOCAL, NODE, UNION};
+use support::joint::{self, union, LOCAL, NODE};
 use support::naive::{has, selectors};
 use support::*;
 
@@ -219,11 +219,12 @@ fn numbers_in_their_order() {
             memory: vec![0x77; joint.memory_bytes],
         };
         let before = bench.clone();
+        let (width, flat) = (joint.width, joint.width.flat());
         let given = Handle {
             node: NODE,
             local: LOCAL,
-            password: convert(&joint.primary, UNION),
-            selector: eight([UNION, 255, 255, 255]),
+            password: convert(&joint.primary, union(width)),
+            selector: Selector::new(width, [union(width), flat, flat, flat]),
         };
         let expected = match joint.number() {
             0 => Reply::with_handle(&given),
@@ -234,7 +235,7 @@ fn numbers_in_their_order() {
         asked += 1;
         done += usize::from(joint.number() == 0);
     }
-    assert_eq!((asked, done), (25_600, 2));
+    assert_eq!((asked, done), (409_600, 2));
 }
 
 #[test]

@@ -158,8 +158,8 @@ fn numbers_in_their_order() {
         assert_eq!(bench.store, faulty.store);
         assert!(bench.memory == vec![0x77; faulty.memory_bytes]);
     }
-    // Each with the segment frozen and not.
-    assert_eq!(faults::all(Kind::Look).count(), 2 * 512);
+    // At each width, each with the segment frozen and not.
+    assert_eq!(faults::all(Kind::Look).count(), 3 * 2 * 2048);
 }
 
 #[test]

@@ -143,8 +143,8 @@ fn numbers_in_their_order() {
         asked += 1;
         done += usize::from(reply.is_done());
     }
-    // Done in either mode: two new passwords where the two differ, one where they are equal.
-    assert_eq!((asked, done), (128 * 12, 6));
+    // Done in either mode at each width: two new passwords where the two differ, one where they are equal.
+    assert_eq!((asked, done), (512 * 12 * 3, 6 * 3));
 }
 
 /// A new cluster never begins with one password for both.
