@@ -1,31 +1,44 @@
-//! Every set of numbers that can meet, for calls 3, 5, 7, 8 and for validation; those of the other calls are beside what
-//! else is checked of them.
+//! Every set of numbers that can meet, at each width: alone each is given, and of several the first. Calls 1, 9 and
+//! 11 are beside what else is checked of them.
 
 mod support;
 
-use model::call::{Call, Reply};
+use model::call::{Call, Part, Reply};
 use model::handle::{Handle, Selector, Width};
-use model::store::Segment;
-use support::faults::{self, Faulty, Kind, LOCAL, NODE};
+use model::sizes::NODE_BYTES;
+use model::store::{Cluster, Segment};
+use support::faults::{self, Faulty, Kind, BASE, LENGTH, LOCAL, NODE};
 use support::*;
 
-/// What a call does to which nothing applies.
+/// What a call leaves to which nothing applies, what it replies, and the buffer afterwards.
 fn done(faulty: &Faulty, kind: Kind) -> (Bench, Reply, Vec<u8>) {
     let (mut state, mut buffer) = (put_to(faulty), vec![0xee; faulty.buffer_bytes]);
-    let handle = faulty.call.handle().unwrap();
-    let mut reply = Reply::DONE;
+    let segment = &mut state.store.clusters[NODE][LOCAL].segments[faulty.segment];
+    let (at, mut reply) = (NODE * NODE_BYTES, Reply::DONE);
     match kind {
+        Kind::DeleteCluster => state.store.clusters[NODE][LOCAL] = Cluster::INACTIVE,
         Kind::NewSegment => {
-            let segments = &mut state.store.clusters[NODE][LOCAL].segments;
-            segments[faulty.segment] = Segment::present(0, 4);
-            state.memory[NODE * 4096..NODE * 4096 + 4].fill(0);
+            *segment = Segment::present(0, LENGTH as u16);
+            state.memory[at..at + LENGTH].fill(0);
         }
+        Kind::DeleteSegment => *segment = Segment::ABSENT,
         Kind::Read => {
-            buffer[..4].fill(0x77);
-            reply.length = 4;
+            buffer[..LENGTH].fill(0x77);
+            reply.length = LENGTH as u32;
         }
-        Kind::Reduce => reply.first = handle.reduce(kind.primary_password()).to_bytes(),
-        _ => {}
+        Kind::Write => state.memory[at + BASE..at + BASE + LENGTH].fill(0xee),
+        Kind::Reduce => {
+            let handle = faulty.call.handle().unwrap();
+            reply.first = handle.reduce(kind.primary_password()).to_bytes();
+        }
+        Kind::Freeze => segment.frozen = true,
+        Kind::Look => {
+            reply.shown = Part {
+                from: at + BASE,
+                length: LENGTH,
+            }
+        }
+        Kind::Validate => {}
     }
     (state, reply, buffer)
 }
@@ -40,28 +53,30 @@ fn put_to(faulty: &Faulty) -> Bench {
 #[test]
 fn numbers_in_their_order() {
     let kinds = [
-        (Kind::NewSegment, 4096),
-        (Kind::Read, 2048),
-        (Kind::Reduce, 256),
-        (Kind::Validate, 256),
+        (Kind::DeleteCluster, 1024),
+        (Kind::NewSegment, 2 * 4096),
+        (Kind::DeleteSegment, 3072),
+        (Kind::Read, 2 * 2048),
+        (Kind::Write, 3072),
+        (Kind::Reduce, 2 * 256),
+        (Kind::Freeze, 2 * 2048),
+        (Kind::Look, 2 * 2048),
+        (Kind::Validate, 2 * 256),
     ];
     for (kind, count) in kinds {
         for faulty in faults::all(kind) {
-            if faulty.number() != 0 {
-                let mut left = put_to(&faulty);
-                let mut buffer = vec![0xee; faulty.buffer_bytes];
-                let reply = left.ask(&faulty.call, &mut buffer);
-                assert_eq!(reply, Reply::refused(faulty.number()), "{faulty:?}");
-                assert!(left == put_to(&faulty), "{faulty:?}");
-                assert!(buffer.iter().all(|&byte| byte == 0xee));
-                continue;
-            }
-            let (expected, reply, bytes) = done(&faulty, kind);
             let (mut left, mut buffer) = (put_to(&faulty), vec![0xee; faulty.buffer_bytes]);
-            assert_eq!(left.ask(&faulty.call, &mut buffer), reply, "{faulty:?}");
-            assert!(left == expected && buffer == bytes, "{faulty:?}");
+            let expected = match faulty.number() {
+                0 => done(&faulty, kind),
+                number => (put_to(&faulty), Reply::refused(number), buffer.clone()),
+            };
+            let reply = left.ask(&faulty.call, &mut buffer);
+            assert!(
+                (left, reply.clone(), buffer) == expected,
+                "{faulty:?} {reply:?}"
+            );
         }
-        assert_eq!(faults::all(kind).count(), 3 * 2 * count, "{kind:?}");
+        assert_eq!(faults::all(kind).count(), 3 * count, "{kind:?}");
     }
 }
 
