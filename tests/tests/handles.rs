@@ -46,10 +46,13 @@ fn four_different_subselectors_as_bytes() {
     }
 }
 
+/// Of a bit of subselector k, the selector's byte and the bit in there.
+type Place = fn(usize, u32) -> (usize, u32);
+
 /// Bit by bit: which of the selector's bits is which bit of which subselector.
 #[test]
 fn each_bit_at_its_place() {
-    let places: [fn(usize, u32) -> (usize, u32); 3] = [
+    let places: [Place; 3] = [
         |k, bit| (k / 2, bit + if k % 2 == 1 { 4 } else { 0 }),
         |k, bit| (k, bit),
         |k, bit| (2 * k + usize::from(bit < 8), bit % 8),
