@@ -1,12 +1,15 @@
 //! How the two handles of a join meet: what they reference where it is done, and to which of them a number applies
 //! where it is refused. What is made by chance has to come to each.
 
+mod refused;
+
 use crate::call::Call;
 use crate::handle::Handle;
 use crate::store::Mode;
 use crate::table::{
-    Found, APART, DONE, FIELD, GAPPED, INACTIVE, NO_SUCH_PLACE, VIOLATED_PROTECTION, WHOLE,
+    Found, APART, DONE, FIELD, GAPPED, INACTIVE, NO_SUCH_PLACE, UNSOUND, VIOLATED_PROTECTION, WHOLE,
 };
+use refused::Asked;
 use Whose::{Both, Call as Itself, First, Second};
 
 /// What a number applies to: one handle and not the other, both, or the call itself.
@@ -48,6 +51,13 @@ pub enum Meeting {
     Given(u8, Whose),
     /// The number that is given, and one that comes later.
     Before(Applied, Applied),
+    /// 25 at its first place, and what comes later.
+    NoLength(Whose),
+    NoLengthBefore(Applied),
+    /// 25 at its second place, what comes before it and is given, and what comes later.
+    OtherWidth(Whose),
+    BeforeOtherWidth(Applied, Whose),
+    OtherWidthBefore(Whose, Applied),
 }
 
 const DONE_OR_WHOLE: [Meeting; 13] = [
@@ -108,9 +118,48 @@ const BEFORE: [(Applied, Applied); 25] = [
     ((VIOLATED_PROTECTION, Second), (WHOLE, Itself)),
 ];
 
+const HANDLES: [Whose; 3] = [First, Second, Both];
+
+const AFTER_NO_LENGTH: [Applied; 8] = [
+    (UNSOUND, Itself),
+    (NO_SUCH_PLACE, First),
+    (NO_SUCH_PLACE, Second),
+    (FIELD, Itself),
+    (GAPPED, First),
+    (GAPPED, Second),
+    (VIOLATED_PROTECTION, First),
+    (VIOLATED_PROTECTION, Second),
+];
+
+const BEFORE_OTHER_WIDTH: [(Applied, Whose); 5] = [
+    ((FIELD, Itself), Both),
+    ((GAPPED, First), Second),
+    ((GAPPED, Second), First),
+    ((APART, Itself), First),
+    ((APART, Itself), Second),
+];
+
+const AFTER_OTHER_WIDTH: [(Whose, Applied); 3] = [
+    (First, (VIOLATED_PROTECTION, Second)),
+    (Second, (VIOLATED_PROTECTION, First)),
+    (Both, (WHOLE, Itself)),
+];
+
 impl Meeting {
     /// Everything that has to be met.
     pub fn all() -> impl Iterator<Item = Meeting> {
+        let before = BEFORE_OTHER_WIDTH.map(|(given, of)| Meeting::BeforeOtherWidth(given, of));
+        let after = AFTER_OTHER_WIDTH.map(|(of, later)| Meeting::OtherWidthBefore(of, later));
+        Meeting::in_lists()
+            .chain(HANDLES.map(Meeting::NoLength))
+            .chain(AFTER_NO_LENGTH.map(Meeting::NoLengthBefore))
+            .chain(HANDLES.map(Meeting::OtherWidth))
+            .chain(before)
+            .chain(after)
+    }
+
+    /// Those that a list can come to: it has one width.
+    pub fn in_lists() -> impl Iterator<Item = Meeting> {
         let given = GIVEN.map(|(number, whose)| Meeting::Given(number, whose));
         let before = BEFORE.map(|(given, later)| Meeting::Before(given, later));
         DONE_OR_WHOLE
@@ -130,14 +179,15 @@ impl Meeting {
         else {
             return Vec::new();
         };
-        match number {
-            DONE => done(handle, other),
-            WHOLE => vec![whole(handle, other)],
+        let handles = [handle, other].map(|bytes| Handle::from_bytes(bytes));
+        match (number, handles) {
+            (DONE, [Some(first), Some(second)]) => done(&first, &second),
+            (WHOLE, [Some(first), Some(second)]) => vec![whole(&first, &second)],
             _ => {
                 let asked = Asked {
                     found,
                     mode: Mode::from_number(*mode),
-                    handles: [handle, other],
+                    handles,
                 };
                 asked.refused(number)
             }
@@ -171,69 +221,5 @@ fn whole(first: &Handle, second: &Handle) -> Meeting {
         [true, false] => Meeting::FirstPrimary,
         [false, true] => Meeting::SecondPrimary,
         [false, false] => Meeting::Together,
-    }
-}
-
-/// A join that is refused.
-struct Asked<'a> {
-    found: &'a Found<'a>,
-    mode: Option<Mode>,
-    handles: [&'a Handle; 2],
-}
-
-impl Asked<'_> {
-    fn refused(&self, number: u8) -> Vec<Meeting> {
-        let Some(given) = self.applied(number) else {
-            return Vec::new();
-        };
-        let later = BEFORE.into_iter().filter(|(first, later)| {
-            *first == given && self.applied(later.0).is_some_and(|met| met == *later)
-        });
-        let before = later.map(|(given, later)| Meeting::Before(given, later));
-        let apart = (number == APART).then(|| self.apart()).flatten();
-        let given = Meeting::Given(given.0, given.1);
-        before.chain(apart).chain([given]).collect()
-    }
-
-    fn applied(&self, number: u8) -> Option<Applied> {
-        let [first, second] = self.handles;
-        let applies = match number {
-            FIELD => self.mode.is_none(),
-            APART => first.name() != second.name(),
-            WHOLE => first.union(second) == u8::MAX,
-            _ => {
-                let whose = match self.handles.map(|handle| self.applies_to(number, handle)) {
-                    [true, true] => Both,
-                    [true, false] => First,
-                    [false, true] => Second,
-                    [false, false] => return None,
-                };
-                return Some((number, whose));
-            }
-        };
-        applies.then_some((number, Itself))
-    }
-
-    fn applies_to(&self, number: u8, handle: &Handle) -> bool {
-        let place = (usize::from(handle.node), usize::from(handle.local));
-        let cluster = self.found.store.cluster(place.0, place.1);
-        match (number, cluster, self.mode) {
-            (NO_SUCH_PLACE, cluster, _) => cluster.is_none(),
-            (GAPPED, ..) => handle.selector.is_gapped(),
-            (INACTIVE, Some(cluster), _) => !cluster.active,
-            (VIOLATED_PROTECTION, Some(cluster), Some(mode)) => {
-                !handle.validates(cluster.primary(mode))
-            }
-            _ => false,
-        }
-    }
-
-    fn apart(&self) -> Option<Meeting> {
-        let [first, second] = self.handles;
-        match (first.node == second.node, first.local == second.local) {
-            (false, true) => Some(Meeting::OtherNode),
-            (true, false) => Some(Meeting::OtherLocal),
-            _ => None,
-        }
     }
 }
