@@ -39,10 +39,10 @@ fn claim_segment(b: &[u8], map: &mut [u64]) -> bool {
     (mark <= 1) & spans::mark(map, base, to)
 }
 
-fn claim_segments(b: &[u8], width: usize, map: &mut [u64]) -> bool {
+fn claim_segments(b: &[u8], count: usize, map: &mut [u64]) -> bool {
     let mut ok = true;
     let mut i: usize = 0;
-    while i < width {
+    while i < count {
         let from = i * SEGMENT;
         let to = from + SEGMENT;
         ok = claim_segment(&b[from..to], map) & ok;
@@ -63,8 +63,8 @@ fn claim_record(b: &[u8], map: &mut [u64]) -> bool {
     if !is_width(width) {
         return false;
     }
-    let end = SEGMENTS_AT + width * SEGMENT;
-    claim_segments(&b[SEGMENTS_AT..end], width, map) & zero(&b[end..RECORD])
+    let above = SEGMENTS_AT + width * SEGMENT;
+    zero(&b[above..RECORD]) & claim_segments(&b[SEGMENTS_AT..RECORD], width, map)
 }
 
 pub fn sound_in(image: &[u8; IMAGE], size: usize) -> bool {
