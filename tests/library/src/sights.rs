@@ -1,15 +1,18 @@
 //! Which looks and freezes were met: what they came to, and what stood against those that were refused. Beside
-//! them, where 22 met its neighbours, and each number of a join the next one.
+//! them, where 22 and 25 met their neighbours, and each number of a join the next one.
 
 use crate::compare::by_model;
 use crate::image::decode;
-use crate::question::{name, Answer, Held, Question, BEYOND, LOOK};
-use model::call::{Call, Reply, DELETE_CLUSTER, DELETE_SEGMENT, FREEZE, JOIN, WRITE};
+use crate::question::{name, Answer, Held, Question, BEYOND, LOOK, VALIDATION};
+use model::call::{
+    Call, Reply, DELETE_CLUSTER, DELETE_SEGMENT, FREEZE, JOIN, NEW_PASSWORD, NEW_SEGMENT, READ,
+    REDUCE, WRITE,
+};
 use model::handle::Handle;
-use model::sizes::{MEMORY_BYTES, NODES, NODE_BYTES};
+use model::sizes::{MEMORY_BYTES, NODES, NODE_BYTES, SEGMENTS};
 use model::table::{
-    refusal_below, Found, ABSENT, APART, ELSEWHERE, FIELD, FROZEN, GAPPED, INACTIVE, NOT_PRIMARY,
-    NOT_REFERENCED, NO_SUCH_PLACE, SHORT, UNSOUND, VIOLATED_PROTECTION, WHOLE,
+    refusal_below, Found, ABSENT, APART, ELSEWHERE, FIELD, FROZEN, GAPPED, INACTIVE, LENGTH,
+    NOT_PRIMARY, NOT_REFERENCED, NO_SUCH_PLACE, SHORT, UNSOUND, VIOLATED_PROTECTION, WHOLE,
 };
 use std::collections::BTreeMap;
 use std::fmt;
@@ -56,15 +59,15 @@ const WRONG_NODES: [Sight; 5] = [
 #[rustfmt::skip]
 const NEIGHBOURS: [(u8, &[u8]); 8] = [
     (LOOK, &[
-        UNSOUND, NO_SUCH_PLACE, FIELD, GAPPED, ELSEWHERE, INACTIVE, VIOLATED_PROTECTION,
+        UNSOUND, NO_SUCH_PLACE, FIELD, GAPPED, ELSEWHERE, INACTIVE, LENGTH, VIOLATED_PROTECTION,
         NOT_REFERENCED, ABSENT,
     ]),
     (FREEZE, &[
-        UNSOUND, NO_SUCH_PLACE, FIELD, GAPPED, ELSEWHERE, INACTIVE, VIOLATED_PROTECTION,
+        UNSOUND, NO_SUCH_PLACE, FIELD, GAPPED, ELSEWHERE, INACTIVE, LENGTH, VIOLATED_PROTECTION,
         NOT_PRIMARY, ABSENT,
     ]),
     (JOIN, &[
-        UNSOUND, NO_SUCH_PLACE, FIELD, GAPPED, APART, INACTIVE, VIOLATED_PROTECTION, WHOLE,
+        UNSOUND, NO_SUCH_PLACE, FIELD, GAPPED, APART, INACTIVE, LENGTH, VIOLATED_PROTECTION, WHOLE,
     ]),
     (DELETE_CLUSTER, &[VIOLATED_PROTECTION, NOT_PRIMARY, FROZEN]),
     (DELETE_SEGMENT, &[VIOLATED_PROTECTION, NOT_PRIMARY, FROZEN]),
@@ -73,10 +76,30 @@ const NEIGHBOURS: [(u8, &[u8]); 8] = [
     (WRITE, &[NOT_REFERENCED, ABSENT]),
 ];
 
+/// What has 25 at both its places, and what it meets there.
+const VALIDATING: [u8; 11] = [
+    DELETE_CLUSTER,
+    NEW_SEGMENT,
+    DELETE_SEGMENT,
+    READ,
+    WRITE,
+    REDUCE,
+    NEW_PASSWORD,
+    FREEZE,
+    JOIN,
+    VALIDATION,
+    LOOK,
+];
+const AROUND_LENGTH: [Sight; 3] = [
+    Sight::Both(LENGTH, UNSOUND),
+    Sight::Both(INACTIVE, LENGTH),
+    Sight::Both(LENGTH, VIOLATED_PROTECTION),
+];
+
 /// Everything that has to be met, with the code of what comes to it.
 fn due() -> impl Iterator<Item = (u8, Sight)> {
     let shown = SHOWN.map(|sight| (LOOK, sight)).into_iter();
-    let marked = (0..8).map(|segment| (FREEZE, Sight::Marked(segment)));
+    let marked = (0..SEGMENTS as u32).map(|segment| (FREEZE, Sight::Marked(segment)));
     let local = [LOOK, FREEZE].into_iter().flat_map(|code| {
         let nodes = (0..NODES).map(Sight::InNode).chain(WRONG_NODES);
         nodes.map(move |sight| (code, sight))
@@ -85,7 +108,11 @@ fn due() -> impl Iterator<Item = (u8, Sight)> {
         let pairs = numbers.windows(2);
         pairs.map(move |pair| (code, Sight::Both(pair[0], pair[1])))
     });
-    shown.chain(marked).chain(local).chain(both)
+    let around_length = VALIDATING
+        .into_iter()
+        .flat_map(|code| AROUND_LENGTH.map(|both| (code, both)));
+    let all = shown.chain(marked).chain(local);
+    all.chain(both).chain(around_length)
 }
 
 /// How often each was met, by code.
@@ -96,7 +123,7 @@ impl Sights {
     /// Nothing is noted of other calls. `held` is what the call was put to.
     pub fn note(&mut self, held: &Held, question: &Question, answer: &Answer) {
         let code = question.code();
-        if !NEIGHBOURS.iter().any(|(noted, _)| *noted == code) {
+        if !VALIDATING.contains(&code) {
             return;
         }
         let sights = match answer.reply.is_done() {
@@ -133,19 +160,15 @@ impl fmt::Display for Sights {
 }
 
 fn done(held: &Held, call: &Call, reply: &Reply) -> Vec<Sight> {
-    match *call {
-        Call::Look { .. } => shown(reply),
-        Call::Freeze {
-            node,
-            segment,
-            handle,
-        } => {
+    match (call, call.handle()) {
+        (Call::Look { .. }, _) => shown(reply),
+        (Call::Freeze { node, segment, .. }, Some(handle)) => {
+            let (node, segment) = (*node as usize, *segment);
             let store = decode(&held.image);
-            let cluster =
-                store.map(|store| store.clusters[node as usize][usize::from(handle.local)]);
+            let cluster = store.map(|store| store.clusters[node][usize::from(handle.local)]);
             let was_frozen = cluster.is_some_and(|own| own.segments[segment as usize].frozen);
             let marked = (!was_frozen).then_some(Sight::Marked(segment));
-            let in_node = Sight::InNode(node as usize);
+            let in_node = Sight::InNode(node);
             marked.into_iter().chain([in_node]).collect()
         }
         _ => Vec::new(),
@@ -169,10 +192,11 @@ fn shown(reply: &Reply) -> Vec<Sight> {
 fn refused(held: &Held, question: &Question, number: u8) -> Vec<Sight> {
     let mut sights: Vec<Sight> = both(held, question, number).into_iter().collect();
     let local = match question.call {
-        Call::Look { node, handle, .. } | Call::Freeze { node, handle, .. } => Some((node, handle)),
+        Call::Look { node, .. } | Call::Freeze { node, .. } => Some(node),
         _ => None,
     };
-    if let Some((node, handle)) = local.filter(|_| is_done_at_home(held, question)) {
+    let local = local.filter(|_| is_done_at_home(held, question));
+    if let (Some(node), Some(handle)) = (local, question.call.handle()) {
         sights.extend(wrong_node(node, &handle));
     }
     sights
@@ -193,7 +217,10 @@ fn both(held: &Held, question: &Question, number: u8) -> Option<Sight> {
 /// Whether the same call is done where its handle's node is the current one.
 fn is_done_at_home(held: &Held, question: &Question) -> bool {
     let mut at_home = question.clone();
-    if let Call::Look { node, handle, .. } | Call::Freeze { node, handle, .. } = &mut at_home.call {
+    let Some(handle) = question.call.handle() else {
+        return false;
+    };
+    if let Call::Look { node, .. } | Call::Freeze { node, .. } = &mut at_home.call {
         *node = handle.node.into();
     }
     by_model(&mut held.clone(), &at_home).reply.is_done()

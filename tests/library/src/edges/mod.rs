@@ -5,7 +5,7 @@
 
 mod joins;
 
-use crate::chance::stores::{self, active, present, Fill};
+use crate::chance::stores::{self, active_of, present, Fill};
 use crate::chance::words::{Beside, LENGTHS};
 use crate::chance::{below, cases};
 use crate::compare::{ask, is_sound, Guard, Sides};
@@ -13,7 +13,7 @@ use crate::image::{encode, Image};
 use crate::question::{Held, Question, BEYOND};
 pub use joins::joins;
 use model::call::Call;
-use model::handle::Handle;
+use model::handle::{Handle, Width};
 use model::random::Random;
 use model::sizes::{CLUSTERS, MEMORY_BYTES, NODES, NODE_BYTES, SEGMENTS};
 use model::store::{Cluster, Extent, Mode, Store};
@@ -108,7 +108,7 @@ fn pairs() -> impl Iterator<Item = (Extent, Extent)> {
     })
 }
 
-/// A store with two segments and no more, in one cluster of a node or in two of them.
+/// A store with two segments and no more, in one cluster of a node or in two of them, which have room for sixteen.
 fn with_both(random: &mut Random, first: Extent, second: Extent) -> Store {
     let mut store = Store::starting();
     let clusters = &mut store.clusters[below(random, NODES)];
@@ -118,7 +118,7 @@ fn with_both(random: &mut Random, first: Extent, second: Extent) -> Store {
     for (place, extent) in [(at, first), (other, second)] {
         let cluster = &mut clusters[place / SEGMENTS];
         if !cluster.active {
-            *cluster = active(random);
+            *cluster = active_of(random, Width::Sixteen);
         }
         cluster.segments[place % SEGMENTS] = present(extent.base, extent.length);
     }
@@ -138,13 +138,13 @@ fn same(judge: Judge, held: &mut Held) -> Result<bool, String> {
     }
 }
 
-/// Each stretch in each node, looked at with every argument where it changes. Gives how many looks there
-/// were, and how many of them showed something.
+/// Each stretch in each node, in a cluster of each width, looked at with every argument where it changes. Gives how many
+/// looks there were, and how many of them showed something.
 pub fn looks(guard: Guard, seed: u64) -> Result<(u64, u64), String> {
     around_segments(guard, seed, |lone, current, segment| {
         let primary = lone.handle(Mode::Read);
         let weaker = primary.weaken(1 << lone.segment).expect("all are flat");
-        [primary, weaker].map(|handle| look(current, segment, handle))
+        [primary, weaker].map(|handle| look(current, segment, &handle))
     })
 }
 
@@ -153,7 +153,7 @@ pub fn freezes(guard: Guard, seed: u64) -> Result<(u64, u64), String> {
     around_segments(guard, seed, |lone, current, segment| {
         let primary = lone.handle(Mode::Write);
         let weaker = primary.weaken(1 << lone.segment).expect("all are flat");
-        [primary, primary, weaker].map(|handle| freeze(current, segment, handle))
+        [primary, primary, weaker].map(|handle| freeze(current, segment, &handle))
     })
 }
 
@@ -165,10 +165,11 @@ fn around_segments<const N: usize>(
 ) -> Result<(u64, u64), String> {
     let (mut asked, mut done) = (0, 0);
     let places = (0..NODES).flat_map(|node| STRETCHES.map(|stretch| (node, stretch)));
+    let places = places.flat_map(|place| Width::ALL.map(|width| (place, width)));
     let mut places = places.collect::<Vec<_>>().into_iter();
     cases(seed, places.len() as u64, |random| {
-        let (node, (base, length)) = places.next().expect("there are as many cases");
-        let lone = LoneSegment::by_chance(random, node, Extent { base, length });
+        let ((node, (base, length)), width) = places.next().expect("there are as many cases");
+        let lone = LoneSegment::by_chance(random, node, width, Extent { base, length });
         for (memory_bytes, current, segment) in lone.arguments() {
             let mut sides = Sides::both(lone.held.clone());
             for side in [&mut sides.guard, &mut sides.model] {
@@ -192,31 +193,30 @@ struct LoneSegment {
     cluster: Cluster,
     node: usize,
     local: usize,
+    width: Width,
     segment: usize,
 }
 
 impl LoneSegment {
-    fn by_chance(random: &mut Random, node: usize, extent: Extent) -> LoneSegment {
-        let (local, segment) = (below(random, CLUSTERS), below(random, SEGMENTS));
+    fn by_chance(random: &mut Random, node: usize, width: Width, extent: Extent) -> LoneSegment {
+        let (local, segment) = (below(random, CLUSTERS), below(random, width.segments()));
         let mut store = Store::starting();
         let cluster = &mut store.clusters[node][local];
-        *cluster = active(random);
+        *cluster = active_of(random, width);
         cluster.segments[segment] = present(extent.base, extent.length);
         LoneSegment {
             cluster: *cluster,
             held: stores::held(random, &store),
             node,
             local,
+            width,
             segment,
         }
     }
 
     fn handle(&self, mode: Mode) -> Handle {
-        Handle::primary(
-            self.node as u16,
-            self.local as u8,
-            *self.cluster.primary(mode),
-        )
+        let (node, local) = (self.node as u16, self.local as u8);
+        Handle::primary(self.width, node, local, *self.cluster.primary(mode))
     }
 
     /// Lengths of the memory, current nodes and segments: in each row all but one are right.
@@ -224,7 +224,8 @@ impl LoneSegment {
         let (node, segment) = (self.node, self.segment);
         let memories = MEMORIES.map(|bytes| (bytes, node, segment));
         let nodes = around(node, NODES).map(|current| (MEMORY_BYTES, current, segment));
-        let segments = around(segment, SEGMENTS).map(|other| (MEMORY_BYTES, node, other));
+        let segments = around(segment, self.width.segments());
+        let segments = segments.map(|other| (MEMORY_BYTES, node, other));
         memories.into_iter().chain(nodes).chain(segments).collect()
     }
 }
@@ -235,22 +236,22 @@ fn around(right: usize, bound: usize) -> impl Iterator<Item = usize> {
     (0..bound + 2).chain(high).chain([usize::MAX])
 }
 
-fn look(current: usize, segment: usize, handle: Handle) -> Question {
+fn look(current: usize, segment: usize, handle: &Handle) -> Question {
     let (node, number) = (narrow(current), narrow(segment));
     let call = Call::Look {
         node,
         segment: number,
-        handle,
+        handle: handle.to_bytes(),
     };
     wide(call, current, segment)
 }
 
-fn freeze(current: usize, segment: usize, handle: Handle) -> Question {
+fn freeze(current: usize, segment: usize, handle: &Handle) -> Question {
     let (node, number) = (narrow(current), narrow(segment));
     let call = Call::Freeze {
         node,
         segment: number,
-        handle,
+        handle: handle.to_bytes(),
     };
     wide(call, current, segment)
 }
