@@ -22,6 +22,7 @@ pub type BatchGuard = fn(&mut Held, usize, usize, &[u8], &mut [u8]) -> usize;
 const MOST_HANDLES: usize = 40;
 
 /// One batch by chance.
+#[derive(Clone)]
 struct Batch {
     held: Held,
     mode: usize,
@@ -66,6 +67,36 @@ pub fn compare(
         one(guard, &batch, tally)
     })?;
     Ok(validations)
+}
+
+/// Batches of every width up to a little above the greatest, and of some that are right in their low bytes alone; and
+/// bytes of every length up to that of two handles. Gives how many batches there were.
+pub fn every_width(guard: BatchGuard, seed: u64) -> Result<u64, String> {
+    let mut batches = 0;
+    let mut widths = Width::ALL.into_iter();
+    cases(seed, Width::ALL.len() as u64, |random| {
+        let own = widths.next().expect("there are as many cases");
+        let tally = &mut Tally::default();
+        let batch = by_chance(random, None, tally);
+        let right = own.segments();
+        let high = [8, 16, 32, 48, 63].map(|bit| right + (1 << bit));
+        for width in (0..2 * SEGMENTS).chain(high).chain([usize::MAX]) {
+            let mut batch = batch.clone();
+            batch.width = width;
+            one(guard, &batch, tally)?;
+            batches += 1;
+        }
+        for length in 0..=2 * own.handle_bytes() {
+            let mut batch = batch.clone();
+            batch.width = right;
+            batch.handles = bytes(random, length);
+            batch.numbers = bytes(random, 3);
+            one(guard, &batch, tally)?;
+            batches += 1;
+        }
+        Ok(())
+    })?;
+    Ok(batches)
 }
 
 /// A mode as the model takes it.

@@ -202,9 +202,14 @@ fn refused(held: &Held, question: &Question, number: u8) -> Vec<Sight> {
     sights
 }
 
-/// The number that was given, and the next one that applies; a damaged image has no store to ask.
+/// The number that was given, and the next one that applies, where that is looked for; a damaged image has no store to
+/// ask.
 fn both(held: &Held, question: &Question, number: u8) -> Option<Sight> {
-    let store = decode(&held.image)?;
+    let code = question.code();
+    let is_due = |due: (u8, Sight)| {
+        due.0 == code && matches!(due.1, Sight::Both(given, _) if given == number)
+    };
+    let store = decode(&held.image).filter(|_| due().any(is_due))?;
     let found = Found {
         store: &store,
         memory_bytes: held.memory.len(),

@@ -1,5 +1,5 @@
 //! Which widths were met: handles and clusters of each in every call, lengths that no handle has, handles of another
-//! width than their cluster's, segments about the width, and masks.
+//! width than their cluster's, segments about the width, and bits of masks that do not matter.
 
 use crate::chance::handles::MOST_BYTES;
 use crate::image::decode;
@@ -8,7 +8,7 @@ use model::call::{
     Call, DELETE_CLUSTER, DELETE_SEGMENT, FREEZE, JOIN, NEW_CLUSTER, NEW_PASSWORD, NEW_SEGMENT,
     READ, REDUCE, WEAKEN, WRITE,
 };
-use model::handle::{Handle, Width};
+use model::handle::Width;
 use model::table::{refusal_below, Found, DONE, FIELD, LENGTH, NO_SUCH_PLACE, UNSOUND};
 use model::widths::Sight as Seen;
 use std::collections::{BTreeMap, BTreeSet};
@@ -106,14 +106,12 @@ fn no_widths() -> impl Iterator<Item = usize> {
     (0..=20).filter(|width| Width::of_segments(*width).is_none())
 }
 
-/// How often each was met, by code; and lengths, widths and masks that were tried.
+/// How often each was met, by code; and the lengths and widths that were tried.
 #[derive(Default)]
 pub struct Widths {
     met: BTreeMap<(u8, Sight), u64>,
     lengths: BTreeSet<usize>,
     widths: BTreeSet<(u8, usize)>,
-    /// By the handle's width, which byte of the mask it is, and the part of it that is below the width.
-    masks: BTreeSet<(Width, usize, u8)>,
 }
 
 impl Widths {
@@ -131,21 +129,8 @@ impl Widths {
         let lengths = call.presented_bytes().map(<[u8]>::len);
         self.lengths
             .extend(lengths.filter(|length| Width::of_handle_bytes(*length).is_none()));
-        match *call {
-            Call::NewCluster { width, .. } => self.note_asked(code, width),
-            Call::Weaken { mask, .. } => self.note_mask(call.handle(), mask),
-            _ => {}
-        }
-    }
-
-    fn note_mask(&mut self, handle: Option<Handle>, mask: u16) {
-        let Some(width) = handle.map(|handle| handle.width()) else {
-            return;
-        };
-        let low = (mask & width.flat()).to_le_bytes();
-        let bytes = width.segments().div_ceil(8);
-        for (at, byte) in low.into_iter().enumerate().take(bytes) {
-            self.masks.insert((width, at, byte));
+        if let Call::NewCluster { width, .. } = *call {
+            self.note_asked(code, width);
         }
     }
 
@@ -160,11 +145,9 @@ impl Widths {
             .filter(|length| Width::of_handle_bytes(*length).is_none())
             .filter(|length| !self.lengths.contains(length))
             .map(|length| format!("not tried: a handle of {length} bytes"));
-        let widths = [NEW_CLUSTER, BATCH].into_iter().flat_map(|code| {
-            no_widths()
-                .filter(move |width| !self.widths.contains(&(code, *width)))
-                .map(move |width| format!("not tried: {} of width {width}", name(code)))
-        });
+        let widths = no_widths()
+            .filter(|width| !self.widths.contains(&(NEW_CLUSTER, *width)))
+            .map(|width| format!("not tried: a new cluster of width {width}"));
         let cut = [NEW_CLUSTER, BATCH].into_iter().flat_map(|code| {
             [1, 2, 4]
                 .into_iter()
@@ -176,15 +159,11 @@ impl Widths {
                     )
                 })
         });
-        let masks = masks()
-            .filter(|mask| !self.masks.contains(mask))
-            .map(|(width, at, byte)| format!("not tried: mask {byte} in byte {at} of {width:?}"));
         sights
             .chain(seen)
             .chain(lengths)
             .chain(widths)
             .chain(cut)
-            .chain(masks)
             .collect()
     }
 
@@ -202,15 +181,6 @@ impl Widths {
             asked == code && low != width && Width::of_segments(low).is_some()
         })
     }
-}
-
-fn masks() -> impl Iterator<Item = (Width, usize, u8)> {
-    let all = Width::ALL.into_iter().flat_map(|width| {
-        let bytes = width.flat().to_le_bytes().into_iter().enumerate();
-        let bytes = bytes.filter(|(_, flat)| *flat > 0);
-        bytes.map(move |(at, flat)| (width, at, flat))
-    });
-    all.flat_map(|(width, at, flat)| (0..=flat).map(move |byte| (width, at, byte)))
 }
 
 fn sights(held: &Held, question: &Question, number: u8) -> Vec<Sight> {
@@ -269,14 +239,13 @@ impl fmt::Display for Widths {
             let met = met.filter(|((_, sight), _)| sights.contains(sight));
             met.map(|(_, count)| count).sum()
         };
-        writeln!(
+        write!(
             to,
             "lengths that no handle has: {} of them, {} times on sound stores, {} on others, {} on damaged images",
             self.lengths.len(),
             of(&[Sight::OnSound]),
             of(&[Sight::OnUnsound]),
             of(&[Sight::OnDamaged])
-        )?;
-        write!(to, "masks, by width and byte: {}", self.masks.len())
+        )
     }
 }

@@ -1,15 +1,16 @@
-//! Soundness where it changes: every byte of an image with every value, and two segments of one node
+//! Soundness where it changes: every byte of an image with every value that matters, and two segments of one node
 //! that begin and end about the borders of words. Looks and freezes where their segment or their arguments come
 //! to an end: the first and the last byte of a node, the whole of it, and numbers just out of range. Joins with
-//! modes and names just out of range.
+//! modes and names just out of range. Handles of every length, and what goes by the width.
 
 mod joins;
+mod widths;
 
 use crate::chance::stores::{self, active_of, present, Fill};
 use crate::chance::words::{Beside, LENGTHS};
 use crate::chance::{below, cases};
 use crate::compare::{ask, is_sound, Guard, Sides};
-use crate::image::{encode, Image};
+use crate::image::{encode, Image, READ_AT, RECORD_BYTES, SEGMENTS_AT};
 use crate::question::{Held, Question, BEYOND};
 pub use joins::joins;
 use model::call::Call;
@@ -17,6 +18,7 @@ use model::handle::{Handle, Width};
 use model::random::Random;
 use model::sizes::{CLUSTERS, MEMORY_BYTES, NODES, NODE_BYTES, SEGMENTS};
 use model::store::{Cluster, Extent, Mode, Store};
+pub use widths::{lengths, masks, new_clusters, segments};
 
 /// Something that tells whether an image holds a sound store; [`crate::guard::is_sound`] is the one
 /// to be compared.
@@ -49,6 +51,17 @@ const MEMORIES: [usize; 6] = [
 /// Added to a number that is right, these are seen in its highest bytes alone.
 const HIGH: [usize; 5] = [1 << 8, 1 << 16, 1 << 32, 1 << 48, 1 << 63];
 
+/// The values that a byte of an image is made: every one, but a few where all that matters is whether it is zero, as of
+/// passwords and, save for the first two bytes of a record, of an empty store.
+fn values(fill: Fill, at: usize) -> Vec<u8> {
+    let few = [0, 1, 2, 4, 8, 16, 32, 64, 128, u8::MAX];
+    match at % RECORD_BYTES {
+        READ_AT..SEGMENTS_AT => few.to_vec(),
+        SEGMENTS_AT.. if fill == Fill::Empty => few.to_vec(),
+        _ => (0..=u8::MAX).collect(),
+    }
+}
+
 /// One store of every fill. Gives how many images were judged.
 pub fn every_byte(judge: Judge, seed: u64) -> Result<u64, String> {
     let mut judged = 0;
@@ -59,7 +72,7 @@ pub fn every_byte(judge: Judge, seed: u64) -> Result<u64, String> {
         let mut held = stores::held(random, &store);
         for at in 0..held.image.len() {
             let kept = held.image[at];
-            for value in 0..=u8::MAX {
+            for value in values(fill, at) {
                 held.image[at] = value;
                 same(judge, &mut held)
                     .map_err(|what| format!("{fill:?} with byte {at} made {value}: {what}"))?;
