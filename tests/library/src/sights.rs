@@ -55,46 +55,39 @@ const WRONG_NODES: [Sight; 5] = [
     Sight::NodeBeyond,
 ];
 
-/// Numbers of which each has to meet the next.
+/// Numbers of which each has to meet the next. 25 comes first, and again between 8 and 9.
 #[rustfmt::skip]
 const NEIGHBOURS: [(u8, &[u8]); 8] = [
     (LOOK, &[
-        UNSOUND, NO_SUCH_PLACE, FIELD, GAPPED, ELSEWHERE, INACTIVE, LENGTH, VIOLATED_PROTECTION,
-        NOT_REFERENCED, ABSENT,
+        LENGTH, UNSOUND, NO_SUCH_PLACE, FIELD, GAPPED, ELSEWHERE, INACTIVE, LENGTH,
+        VIOLATED_PROTECTION, NOT_REFERENCED, ABSENT,
     ]),
     (FREEZE, &[
-        UNSOUND, NO_SUCH_PLACE, FIELD, GAPPED, ELSEWHERE, INACTIVE, LENGTH, VIOLATED_PROTECTION,
-        NOT_PRIMARY, ABSENT,
+        LENGTH, UNSOUND, NO_SUCH_PLACE, FIELD, GAPPED, ELSEWHERE, INACTIVE, LENGTH,
+        VIOLATED_PROTECTION, NOT_PRIMARY, ABSENT,
     ]),
     (JOIN, &[
-        UNSOUND, NO_SUCH_PLACE, FIELD, GAPPED, APART, INACTIVE, LENGTH, VIOLATED_PROTECTION, WHOLE,
+        LENGTH, UNSOUND, NO_SUCH_PLACE, FIELD, GAPPED, APART, INACTIVE, LENGTH,
+        VIOLATED_PROTECTION, WHOLE,
     ]),
-    (DELETE_CLUSTER, &[VIOLATED_PROTECTION, NOT_PRIMARY, FROZEN]),
-    (DELETE_SEGMENT, &[VIOLATED_PROTECTION, NOT_PRIMARY, FROZEN]),
+    (DELETE_CLUSTER, &[INACTIVE, LENGTH, VIOLATED_PROTECTION, NOT_PRIMARY, FROZEN]),
+    (DELETE_SEGMENT, &[INACTIVE, LENGTH, VIOLATED_PROTECTION, NOT_PRIMARY, FROZEN]),
     (DELETE_SEGMENT, &[NOT_PRIMARY, ABSENT]),
-    (WRITE, &[VIOLATED_PROTECTION, NOT_REFERENCED, FROZEN, SHORT]),
+    (WRITE, &[INACTIVE, LENGTH, VIOLATED_PROTECTION, NOT_REFERENCED, FROZEN, SHORT]),
     (WRITE, &[NOT_REFERENCED, ABSENT]),
 ];
-
-/// What has 25 at both its places, and what it meets there.
-const VALIDATING: [u8; 11] = [
+/// Of the rest, what has 25 at its two places.
+const FIRST: [u8; 8] = [
     DELETE_CLUSTER,
-    NEW_SEGMENT,
     DELETE_SEGMENT,
-    READ,
     WRITE,
+    NEW_SEGMENT,
+    READ,
     REDUCE,
     NEW_PASSWORD,
-    FREEZE,
-    JOIN,
     VALIDATION,
-    LOOK,
 ];
-const AROUND_LENGTH: [Sight; 3] = [
-    Sight::Both(LENGTH, UNSOUND),
-    Sight::Both(INACTIVE, LENGTH),
-    Sight::Both(LENGTH, VIOLATED_PROTECTION),
-];
+const SECOND: [u8; 5] = [NEW_SEGMENT, READ, REDUCE, NEW_PASSWORD, VALIDATION];
 
 /// Everything that has to be met, with the code of what comes to it.
 fn due() -> impl Iterator<Item = (u8, Sight)> {
@@ -108,11 +101,13 @@ fn due() -> impl Iterator<Item = (u8, Sight)> {
         let pairs = numbers.windows(2);
         pairs.map(move |pair| (code, Sight::Both(pair[0], pair[1])))
     });
-    let around_length = VALIDATING
-        .into_iter()
-        .flat_map(|code| AROUND_LENGTH.map(|both| (code, both)));
+    let first = FIRST.map(|code| (code, Sight::Both(LENGTH, UNSOUND)));
+    let second = SECOND.into_iter().flat_map(|code| {
+        let pairs = [(INACTIVE, LENGTH), (LENGTH, VIOLATED_PROTECTION)];
+        pairs.map(|(given, next)| (code, Sight::Both(given, next)))
+    });
     let all = shown.chain(marked).chain(local);
-    all.chain(both).chain(around_length)
+    all.chain(both).chain(first).chain(second)
 }
 
 /// How often each was met, by code.
@@ -120,12 +115,9 @@ fn due() -> impl Iterator<Item = (u8, Sight)> {
 pub struct Sights(BTreeMap<(u8, Sight), u64>);
 
 impl Sights {
-    /// Nothing is noted of other calls. `held` is what the call was put to.
+    /// `held` is what the call was put to.
     pub fn note(&mut self, held: &Held, question: &Question, answer: &Answer) {
         let code = question.code();
-        if !VALIDATING.contains(&code) {
-            return;
-        }
         let sights = match answer.reply.is_done() {
             true => done(held, &question.call, &answer.reply),
             false => refused(held, question, answer.reply.number),
