@@ -48,9 +48,9 @@ fn a_secret_byte_kept_elsewhere() {
 
 #[test]
 fn a_batch_that_clears_the_other_places() {
-    let clearing: BatchGuard = |held, mode, handles, numbers| {
+    let clearing: BatchGuard = |held, mode, width, handles, numbers| {
         numbers.fill(0);
-        guard::validate_all(held, mode, handles, numbers)
+        guard::validate_all(held, mode, width, handles, numbers)
     };
     let told = batch::compare(clearing, SEED, BATCHES, &mut Tally::default())
         .expect_err("places were cleared");
@@ -59,8 +59,9 @@ fn a_batch_that_clears_the_other_places() {
 
 #[test]
 fn a_batch_that_counts_a_handle_cut_short() {
-    let counting: BatchGuard =
-        |held, mode, handles, numbers| guard::validate_all(held, mode, handles, numbers).max(1);
+    let counting: BatchGuard = |held, mode, width, handles, numbers| {
+        guard::validate_all(held, mode, width, handles, numbers).max(1)
+    };
     let told = batch::compare(counting, SEED, BATCHES, &mut Tally::default())
         .expect_err("one is too many");
     assert!(told.contains("0 are due"), "{told}");
