@@ -59,7 +59,11 @@ impl Maker<'_> {
 
     /// A number that no `u32` holds. In fewer bytes some of them would be small.
     fn beyond(&mut self) -> usize {
-        let small = below(self.random, SEGMENTS + 1);
+        let bound = match self.random.one_in(2) {
+            true => NODES,
+            false => SEGMENTS + 1,
+        };
+        let small = below(self.random, bound);
         match self.random.below(4) {
             0 => usize::MAX,
             1 => 1 << 63 | small,

@@ -67,17 +67,32 @@ pub fn store(random: &mut Random, fill: Fill) -> Store {
     store
 }
 
-/// Marks no present segment, all of them, or some.
+/// Marks no present segment, all of them, one of each cluster, or some.
 fn freeze_some(random: &mut Random, store: &mut Store) {
-    let share = match random.below(8) {
+    let share = match random.below(9) {
         0 | 1 => 0,
         2 => FROZEN_OF,
+        3 => return freeze_one_of_each(random, store),
         _ => 1 + random.below(FROZEN_OF / 2),
     };
     let clusters = store.clusters.as_flattened_mut().iter_mut();
     let segments = clusters.flat_map(|cluster| &mut cluster.segments);
     for segment in segments.filter(|segment| segment.is_present()) {
         segment.frozen = random.below(FROZEN_OF) < share;
+    }
+}
+
+/// Often the last that the cluster has.
+fn freeze_one_of_each(random: &mut Random, store: &mut Store) {
+    for cluster in store.clusters.as_flattened_mut() {
+        let segments = cluster.segments.iter_mut();
+        let mut present: Vec<&mut Segment> = segments.filter(|own| own.is_present()).collect();
+        let chosen = match (present.len(), random.one_in(2)) {
+            (0, _) => continue,
+            (count, true) => count - 1,
+            (count, false) => below(random, count),
+        };
+        present[chosen].frozen = true;
     }
 }
 

@@ -4,7 +4,7 @@ use library::batch::BatchGuard;
 use library::compare::Guard;
 use library::tally::Tally;
 use library::{batch, copies, guard, published};
-use model::sizes::{MEMORY_BYTES, NODE_BYTES};
+use model::sizes::NODE_BYTES;
 
 const SEED: u64 = 7;
 const PAIRS: u64 = 40;
@@ -37,12 +37,12 @@ fn a_secret_byte_kept_elsewhere() {
     let keeping: Guard = |held, question| {
         let mut answer = guard::ask(held, question);
         let secrets = held.memory[..NODE_BYTES].iter();
-        held.memory[MEMORY_BYTES - 1] = secrets.fold(0, |sum, byte| sum ^ byte);
+        held.memory[NODE_BYTES] = secrets.fold(0, |sum, byte| sum ^ byte);
         // Else a read would tell it before the list ends.
         answer.buffer.clear();
         answer
     };
-    let told = copies::compare(keeping, SEED, PAIRS).expect_err("the last byte tells others");
+    let told = copies::compare(keeping, SEED, PAIRS).expect_err("another node's byte tells them");
     assert!(told.contains("memories of the copies differ"), "{told}");
 }
 

@@ -191,15 +191,23 @@ another!(
     }),
     25
 );
-another!(
-    apart_in_width_alone,
-    AT_FIRST_WIDTH,
-    (25, |asked: &Asked| {
-        let [one, other] = asked.handles.map(|handle| handle.width());
-        one != other && !asked.has_the_width(0)
-    }),
-    25
-);
+/// Two of one width, whatever the cluster's.
+#[test]
+fn compared_with_one_another_alone() {
+    found_out(
+        |held, question| {
+            let mut rows = RIGHT;
+            rows[AT_FIRST_WIDTH] = (25, |asked: &Asked| {
+                let [one, other] = asked.handles.map(|handle| handle.width());
+                one != other
+            });
+            rows[AT_SECOND_WIDTH] = (25, |_: &Asked| false);
+            joined(held, question, &rows, RIGHTLY)
+        },
+        25,
+    );
+}
+
 another!(
     validated_in_the_other_mode_too,
     AT_SECOND_VIOLATED,
