@@ -172,7 +172,12 @@ fn wrong(random: &mut Random, store: &Store, mut handle: Handle) -> Handle {
             handle.selector.subselectors[at] = bits(random, handle.width());
         }
         10 => return elsewhere(random, store, handle),
-        11 | 12 => return of_another_width(random, store, handle),
+        11 | 12 => {
+            handle = of_another_width(random, store, handle);
+            if random.one_in(6) {
+                handle.selector = gapped(random, handle.width());
+            }
+        }
         _ => return any(random),
     }
     handle

@@ -215,13 +215,20 @@ fn by_the_cluster_s_width(seen: &Seen) -> bool {
 /// 3 by the cluster's width: not where the cluster has the segment, and where the handle alone may have it.
 #[test]
 fn segments_by_the_cluster_s_width() {
-    let not_beyond: Guard = |held, question| {
-        instead(held, question, (READ, FIELD), |seen| {
-            let other = has_another_width(seen) && by_the_cluster_s_width(seen);
-            refused_if(other, LENGTH)
-        })
-    };
-    numbers_differ(not_beyond, "Read", FIELD, LENGTH);
+    found_out(
+        |held, question| {
+            let mut answer = guard::ask(held, question);
+            let seen = Seen::of(held, question).filter(|_| question.call.segment().is_some());
+            let beyond = seen.is_some_and(|seen| {
+                seen.is_no_segment() && has_another_width(&seen) && by_the_cluster_s_width(&seen)
+            });
+            if beyond && answer.reply.number == FIELD {
+                answer.reply = Reply::refused(LENGTH);
+            }
+            answer
+        },
+        FIELD,
+    );
     found_out(
         |held, question| {
             at_second(held, question, |seen| {
