@@ -132,9 +132,9 @@ fn wrong(length: usize) -> Option<Wrong> {
     match length {
         21 | 23 | 27 => None,
         0 => Some(Wrong::Nothing),
-        ..=19 => Some(Wrong::Short),
+        1..=19 => Some(Wrong::Short),
         20 => Some(Wrong::Twenty),
-        ..=27 => Some(Wrong::Between),
+        21..=27 => Some(Wrong::Between),
         28 => Some(Wrong::TwentyEight),
         _ => Some(Wrong::Long),
     }

@@ -19,8 +19,8 @@ use support::*;
 const ROWS: usize = 60;
 const ROW_CALLS: usize = 500;
 
-/// Counts the calls that came to 22, and those of them by a handle that opens both modes; gives how many segments were
-/// frozen.
+/// Counts the calls that came to 22, those of them by a handle that opens both modes, and those by handles of each width;
+/// gives how many segments were frozen.
 fn row(random: &mut Random, refused: &mut BTreeMap<&'static str, usize>) -> usize {
     let (mut bench, mut watch) = (Bench::starting(), Watch::default());
     for _ in 0..ROW_CALLS {
@@ -41,6 +41,12 @@ fn row(random: &mut Random, refused: &mut BTreeMap<&'static str, usize>) -> usiz
             .handle()
             .is_some_and(|handle| equal[usize::from(handle.local)]);
         *refused.entry("by both").or_default() += usize::from(reply.number == 22 && by_both);
+        let by = match call.handle().map(|handle| handle.width()) {
+            Some(Width::Four) => "by one of width 4",
+            Some(Width::Sixteen) => "by one of width 16",
+            _ => "by another",
+        };
+        *refused.entry(by).or_default() += usize::from(reply.number == 22);
     }
     watch.met()
 }
@@ -52,7 +58,7 @@ fn long_rows_by_handles_that_open_the_cluster() {
     let met: usize = (0..ROWS).map(|_| row(random, &mut refused)).sum();
     assert!(met > 2 * ROWS, "{met}");
     assert_eq!(refused.remove("another call"), Some(0));
-    assert_eq!(refused.len(), 4);
+    assert_eq!(refused.len(), 7);
     assert!(refused.values().all(|&count| count > ROWS), "{refused:?}");
 }
 

@@ -1,6 +1,6 @@
 //! Handles by chance: right ones for the store as it is, old ones, and ones with something wrong.
 
-use crate::handle::{Handle, Selector};
+use crate::handle::{Handle, HandleBytes, Selector};
 use crate::list;
 use crate::random::Random;
 use crate::sizes::{CLUSTERS, NODES, SUBSELECTORS};
@@ -158,4 +158,35 @@ pub fn gapped(random: &mut Random, width: Width) -> Selector {
         selector.subselectors[0] = bits(random, width);
     }
     selector
+}
+
+/// A selector without gaps that references just these segments; one to four subselectors are not flat, but none where
+/// it references all.
+pub fn noting(random: &mut Random, width: Width, segments: u16) -> Selector {
+    let mut selector = Selector::primary(width);
+    if segments == width.flat() {
+        return selector;
+    }
+    let last = random.below(SUBSELECTORS as u64) as usize;
+    for subselector in &mut selector.subselectors[..=last] {
+        let taken = not_of(random, width, segments);
+        *subselector = (segments | bits(random, width) | bits(random, width)) & !taken;
+    }
+    selector.subselectors[last] &= segments | !selector.referenced();
+    selector
+}
+
+/// The bit of one segment that is none of these.
+fn not_of(random: &mut Random, width: Width, segments: u16) -> u16 {
+    let bits = (0..width.segments()).map(|segment| 1 << segment);
+    let others: Vec<u16> = bits.filter(|bit| segments & bit == 0).collect();
+    random.pick(&others).copied().unwrap_or(0)
+}
+
+/// Bytes of a length that no handle has: cut, or with more bytes after them.
+pub fn of_no_length(random: &mut Random, mut bytes: HandleBytes) -> HandleBytes {
+    let lengths = [0, 1, 2, 16, 19, 20, 22, 24, 25, 26, 28, 31, 46, 64];
+    let length = random.pick(&lengths).expect("there are lengths");
+    bytes.resize_with(*length, || random.byte());
+    bytes
 }

@@ -1,10 +1,10 @@
 //! Joins by chance. What speaks against a join seldom meets by itself, so that most of them are made from two handles
 //! of one cluster, each of them valid: none, one or two things are made wrong in them.
 
-use super::handles::{bits, gapped, is_inactive, place, width_of};
+use super::handles::{bits, gapped, is_inactive, noting, of_no_length, place, width_of};
 use crate::handle::{Handle, HandleBytes, Selector, Width};
 use crate::random::Random;
-use crate::sizes::{CLUSTERS, NODES, PASSWORD_BYTES, SUBSELECTORS};
+use crate::sizes::{CLUSTERS, NODES, PASSWORD_BYTES};
 use crate::store::{Cluster, Mode, Store};
 
 /// What a join is asked with.
@@ -130,29 +130,6 @@ fn two(random: &mut Random, store: &Store, place: (u16, u8), mode: Mode) -> [Han
     let mut both = [handle, valid(random, two)];
     random.shuffle(&mut both);
     both
-}
-
-/// A selector without gaps that references just these segments; one to four subselectors are not flat, but none where
-/// it references all.
-fn noting(random: &mut Random, width: Width, segments: u16) -> Selector {
-    let mut selector = Selector::primary(width);
-    if segments == width.flat() {
-        return selector;
-    }
-    let last = random.below(SUBSELECTORS as u64) as usize;
-    for subselector in &mut selector.subselectors[..=last] {
-        let taken = not_of(random, width, segments);
-        *subselector = (segments | bits(random, width) | bits(random, width)) & !taken;
-    }
-    selector.subselectors[last] &= segments | !selector.referenced();
-    selector
-}
-
-/// The bit of one segment that is none of these.
-fn not_of(random: &mut Random, width: Width, segments: u16) -> u16 {
-    let bits = (0..width.segments()).map(|segment| 1 << segment);
-    let others: Vec<u16> = bits.filter(|bit| segments & bit == 0).collect();
-    random.pick(&others).copied().unwrap_or(0)
 }
 
 /// A join on its way.
@@ -298,12 +275,4 @@ fn of_other_width(choice: u64, store: &Store, handle: &Handle, mode: Mode) -> Ha
         ..*handle
     };
     moved(store, &changed, changed.name(), mode)
-}
-
-/// Bytes of a length that no handle has: cut, or with more bytes after them.
-fn of_no_length(random: &mut Random, mut bytes: HandleBytes) -> HandleBytes {
-    let lengths = [0, 1, 2, 16, 19, 20, 22, 24, 25, 26, 28, 31, 46, 64];
-    let length = random.pick(&lengths).expect("there are lengths");
-    bytes.resize_with(*length, || random.byte());
-    bytes
 }

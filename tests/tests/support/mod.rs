@@ -7,7 +7,9 @@ use model::model::run;
 use model::sizes::{MEMORY_BYTES, NODE_BYTES};
 use model::store::Store;
 use std::borrow::Borrow;
+use std::ops::Range;
 
+pub mod every;
 pub mod faults;
 pub mod joint;
 pub mod naive;
@@ -35,16 +37,26 @@ impl Bench {
 
     /// Cluster 2 of node 0 is active; its handles are [`reader`] and [`writer`].
     pub fn with_cluster() -> Bench {
-        let mut bench = Bench::starting();
-        assert_eq!(bench.number(new_cluster(0, 2)), 0);
-        bench
+        Bench::with_cluster_of(Width::Eight)
     }
 
     /// Its segment 5 is there too, and says "abcd".
     pub fn with_segment() -> Bench {
-        let mut bench = Bench::with_cluster();
-        assert_eq!(bench.number(new_segment(5, 4)), 0);
-        assert_eq!(bench.write(5, b"abcd", writer()), 0);
+        Bench::with_segment_of(Width::Eight)
+    }
+
+    /// The same cluster with another width; its handles are [`reader_of`] and [`writer_of`].
+    pub fn with_cluster_of(width: Width) -> Bench {
+        let mut bench = Bench::starting();
+        assert_eq!(bench.number(new_cluster_of(width, 0, 2)), 0);
+        bench
+    }
+
+    /// Its segment [`own`] says "abcd".
+    pub fn with_segment_of(width: Width) -> Bench {
+        let mut bench = Bench::with_cluster_of(width);
+        assert_eq!(bench.number(new_segment_of(width, own(width), 4)), 0);
+        assert_eq!(bench.write(own(width), b"abcd", writer_of(width)), 0);
         bench
     }
 
@@ -62,7 +74,6 @@ impl Bench {
     }
 
     pub fn write(&mut self, segment: u32, data: &[u8], handle: impl Into<HandleBytes>) -> u8 {
-        let handle = handle.into();
         self.ask(
             Call::Write {
                 segment,
@@ -75,7 +86,6 @@ impl Bench {
 
     /// The bytes of a segment, or the number of the refusal.
     pub fn read(&mut self, segment: u32, handle: impl Into<HandleBytes>) -> Result<Vec<u8>, u8> {
-        let handle = handle.into();
         let mut buffer = vec![0xee; NODE_BYTES];
         let reply = self.ask(
             Call::Read {
@@ -100,7 +110,6 @@ impl Bench {
         segment: u32,
         handle: impl Into<HandleBytes>,
     ) -> Result<Vec<u8>, u8> {
-        let handle = handle.into();
         let (before, mut buffer) = (self.clone(), [0xee; 3]);
         let call = Call::Look {
             node,
@@ -135,12 +144,45 @@ pub fn eight(subselectors: [u16; 4]) -> Selector {
     Selector::new(Width::Eight, subselectors)
 }
 
+/// The segment of [`Bench::with_segment_of`]: 1, 5 or 13.
+pub fn own(width: Width) -> u32 {
+    u32::from(width.number()) - 3
+}
+
+/// The numbers of the segments that a cluster of this width has.
+pub fn segments(width: Width) -> Range<u32> {
+    0..u32::from(width.number())
+}
+
+/// The other two.
+pub fn others(width: Width) -> impl Iterator<Item = Width> {
+    Width::ALL.into_iter().filter(move |other| *other != width)
+}
+
+/// Lengths that no handle has.
+pub const WRONG: [usize; 12] = [0, 1, 2, 19, 20, 22, 24, 25, 26, 28, 31, 46];
+
+/// The bytes of a handle with such a length: cut, or with bytes after them.
+pub fn cut(handle: Handle, choice: usize) -> HandleBytes {
+    let mut bytes = handle.to_bytes();
+    bytes.resize(WRONG[choice % WRONG.len()], 0xff);
+    bytes
+}
+
 pub fn reader() -> Handle {
-    Handle::primary(Width::Eight, 0, 2, READ_SECRET)
+    reader_of(Width::Eight)
 }
 
 pub fn writer() -> Handle {
-    Handle::primary(Width::Eight, 0, 2, WRITE_SECRET)
+    writer_of(Width::Eight)
+}
+
+pub fn reader_of(width: Width) -> Handle {
+    Handle::primary(width, 0, 2, READ_SECRET)
+}
+
+pub fn writer_of(width: Width) -> Handle {
+    Handle::primary(width, 0, 2, WRITE_SECRET)
 }
 
 /// The handle that a reply gives.
@@ -149,41 +191,57 @@ pub fn given(reply: &Reply) -> Handle {
 }
 
 pub fn new_cluster(node: u32, local: u32) -> Call {
+    new_cluster_of(Width::Eight, node, local)
+}
+
+pub fn new_cluster_of(width: Width, node: u32, local: u32) -> Call {
     Call::NewCluster {
         node,
         local,
-        width: 8,
+        width: width.segments(),
         read: READ_SECRET,
         write: WRITE_SECRET,
     }
 }
 
 pub fn new_segment(segment: u32, size: u32) -> Call {
+    new_segment_of(Width::Eight, segment, size)
+}
+
+pub fn new_segment_of(width: Width, segment: u32, size: u32) -> Call {
     Call::NewSegment {
         node: 0,
         segment,
         size,
-        handle: writer().into(),
+        handle: writer_of(width).into(),
     }
 }
 
 pub fn delete_segment(segment: u32) -> Call {
+    delete_segment_of(Width::Eight, segment)
+}
+
+pub fn delete_segment_of(width: Width, segment: u32) -> Call {
     Call::DeleteSegment {
         node: 0,
         segment,
-        handle: writer().into(),
+        handle: writer_of(width).into(),
     }
 }
 
 pub fn freeze(segment: u32) -> Call {
+    freeze_of(Width::Eight, segment)
+}
+
+pub fn freeze_of(width: Width, segment: u32) -> Call {
     Call::Freeze {
         node: 0,
         segment,
-        handle: writer().into(),
+        handle: writer_of(width).into(),
     }
 }
 
-pub fn renew(mode: u32, handle: Handle, password: Password) -> Call {
+pub fn renew(mode: u32, handle: impl Into<HandleBytes>, password: Password) -> Call {
     Call::NewPassword {
         mode,
         handle: handle.into(),
@@ -191,7 +249,7 @@ pub fn renew(mode: u32, handle: Handle, password: Password) -> Call {
     }
 }
 
-pub fn join(mode: u32, handle: Handle, other: Handle) -> Call {
+pub fn join(mode: u32, handle: impl Into<HandleBytes>, other: impl Into<HandleBytes>) -> Call {
     Call::Join {
         mode,
         handle: handle.into(),

@@ -2,6 +2,7 @@
 #![allow(dead_code)] // each test file uses its own part
 
 use model::handle::Width;
+use model::random::Random;
 
 /// Whether bit `segment` of `number` is set, by halving.
 pub fn has(number: u16, segment: u32) -> bool {
@@ -61,4 +62,20 @@ pub fn selectors_of(width: Width, first: u16) -> Vec<[u16; 4]> {
 /// The selectors of every set of segments.
 pub fn selectors(width: Width) -> impl Iterator<Item = [u16; 4]> {
     (0..=flat(width)).flat_map(move |first| selectors_of(width, first))
+}
+
+/// Every set of segments at widths 4 and 8, and many at width 16, each with all numbers of flat subselectors.
+pub fn sets(width: Width) -> Vec<[u16; 4]> {
+    if width != Width::Sixteen {
+        return selectors(width).collect();
+    }
+    let random = &mut Random::from_seed(1);
+    let sets = (0..800).map(|at| match at {
+        0 => 0,
+        1 => 0xffff,
+        2..18 => 1 << (at - 2),
+        18..34 => 0xffff - (1 << (at - 18)),
+        _ => random.number() as u16,
+    });
+    sets.flat_map(|set| selectors_of(width, set)).collect()
 }
