@@ -4,7 +4,7 @@ use crate::guard;
 use crate::image::encode;
 use crate::question::{Held, Question, READ_MODE, WRITE_MODE};
 use model::call::{Call, Reply};
-use model::handle::{Handle, HandleBytes, Password, FLAT};
+use model::handle::{Handle, Password, Width};
 use model::hexadecimal::decode;
 use model::sizes::MEMORY_BYTES;
 use model::store::{Cluster, Store};
@@ -62,17 +62,18 @@ impl<'a> Line<'a> {
     }
 
     fn conversion(&self) -> Option<bool> {
-        let converted = guard::convert(&self.password("password")?, self.byte("parameter")?);
+        let converted = guard::convert(&self.password("password")?, self.bits("parameter")?);
         Some(converted == self.password("outcome")?)
     }
 
     /// The handle is what making the cluster gives for the mode.
     fn primary(&self) -> Option<bool> {
         let handle = self.handle("handle")?;
-        let cluster = self.cluster()?;
+        let cluster = self.cluster(handle.width())?;
         let call = Call::NewCluster {
             node: u32::from_str_radix(self.values.get("node")?, 16).ok()?,
             local: u32::from_str_radix(self.values.get("local")?, 16).ok()?,
+            width: handle.width().segments(),
             read: cluster.read,
             write: cluster.write,
         };
@@ -91,12 +92,15 @@ impl<'a> Line<'a> {
 
     fn weakened(&self) -> Option<bool> {
         let (old, new) = (self.handle("old")?, self.handle("new")?);
-        let mask = self.byte("mask")?;
+        let mask = self.bits("mask")?;
         let expected = Reply {
             count: self.number("count")?.into(),
             ..Reply::with_handle(&new)
         };
-        let call = Call::Weaken { mask, handle: old };
+        let call = Call::Weaken {
+            mask,
+            handle: old.to_bytes(),
+        };
         Some(
             ask(&mut held(&Store::starting()), call) == expected
                 && self.validates(old)? == DONE
@@ -108,7 +112,7 @@ impl<'a> Line<'a> {
         let (old, new) = (self.handle("old")?, self.handle("new")?);
         let call = Call::Reduce {
             mode: self.mode()?,
-            handle: old,
+            handle: old.to_bytes(),
         };
         Some(
             ask(&mut held(&self.store(&old)?), call) == Reply::with_handle(&new)
@@ -133,11 +137,12 @@ impl<'a> Line<'a> {
     fn joining(&self, reply: Reply) -> Option<bool> {
         let (mode, one, two) = (self.mode()?, self.handle("one")?, self.handle("two")?);
         let mut store = self.store(&one)?;
-        store.clusters[usize::from(two.node)][usize::from(two.local)] = self.cluster()?;
-        let join = |handle, other| Call::Join {
+        let second = &mut store.clusters[usize::from(two.node)][usize::from(two.local)];
+        *second = self.cluster(two.width())?;
+        let join = |handle: Handle, other: Handle| Call::Join {
             mode,
-            handle,
-            other,
+            handle: handle.to_bytes(),
+            other: other.to_bytes(),
         };
         Some(
             ask(&mut held(&store), join(one, two)) == reply
@@ -150,8 +155,8 @@ impl<'a> Line<'a> {
     /// A weakening that is refused, with the number that goes with the line's kind.
     fn refused(&self, number: u8) -> Option<bool> {
         let call = Call::Weaken {
-            mask: self.byte("mask")?,
-            handle: self.handle("old")?,
+            mask: self.bits("mask")?,
+            handle: self.handle("old")?.to_bytes(),
         };
         let reply = ask(&mut held(&Store::starting()), call);
         Some(reply == Reply::refused(number) && self.number("number")? == number)
@@ -163,8 +168,10 @@ impl<'a> Line<'a> {
 
     /// The number that validating in the line's mode gives.
     fn validates(&self, handle: Handle) -> Option<u8> {
-        let mode = self.mode()?;
-        let call = Call::Validate { mode, handle };
+        let call = Call::Validate {
+            mode: self.mode()?,
+            handle: handle.to_bytes(),
+        };
         Some(ask(&mut held(&self.store(&handle)?), call).number)
     }
 
@@ -172,24 +179,24 @@ impl<'a> Line<'a> {
     /// nothing makes weakening tell it.
     fn counts(&self, handle: &Handle) -> Option<bool> {
         let call = Call::Weaken {
-            mask: FLAT,
-            handle: *handle,
+            mask: handle.width().flat(),
+            handle: handle.to_bytes(),
         };
         let reply = ask(&mut held(&Store::starting()), call);
         let unchanged = reply.number == DONE && reply.first == handle.to_bytes();
         Some(unchanged && reply.count == self.number("count")?.into())
     }
 
-    /// A store in which the handle's cluster is active and has the line's primary password.
+    /// A store in which the handle's cluster is active, of the handle's width, and has the line's primary password.
     fn store(&self, handle: &Handle) -> Option<Store> {
         let mut store = Store::starting();
         let clusters = store.clusters.get_mut(usize::from(handle.node))?;
-        *clusters.get_mut(usize::from(handle.local))? = self.cluster()?;
+        *clusters.get_mut(usize::from(handle.local))? = self.cluster(handle.width())?;
         Some(store)
     }
 
     /// Active, with the line's primary password for its mode and another one for the other mode.
-    fn cluster(&self) -> Option<Cluster> {
+    fn cluster(&self, width: Width) -> Option<Cluster> {
         let primary = self.password("primary")?;
         let other = primary.map(|byte| !byte);
         let (read, write) = match self.mode()? {
@@ -198,6 +205,7 @@ impl<'a> Line<'a> {
         };
         Some(Cluster {
             active: true,
+            width: width.number(),
             read,
             write,
             ..Cluster::INACTIVE
@@ -217,12 +225,12 @@ impl<'a> Line<'a> {
     }
 
     fn handle(&self, key: &str) -> Option<Handle> {
-        let bytes: HandleBytes = decode(self.values.get(key)?)?.try_into().ok()?;
-        Some(Handle::from_bytes(&bytes))
+        Handle::from_bytes(&decode(self.values.get(key)?)?)
     }
 
-    fn byte(&self, key: &str) -> Option<u8> {
-        u8::from_str_radix(self.values.get(key)?, 16).ok()
+    /// A mask or a parameter, of two digits or of four.
+    fn bits(&self, key: &str) -> Option<u16> {
+        u16::from_str_radix(self.values.get(key)?, 16).ok()
     }
 
     fn number(&self, key: &str) -> Option<u8> {
