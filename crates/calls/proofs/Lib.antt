@@ -7,6 +7,7 @@ pub mod CallLaws
 pub mod DoneLaws
 pub mod ExampleLaws
 pub mod CaseLaws
+pub mod WidthCaseLaws
 pub mod TestLaws
 pub mod KindLaws
 pub mod SelectorWords

@@ -17,6 +17,7 @@ pub mod Cases
 pub mod JoinCases
 pub mod NearCases
 pub mod Orders
+pub mod WidthCases
 pub mod Bounds
 pub mod Written
 pub mod Answers
