@@ -8,6 +8,8 @@ pub mod DoneLaws
 pub mod ExampleLaws
 pub mod CaseLaws
 pub mod WidthCaseLaws
+pub mod WidthReplyLaws
+pub mod WidthOrderLaws
 pub mod TestLaws
 pub mod KindLaws
 pub mod SelectorWords

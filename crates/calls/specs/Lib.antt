@@ -18,6 +18,8 @@ pub mod JoinCases
 pub mod NearCases
 pub mod Orders
 pub mod WidthCases
+pub mod WidthReplies
+pub mod WidthOrders
 pub mod Bounds
 pub mod Written
 pub mod Answers

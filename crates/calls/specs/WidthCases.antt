@@ -1,25 +1,26 @@
 -- Document 02, §8: the numbers that widths bring, as computed lists, on a store with a cluster of each width. Handles are
--- written out. The conversion adds both bytes of its parameter to the first byte, without carry, and gives sixteen such bytes.
---     folded                  that conversion
---     mixed                   the store. Node 1 has a cluster of four, local number 2, with sixteen 3 and sixteen 4, one of eight,
---                             4, with 5 and 6, and one of sixteen, 5, with 7 and 8. Their last segments, 3, 7 and 15, are the
---                             three bytes at 0, the two at 3 and the four at 5. All other clusters are inactive
---     short l b s             the 21 bytes of a handle of node 1, local number l and sixteen bytes b: the first byte of its
---                             selector is s, so that its low half is subselector 0 and its high half subselector 1
---     middle l b s            its 23 bytes, with s for subselector 0
---     long l b s t            its 27 bytes, with s and t for the high and the low byte of subselector 0
---     cutTo n                 n bytes that begin as a handle of the cluster of four does
---     lengths                 lengths that are none of the three
---     anyLength x             25 for the call that x makes of a handle of each of these lengths
---     wrongLengths            every call that takes a handle, by its first handle, by its second, and by both
---     damaged                 1 for handles of all three lengths, and for call 1 whatever the width; weakening alone does not get it
---     others                  25 for every call that opens a cluster, for each handle of another width than the cluster's, which
---                             would validate otherwise; weakening does not get it
---     anyWidth                3 for call 1, by every width but three
---     fields                  3 for a segment at the handle's width and not for the one below it, and for call 1 by its width
---     numbers                 4, 10, 21, 17 and 23 at their width
---     toldBy s size cs        the numbers that the calls of the cases cs get
---     WidthsGiven             all these numbers are given: the wrong lengths on every store and slice, the others on that store
+-- written out. The conversion adds both bytes of its parameter to the first byte, without carry, and gives sixteen such
+-- bytes.
+--     folded                that conversion
+--     mixed                 the store. Node 1 has a cluster of four, local number 2, with sixteen 3 and sixteen 4; one of
+--                           eight, 4, with 5 and 6; one of sixteen, 5, with 7 and 8. Their last segments, 3, 7 and 15, are
+--                           the three bytes at 0, the two at 3 and the four at 5. All other clusters are inactive
+--     short l b s           the 21 bytes of a handle of node 1, local number l and sixteen bytes b: the first byte of its
+--                           selector is s, so that the low half of s is subselector 0 and the high half subselector 1
+--     middle l b s          its 23 bytes, with s for subselector 0
+--     long l b s t          its 27 bytes, with s and t for the high and the low byte of subselector 0
+--     cutTo n               n bytes that begin as a handle of the cluster of four does
+--     lengths               lengths that are none of the three
+--     anyLength x           25 for the call that x makes of a handle, by each of these lengths
+--     wrongLengths          every call that takes a handle, by its first handle, by its second, and by both
+--     damaged               1 for handles of all three lengths, and for call 1 whatever the width; not for weakening
+--     others                25 for every call that opens a cluster, by handles of another width than the cluster's, which
+--                           would validate otherwise; not for weakening
+--     anyWidth              3 for call 1, by widths that are none of the three
+--     fields                these; 3 for a segment at the handle's width, and not for the one below it
+--     numbers               4, 10, 11, 21, 17 and 23 at the handle's width
+--     toldBy s size cs      the numbers that the calls of the cases cs get
+--     WidthsGiven           all these are given: those of wrong lengths on every store and slice, the others on that store
 -- Assumes nothing.
 use mathlib.Core.Path.{_≡_}
 use Prim.Native.Nat.{ℕ, _+_, _-_, _/_, _%_}
