@@ -34,3 +34,6 @@ pub mod MarkWordLaws
 pub mod FreezeAgainLaws
 pub mod WrittenLaws
 pub mod EmptyWordLaws
+pub mod LengthWordLaws
+pub mod MaskLaws
+pub mod GivenLengthLaws

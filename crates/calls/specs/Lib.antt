@@ -12,6 +12,7 @@ pub mod FreezeWords
 pub mod JoinWords
 pub mod RenewWords
 pub mod EmptyWords
+pub mod LengthWords
 pub mod Examples
 pub mod Cases
 pub mod JoinCases

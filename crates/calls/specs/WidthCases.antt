@@ -23,7 +23,7 @@
 --     WidthsGiven           all these are given: those of wrong lengths on every store and slice, the others on that store
 -- Assumes nothing.
 use mathlib.Core.Path.{_≡_}
-use Prim.Native.Nat.{ℕ, _+_, _-_, _/_, _%_}
+use Prim.Native.Nat.{ℕ, _+_, _/_, _%_}
 use mathlib.Core.List.{List, [], _∷_, _++_, map}
 use lib.ListN.{getD, replicate, take}
 use Rattle.handle.specs.Handles.{Name}

@@ -1,5 +1,5 @@
--- Document 02, §8, beside "Done, it gives and leaves" of document 01: the whole reply of a call of every kind, done at widths 4
--- and 16, and the records that calls leave, written out. Conversion and store are those of the widths' lists.
+-- Document 02, §8, beside "Done, it gives and leaves" of document 01: the whole reply of a call of every kind, done at widths
+-- 4 and 16, and the records that calls leave, written out. Conversion and store are those of the widths' lists.
 --     held               a copy of that store: node 1's memory begins with 11, 12, 13, 21, 22, 31, 32, 33, 34, so that the last
 --                        segments of the three clusters hold 11 to 13, 21 and 22, and 31 to 34
 --     Answered, tells    a call and its whole reply
@@ -55,6 +55,10 @@ one h = told 0 h literal.none 0 0 []
 abbrev counts : List ℕ → ℕ → Reply
 counts h n = told 0 h literal.none n 0 []
 
+-- a number, a length and the buffer
+abbrev buffers : ℕ → ℕ → List ℕ → Reply
+buffers n l bs = told n literal.none literal.none 0 l bs
+
 abbrev pub answered : List Answered
 answered =
     -- 1: handles of 21, 23 and 27 bytes
@@ -70,11 +74,11 @@ answered =
     ∷ tells (deletingSegment 1 3 (small 1 2 4)) (only 0)
     ∷ tells (deletingSegment 1 15 (large 1 5 8)) (only 0)
     -- 5, 6
-    ∷ tells (reading 3 (small 1 2 3) (1 ∷ 2 ∷ 3 ∷ 4 ∷ [])) (told 0 literal.none literal.none 0 3 (11 ∷ 12 ∷ 13 ∷ 4 ∷ []))
+    ∷ tells (reading 3 (small 1 2 3) (1 ∷ 2 ∷ 3 ∷ 4 ∷ [])) (buffers 0 3 (11 ∷ 12 ∷ 13 ∷ 4 ∷ []))
     ∷ tells (reading 15 (long 5 135 128 0) (1 ∷ 2 ∷ 3 ∷ 4 ∷ 5 ∷ []))
-    (told 0 literal.none literal.none 0 4 (31 ∷ 32 ∷ 33 ∷ 34 ∷ 5 ∷ []))
-    ∷ tells (writing 3 (short 2 12 248) (1 ∷ 2 ∷ 3 ∷ [])) (told 0 literal.none literal.none 0 0 (1 ∷ 2 ∷ 3 ∷ []))
-    ∷ tells (writing 15 (large 1 5 8) (1 ∷ 2 ∷ 3 ∷ 4 ∷ [])) (told 0 literal.none literal.none 0 0 (1 ∷ 2 ∷ 3 ∷ 4 ∷ []))
+    (buffers 0 4 (31 ∷ 32 ∷ 33 ∷ 34 ∷ 5 ∷ []))
+    ∷ tells (writing 3 (short 2 12 248) (1 ∷ 2 ∷ 3 ∷ [])) (buffers 0 0 (1 ∷ 2 ∷ 3 ∷ []))
+    ∷ tells (writing 15 (large 1 5 8) (1 ∷ 2 ∷ 3 ∷ 4 ∷ [])) (buffers 0 0 (1 ∷ 2 ∷ 3 ∷ 4 ∷ []))
     -- 7: bits of the mask at or above the width do not count; the second subselector of 21 bytes is the high half
     ∷ tells (weakeningBy 2 (small 1 2 3)) (counts (short 2 5 242) 1)
     ∷ tells (weakeningBy 65522 (small 1 2 3)) (counts (short 2 5 242) 1)
@@ -113,8 +117,8 @@ answered =
     ∷ tells (looking 1 3 (short 2 11 248)) (shows 0 (11 ∷ 12 ∷ 13 ∷ []))
     ∷ tells (looking 1 15 (large 1 5 7)) (shows 0 (31 ∷ 32 ∷ 33 ∷ 34 ∷ []))
     -- 25, in either place: no handle, and the buffer as it was
-    ∷ tells (reading 3 [] (1 ∷ 2 ∷ 3 ∷ [])) (told 25 literal.none literal.none 0 0 (1 ∷ 2 ∷ 3 ∷ []))
-    ∷ tells (reading 3 (primary 1 2 3) (1 ∷ 2 ∷ 3 ∷ [])) (told 25 literal.none literal.none 0 0 (1 ∷ 2 ∷ 3 ∷ []))
+    ∷ tells (reading 3 [] (1 ∷ 2 ∷ 3 ∷ [])) (buffers 25 0 (1 ∷ 2 ∷ 3 ∷ []))
+    ∷ tells (reading 3 (primary 1 2 3) (1 ∷ 2 ∷ 3 ∷ [])) (buffers 25 0 (1 ∷ 2 ∷ 3 ∷ []))
     ∷ tells (weakeningBy 1 []) (only 25)
     ∷ tells (reducing 1 (large 1 2 3)) (only 25)
     ∷ tells (renewing 1 (small 1 5 7) (sixteen 9)) (only 25)
@@ -171,7 +175,8 @@ abbrev pub widths : List ℕ
 widths = replicate 10 0 ++ (4 ∷ 16 ∷ 8 ∷ 16 ∷ replicate 18 0)
 
 pub record WidthsAnswered : Type 0 where
-  pub replies : map (λ (a : Answered). step folded (a .call) held .reply) answered ≡ map (λ (a : Answered). a .reply) answered
+  pub replies : map (λ (a : Answered). step folded (a .call) held .reply) answered
+      ≡ map (λ (a : Answered). a .reply) answered
   pub records : map (λ (l : Leaving). clusterAt (step folded (l .call) held .copy .store) (l .number)) left
       ≡ map (λ (l : Leaving). l .cluster) left
   pub widths : map (λ (c : Cluster). c .width)
