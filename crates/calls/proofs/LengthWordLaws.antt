@@ -33,6 +33,11 @@ past d (inr r) = r
 after : {n m : ℕ} {W T : Type 0} → n ≢ m → ((n ≡ m) × W) ⊎ ((¬ W) × T) → T
 after d t = past d t .1
 
+-- an entry whose words do not hold, and what is told below it
+infixr 2 _▹_
+_▹_ : {n m : ℕ} {W T : Type 0} → ¬ W → T → ((n ≡ m) × W) ⊎ ((¬ W) × T)
+_▹_ w t = inr (w, t)
+
 module _ (f : Name → List ℕ → ℕ → List ℕ) where
   module _ (x : Call) (s : Store) (size : ℕ) where
     reached : Told (table f x s size) 25 → BadLength x ⊎ (Reached x s size × OtherWidth x s)
@@ -76,28 +81,17 @@ module _ (f : Name → List ℕ → ℕ → List ℕ) where
     told : BadLength x ⊎ (Reached x s size × OtherWidth x s) → Told (table f x s size) 25
     told (inl w) = inl (refl, w)
     told (inr (r, o)) =
-        inr (
-          r .lengths,
-          inr (
-            r .sound,
-            inr (
-              r .place,
-              inr (
-                r .field,
-                inr (
-                  r .even,
-                  inr (
-                    r .together,
-                    inr (
-                      r .here,
-                      inr (λ u. other (u .0), inr (λ u. other (u .0), inr (r .active, inl (refl, o)))),
-                    ),
-                  ),
-                ),
-              ),
-            ),
-          ),
-        )
+        r .lengths ▹
+        r .sound ▹
+        r .place ▹
+        r .field ▹
+        r .even ▹
+        r .together ▹
+        r .here ▹
+        (λ u. other (u .0)) ▹
+        (λ u. other (u .0)) ▹
+        r .active ▹
+        inl (refl, o)
       where
         other : ¬ Named (newCluster ∷ []) x
         other n = other-kind _ {j = newCluster} refl x (o .0) (only-kind newCluster x n)
