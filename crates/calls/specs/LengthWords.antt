@@ -12,6 +12,7 @@
 --                          is refused
 --     SameBelow w m n      the masks m and n have the same bits below w
 --     MaskBelow            masks that have the same bits below the handle's width leave and give the same
+--     made                 what call 1 leaves and gives
 --     MadeWide             of call 1 done, with passwords of sixteen bytes, on a store of thirty-two records:
 --       known                its width is 4, 8 or 16
 --       stored               the cluster that it names has that width

@@ -1,6 +1,7 @@
 -- Document 02, §8: where 25 stands, and 3 for a width. When several numbers apply the one nearest the table's top is given.
 -- As computed lists, on the store and with the shorthands of the widths' lists. Where 25 is the lower number it is that of
 -- its second place: in its first it would be given.
+--     over u l x           a call to which two rows apply, the upper and the lower
 --     applies size n x     a row with the number n applies to the call, with a slice of that many bytes
 --     first                25 in its first place over every number that can meet it
 --     second               the numbers above 25 in its second place over it, and it over those below

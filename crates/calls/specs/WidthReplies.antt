@@ -2,6 +2,8 @@
 -- 4 and 16, and the records that calls leave, written out. Conversion and store are those of the widths' lists.
 --     held               a copy of that store: node 1's memory begins with 11, 12, 13, 21, 22, 31, 32, 33, 34, so that the last
 --                        segments of the three clusters hold 11 to 13, 21 and 22, and 31 to 34
+--     only, one, counts, buffers    a reply with a number alone, with a handle, with a handle and a count, and with a number, a
+--                        length and the buffer
 --     Answered, tells    a call and its whole reply
 --     answered           the calls and their replies
 --     cluster w a b gs   an active record: width w, sixteen bytes a, sixteen bytes b, the segments gs
@@ -45,7 +47,6 @@ pub record Answered : Type 0 where
 abbrev tells : Call → Reply → Answered
 tells x r = record { call = x; reply = r }
 
--- nothing but a number; one handle; a handle and a count
 abbrev only : ℕ → Reply
 only n = told n literal.none literal.none 0 0 []
 
@@ -55,7 +56,6 @@ one h = told 0 h literal.none 0 0 []
 abbrev counts : List ℕ → ℕ → Reply
 counts h n = told 0 h literal.none n 0 []
 
--- a number, a length and the buffer
 abbrev buffers : ℕ → ℕ → List ℕ → Reply
 buffers n l bs = told n literal.none literal.none 0 l bs
 
