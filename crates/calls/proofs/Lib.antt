@@ -7,6 +7,9 @@ pub mod CallLaws
 pub mod DoneLaws
 pub mod ExampleLaws
 pub mod CaseLaws
+pub mod WidthCaseLaws
+pub mod WidthReplyLaws
+pub mod WidthOrderLaws
 pub mod TestLaws
 pub mod KindLaws
 pub mod SelectorWords
@@ -31,3 +34,6 @@ pub mod MarkWordLaws
 pub mod FreezeAgainLaws
 pub mod WrittenLaws
 pub mod EmptyWordLaws
+pub mod LengthWordLaws
+pub mod MaskLaws
+pub mod GivenLengthLaws
