@@ -45,8 +45,8 @@ use Rattle.list.proofs.RunLaws.{whole}
 pub handles-of-eight : (r : List ℕ) → length r ≡ recordBytes → HandlesOfEight r
 handles-of-eight r e =
     record {
-      first = width-eight (field r 8 23) (handle-long r e);
-      second = width-eight (field r 32 23) (field-long r e 32 23 (omega arith));
+      first = width-eight _ (handle-long r e);
+      second = width-eight _ (field-long r e 32 23 (omega arith));
     }
 
 -- a test that none of some handles passes

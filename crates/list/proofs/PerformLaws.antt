@@ -56,6 +56,9 @@ module _ (r : List ℕ) (s : Store) (m : List ℕ) where
   abbrev handle : List ℕ
   handle = field r 8 handleBytes
 
+  abbrev other : List ℕ
+  other = field r 32 handleBytes
+
   chosen : Kind → List ℕ → Bool → Performed
   chosen k b u =
       elim u [
@@ -212,12 +215,12 @@ module _ (r : List ℕ) (s : Store) (m : List ℕ) where
           ∙ sym (ap by-code e)
 
       pub perform-join : codeOf r ≡ 11 → (w : ℕ) → w ≡ byte r 3
-          → ended s m a [] ≡ aesStep (joining w handle (field r 32 handleBytes)) (copyOf s m)
+          → ended s m a [] ≡ aesStep (joining w handle other) (copyOf s m)
           → ran answered m b ≡ performed r (bench s m b)
       unfolding by-code kindOf performed
       perform-join e w ew ea =
-          as-step join (joining w handle (field r 32 handleBytes) .args) b refl
-          (λ j. joining (ew j) handle (field r 32 handleBytes) .args) _ ea
+          as-step join (joining w handle other .args) b refl
+          (λ j. joining (ew j) handle other .args) _ ea
           ∙ sym (ap by-code e)
 
 -- ---- the number of a misfit
