@@ -6,7 +6,7 @@ use mathlib.Core.Logic.{_≢_, inl, inr}
 use Prim.Native.Nat.{ℕ, zero, suc, _-_, _*_, _/_, _≤_, _<_}
 use native.Mathlib.Omega.{arith}
 use native.Mathlib.Decide.{decLt}
-use mathlib.Core.Bool.{Bool, true, false, not, _&&_, _||_, and-false, true≢false, false≢true}
+use mathlib.Core.Bool.{Bool, true, false, not, _&&_, _||_, true≢false, false≢true}
 use mathlib.Core.List.{List, [], _∷_, _++_}
 use mathlib.Core.Option.{Option, none, some}
 use borrow.Author.Tests.{eq-eqb, eqb-true, eqb-false}
@@ -26,15 +26,13 @@ use Rattle.calls.specs.Calls.{anyOf, recordFor, recordNamed}
 use Rattle.calls.specs.Numbers.{badLength, inactiveCluster, otherWidth, at, rows, number}
 use Rattle.calls.specs.Steps.{left, clusterMade, clusterDeleted, segmentMade, segmentDeleted, segmentWritten}
 use Rattle.calls.specs.Steps.{passwordReplaced, segmentMarked, segmentRead, segmentShown, given, outcome, step}
-use Rattle.calls.specs.Clear.{holding}
 use Rattle.calls.proofs.FirstLaws.{first-holding, first-above, first-clear}
 use Rattle.calls.proofs.CallLaws.{In, active-is}
-use Rattle.chain.specs.Way.{reached, done, records}
+use Rattle.chain.specs.Way.{reached, records}
 use Rattle.chain.specs.Means.{IsRecord, OnRecords}
 use Rattle.chain.specs.Bytes.{count, nextIn}
 use Rattle.list.specs.Records.{recordBytes, recordIn, field, codeOf, kindOf, argumentsOf}
 use Rattle.list.specs.Runs.{Bench, starting, Performed, misfits, misfitRows, refused, stepped, performedAs, performed}
-use Rattle.list.specs.Texts.{checked}
 use Rattle.list.specs.Lengths.{HandlesOfEight, RightLength, Eights, EightsKept, NoLength, numbersOf, NoneIs}
 use Rattle.list.specs.Lengths.{NoLengthInLists}
 use Rattle.list.proofs.FieldLaws.{field-long, handle-long, width-eight}

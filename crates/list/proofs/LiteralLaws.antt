@@ -3,7 +3,6 @@
 -- Assumes nothing.
 use mathlib.Core.Path.{_≡_, refl, _∙_}
 use mathlib.Core.List.{List, [], _∷_, map}
-use Prim.Native.Nat.{ℕ}
 use Rattle.loops.specs.Search.{leastFrom, least}
 use Rattle.calls.specs.Numbers.{tests}
 use Rattle.calls.specs.Steps.{effects}

@@ -1,6 +1,6 @@
 -- Document 02, §8: the list carries the width 8 only. Its handles have 23 bytes and its clusters eight segments, so no call of
 -- a list is turned down with 25.
---     HandlesOfEight         both handles of a record have the width 8
+--     HandlesOfEight r       both handles of the record r have the width 8
 --     RightLength            of no call of a record a handle's length is none of the three: 25 does not apply in its first
 --                            place
 --     Eights b               every active cluster of the bench b has the width 8
