@@ -106,7 +106,7 @@ fn right(width: Width, reader: &Handle, writer: &Handle) -> Vec<Call> {
 fn bytes_of_each_width() {
     let held = held();
     let cases: [(Width, [u16; 3], &str); 3] = [
-        (Width::Four, [0xe, 0x6, 0x4], "6efc"),
+        (Width::Four, [0xe, 0x6, 0x4], "7efd"),
         (Width::Eight, [0xfe, 0x7d, 0x70], "fe7df3ff"),
         (Width::Sixteen, [0xfffe, 0x0ffd, 0x0100], "fffe0ffdf103ffff"),
     ];
