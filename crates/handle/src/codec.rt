@@ -8,7 +8,6 @@ use crate::SMALL;
 use crate::SUBSELECTORS;
 use crate::Width;
 use bits::BYTE;
-use sizes::PASSWORD_BYTES;
 use sizes::Password;
 ghost use mathlib.Core.Path.{_≡_};
 ghost use mathlib.Core.List.{[]};
@@ -30,19 +29,6 @@ fn wide(byte: u8) -> u16
 }
 
 impl Handle {
-    // No handle.
-    pub fn none() -> Handle
-        ensures { λ r. ⌜ r ≡ spec.noHandle ⌝ }
-    {
-        Handle {
-            node: 0,
-            local: 0,
-            password: [0u8; PASSWORD_BYTES],
-            width: Width::None,
-            selector: [0u16; SUBSELECTORS],
-        }
-    }
-
     // The handle whose node, local number and password stand in the bytes.
     fn with(bytes: &[u8], width: Width, selector: [u16; SUBSELECTORS]) -> Handle
         requires { ⌜ selectorAt ≤ length (now bytes) ⌝ }
@@ -181,16 +167,6 @@ impl Handle {
                 ],
             ),
         }
-    }
-}
-
-// No bytes: what a reply holds where no handle is given.
-pub fn no_bytes() -> HandleBytes
-    ensures { λ r. ⌜ r ≡ spec.laid [] ⌝ }
-{
-    HandleBytes {
-        length: 0,
-        bytes: [0u8; HANDLE_BYTES],
     }
 }
 

@@ -6,7 +6,6 @@ mod sets; // sets.rt: reduction and joining, which put a set of segments in subs
 mod weaken; // weaken.rt: weakening, and what it is refused with
 
 use aes::Tables;
-pub use codec::no_bytes;
 pub use codec::primary_bytes;
 use sizes::PASSWORD_BYTES;
 use sizes::Password;
@@ -161,6 +160,19 @@ pub fn same(a: Password, b: Password) -> bool
 }
 
 impl Handle {
+    // No handle.
+    fn none() -> Handle
+        ensures { λ r. ⌜ r ≡ spec.noHandle ⌝ }
+    {
+        Handle {
+            node: 0,
+            local: 0,
+            password: [0u8; PASSWORD_BYTES],
+            width: Width::None,
+            selector: [0u16; SUBSELECTORS],
+        }
+    }
+
     // The node that the handle names.
     pub fn node(self) -> usize
         ensures { λ r. ⌜ r ≡ spec.nodeOf self ⌝ }

@@ -1,6 +1,6 @@
 // What the measurements under bench/ call, over bytes and numbers alone. It is linked into them and nowhere else.
-use handle::Handle;
 use handle::HANDLE_BYTES;
+use handle::Handle;
 use sizes::PASSWORD_BYTES;
 use sizes::Password;
 use sizes::RECORDS;
@@ -25,6 +25,7 @@ ghost use Rattle.calls.specs.Answers.{copyOf};
 
 // Clusters of sixteen segments, and an entry for each segment of the store.
 const WIDTH: u8 = 16;
+
 const ENTRIES: usize = 512;
 
 // A block encrypted under a key.
@@ -116,7 +117,11 @@ fn store_from(bases: &[u16; ENTRIES], lengths: &[u16; ENTRIES]) -> Store
 
 // Whether a store made of two tables is sound with a slice of `size` bytes.
 #[no_mangle]
-pub extern "C" fn measured_sound(bases: &[u16; ENTRIES], lengths: &[u16; ENTRIES], size: usize) -> bool
+pub extern "C" fn measured_sound(
+    bases: &[u16; ENTRIES],
+    lengths: &[u16; ENTRIES],
+    size: usize,
+) -> bool
     ensures { λ r. ⌜ r ≡ sound-spec.sound (storeFrom (now (bases .entry)) (now (lengths .entry))) size ⌝ }
 {
     store::sound(store_from(bases, lengths), size)

@@ -12,8 +12,8 @@ use model::sizes::{CLUSTERS, NODES};
 use model::store::{Cluster, Segment, Store};
 
 pub const SEED: u64 = 7;
-pub const CALLS: u64 = 20_000;
-pub const RUNS: u64 = 60;
+pub const CALLS: u64 = 40_000;
+pub const RUNS: u64 = 120;
 
 /// What single calls and long rows say of a guard.
 pub fn told_twice(guard: Guard) -> [String; 2] {

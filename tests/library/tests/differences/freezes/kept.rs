@@ -81,9 +81,9 @@ overlooked!(one_in_the_middle_not_looked_at, DeleteCluster, |segment| {
 });
 overlooked!(forgotten_for_call_4, DeleteSegment, |_| true);
 overlooked!(
-    the_last_not_looked_at_for_call_4,
+    the_upper_half_not_looked_at_for_call_4,
     DeleteSegment,
-    |segment| { segment == 15 }
+    |segment| { segment > 7 }
 );
 overlooked!(forgotten_for_call_6, Write, |_| true);
 overlooked!(segment_0_alone_looked_at_for_call_6, Write, |segment| {

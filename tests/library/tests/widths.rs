@@ -1,0 +1,423 @@
+//! Widths, asked of the library itself: the bytes of a handle of each, every length that no handle has, handles of
+//! another width than their cluster's, the width in a record, and batches of one width. What is expected is told without
+//! the model.
+
+#[path = "../../tests/support/mod.rs"]
+mod support;
+
+use library::chance::damage::{inflict, Damage, LAST_PLACE};
+use library::chance::handles::at_width;
+use library::guard::given::Given;
+use library::image::{encode, record_at, segment_at, WIDTH_AT};
+use library::question::{Held, Question, READ_MODE, WRITE_MODE};
+use library::{batch, copies, edges, guard, writers};
+use model::call::{Call, Reply};
+use model::handle::{Handle, HandleBytes, Password, Width};
+use model::hexadecimal;
+use model::random::Random;
+use model::sizes::MEMORY_BYTES;
+use model::store::{Cluster, Segment, Store};
+use support::every::{every, Rest};
+
+const READ: Password = [0x11; 16];
+const WRITE: Password = [0x22; 16];
+/// The segments that are there, of clusters at node 1, local numbers 2, 3 and 4, which have widths 4, 8 and 16.
+const THERE: u32 = 2;
+const REST: Rest = Rest {
+    node: 1,
+    segment: THERE,
+    mode: None,
+};
+
+fn local(width: Width) -> usize {
+    2 + width as usize
+}
+
+/// The passwords are the same everywhere.
+fn held() -> Held {
+    let mut store = Store::starting();
+    for (at, width) in Width::ALL.into_iter().enumerate() {
+        let cluster = &mut store.clusters[1][local(width)];
+        *cluster = Cluster {
+            active: true,
+            width: width.number(),
+            read: READ,
+            write: WRITE,
+            ..Cluster::INACTIVE
+        };
+        cluster.segments[THERE as usize] = Segment::present(10 * at as u16, 4);
+    }
+    Held {
+        image: encode(&store),
+        memory: vec![0x77; MEMORY_BYTES],
+    }
+}
+
+fn primary(width: Width, password: Password) -> Handle {
+    Handle::primary(width, 1, local(width) as u8, password)
+}
+
+/// The reply, with what is left; the buffer is as long as a segment.
+fn asked(held: &Held, call: &Call) -> (Reply, Held) {
+    let mut after = held.clone();
+    let question = Question {
+        buffer: vec![0x33; 4],
+        ..Question::of(call.clone())
+    };
+    let answer = guard::ask(&mut after, &question);
+    if !answer.reply.is_done() {
+        assert_eq!(answer.buffer, question.buffer);
+    }
+    (answer.reply, after)
+}
+
+/// Refused with this number, giving nothing and changing nothing.
+fn refused(held: &Held, call: &Call, number: u8) {
+    let (reply, after) = asked(held, call);
+    assert_eq!(reply, Reply::refused(number), "{call:?}");
+    assert!(after == *held, "{call:?} changes something");
+}
+
+fn given(held: &Held, call: Call) -> HandleBytes {
+    let (reply, _) = asked(held, &call);
+    assert_eq!(reply.number, 0, "{call:?}");
+    reply.first
+}
+
+/// Every call by handles that open the cluster: where it reads by the read handle, else by the write handle, which for
+/// a reduction and a join is a weaker one.
+fn right(width: Width, reader: &Handle, writer: &Handle) -> Vec<Call> {
+    let [one, other] = [0b0100, 0b0110].map(|mask| writer.weaken(mask).expect("all are flat"));
+    let by = |handle: &Handle| every(&handle.to_bytes(), &other.to_bytes(), REST);
+    let [by_writer, by_weaker, by_reader] = [writer, &one, reader].map(by);
+    let mut calls = by_writer;
+    calls[5] = by_weaker[5].clone();
+    calls[8] = by_weaker[8].clone();
+    calls.splice(9.., by_reader[9..].to_vec());
+    if let Call::NewSegment { segment, .. } = &mut calls[1] {
+        *segment = u32::from(width.number()) - 1;
+    }
+    calls
+}
+
+/// What becomes of a primary handle that is weakened three times, byte by byte: four different subselectors at each
+/// width.
+#[test]
+fn bytes_of_each_width() {
+    let held = held();
+    let cases: [(Width, [u16; 3], &str); 3] = [
+        (Width::Four, [0xe, 0x6, 0x4], "7efd"),
+        (Width::Eight, [0xfe, 0x7d, 0x70], "fe7df3ff"),
+        (Width::Sixteen, [0xfffe, 0x0ffd, 0x0100], "fffe0ffdf103ffff"),
+    ];
+    for (width, masks, selector) in cases {
+        let mut handle = primary(width, READ).to_bytes();
+        let mut password = READ;
+        let mut taken = Vec::new();
+        for mask in masks {
+            handle = given(&held, Call::Weaken { mask, handle });
+            taken.push(handle.clone());
+        }
+        let end = hexadecimal::encode(&handle[19..]);
+        let bytes = hexadecimal::decode(selector).expect("it is hexadecimal");
+        let parts: Vec<u16> = match width {
+            Width::Four => vec![
+                (bytes[0] % 16).into(),
+                (bytes[0] / 16).into(),
+                (bytes[1] % 16).into(),
+            ],
+            Width::Eight => bytes[..3].iter().map(|byte| u16::from(*byte)).collect(),
+            Width::Sixteen => bytes[..6]
+                .chunks(2)
+                .map(|pair| 256 * u16::from(pair[0]) + u16::from(pair[1]))
+                .collect(),
+        };
+        for parameter in parts {
+            password = guard::convert(&password, parameter);
+        }
+        assert_eq!(end, selector, "{width:?}");
+        assert_eq!(handle[..3], [0, 1, local(width) as u8]);
+        assert_eq!(handle[3..19], password);
+        for handle in taken {
+            let mode = READ_MODE;
+            assert_eq!(
+                asked(&held, &Call::Validate { mode, handle }).0,
+                Reply::DONE
+            );
+        }
+    }
+}
+
+/// Call 1 at each width, and every call by its handles; then the same by handles of every other width.
+#[test]
+fn every_call_at_every_width() {
+    let before = held();
+    for width in Width::ALL {
+        let call = Call::NewCluster {
+            node: 3,
+            local: 5,
+            width: width.segments(),
+            read: READ,
+            write: WRITE,
+        };
+        let (reply, after) = asked(&before, &call);
+        let at = |password| Handle::primary(width, 3, 5, password).to_bytes();
+        let expected = Reply {
+            first: at(READ),
+            second: at(WRITE),
+            ..Reply::DONE
+        };
+        assert_eq!(reply, expected);
+        let mut made = before.clone();
+        let record = record_at(3, 5).start;
+        made.image[record..record + 2].copy_from_slice(&[1, width.number()]);
+        made.image[record + 2..record + 18].fill(0x11);
+        made.image[record + 18..record + 34].fill(0x22);
+        assert!(after == made);
+        let (reader, writer) = (primary(width, READ), primary(width, WRITE));
+        for call in right(width, &reader, &writer) {
+            assert_eq!(asked(&before, &call).0.number, 0, "{call:?}");
+        }
+        for other in support::others(width) {
+            let [reader, writer] = [reader, writer].map(|handle| at_width(&handle, other));
+            for call in right(Width::Four, &reader, &writer) {
+                match call {
+                    Call::Weaken { .. } => assert_eq!(asked(&before, &call).0.number, 0),
+                    _ => refused(&before, &call, 25),
+                }
+            }
+        }
+    }
+}
+
+/// Every length from 0 to 64 that no handle has, in every call and for either handle of a join: 25 on a sound store and
+/// beside every kind of damage.
+#[test]
+fn lengths_that_no_handle_has() {
+    let random = &mut Random::from_seed(1);
+    let sound = held();
+    let damaged = Damage::ALL.map(|damage| {
+        let mut damaged = sound.clone();
+        inflict(random, &mut damaged, damage, LAST_PLACE);
+        damaged
+    });
+    let right = primary(Width::Eight, WRITE)
+        .weaken(1)
+        .expect("all are flat");
+    for length in (0..=64).filter(|length| ![21, 23, 27].contains(length)) {
+        let mut wrong = right.to_bytes();
+        wrong.resize(length, 0xff);
+        let right = right.to_bytes();
+        let mode = WRITE_MODE;
+        let second = Call::Join {
+            mode,
+            handle: right.clone(),
+            other: wrong.clone(),
+        };
+        let calls = every(&wrong, &right, REST).into_iter().chain([second]);
+        for (at, call) in calls.enumerate() {
+            refused(&sound, &call, 25);
+            refused(&damaged[(length + at) % damaged.len()], &call, 25);
+        }
+    }
+    for damaged in &damaged {
+        let (wrong, right) = (right.to_bytes()[..22].to_vec(), right.to_bytes());
+        for call in every(&wrong, &right, REST) {
+            refused(damaged, &call, 25);
+        }
+    }
+}
+
+/// 25 comes before everything at its first place, and after 8 and before 9 at its second.
+#[test]
+fn between_its_neighbours() {
+    let held = held();
+    let handle = primary(Width::Eight, WRITE);
+    let nowhere = Handle { node: 4, ..handle };
+    let wrong = nowhere.to_bytes()[..22].to_vec();
+    let rest = Rest {
+        node: 4,
+        segment: 16,
+        mode: Some(0),
+    };
+    for call in every(&wrong, &wrong, rest) {
+        refused(&held, &call, 25);
+    }
+    let inactive = Handle {
+        local: 7,
+        ..at_width(&handle, Width::Four)
+    };
+    let forged = Handle {
+        password: [0x99; 16],
+        local: local(Width::Sixteen) as u8,
+        ..handle
+    };
+    for (handle, number) in [(inactive, 8), (forged, 25)] {
+        let bytes = handle.to_bytes();
+        let calls = every(&bytes, &bytes, REST).into_iter();
+        for call in calls.filter(|call| !matches!(call, Call::Weaken { .. })) {
+            refused(&held, &call, number);
+        }
+    }
+}
+
+/// A segment goes by the handle's width, also where its cluster has another.
+#[test]
+fn segments_by_the_handle_s_width() {
+    let held = held();
+    for (cluster, width) in Width::ALL
+        .into_iter()
+        .flat_map(|cluster| Width::ALL.map(|width| (cluster, width)))
+    {
+        let handle = at_width(&primary(cluster, READ), width).to_bytes();
+        for segment in (0..=17).chain([256, 65_536 + THERE, u32::MAX]) {
+            let expected = match segment {
+                _ if segment >= width.number().into() => 3,
+                _ if cluster != width => 25,
+                THERE => 0,
+                _ => 14,
+            };
+            let handle = handle.clone();
+            let (reply, _) = asked(&held, &Call::Read { segment, handle });
+            assert_eq!(reply.number, expected, "{cluster:?} {width:?} {segment}");
+        }
+    }
+}
+
+/// Masks of sixteen bits: those at or above the width do not matter.
+#[test]
+fn upper_bits_of_a_mask() {
+    let held = held();
+    for width in [Width::Four, Width::Eight] {
+        let flat = width.flat();
+        let handle = primary(width, READ).to_bytes();
+        for mask in 0..=flat {
+            let weaken = |mask| {
+                let handle = handle.clone();
+                asked(&held, &Call::Weaken { mask, handle }).0
+            };
+            let expected = weaken(mask);
+            assert_eq!(expected.count, mask.count_ones());
+            assert_eq!(expected.number, if mask == 0 { 21 } else { 0 });
+            for above in [u16::MAX, 0x8000, flat + 1, 0x5a50, 0xa5a0] {
+                assert_eq!(weaken(mask | above & !flat), expected);
+            }
+        }
+    }
+}
+
+/// Every value of the width, in an active record and in an inactive one; and a segment that is present, of each number.
+#[test]
+fn widths_of_records() {
+    let before = held();
+    let reader = primary(Width::Eight, READ).to_bytes();
+    let validate = Call::Validate {
+        mode: READ_MODE,
+        handle: reader,
+    };
+    for (node, place) in [(1, 3), (1, 6), (3, 7)] {
+        let active = (node, place) == (1, 3);
+        for width in 0..=u8::MAX {
+            let mut held = before.clone();
+            held.image[record_at(node, place).start + WIDTH_AT] = width;
+            let sound = match active {
+                true => [4, 8, 16].contains(&width),
+                false => width == 0,
+            };
+            assert_eq!(guard::is_sound(&mut held.image, MEMORY_BYTES), sound);
+            let number = match (sound, active && width != 8) {
+                (false, _) => 1,
+                (true, true) => 25,
+                _ => 0,
+            };
+            assert_eq!(asked(&held, &validate).0.number, number);
+        }
+    }
+    for width in Width::ALL {
+        for segment in 0..16 {
+            let mut held = before.clone();
+            let place = segment_at(1, local(width), segment);
+            held.image[place].copy_from_slice(&[0x0f, 0xff, 0, 1, segment as u8 % 2]);
+            let sound = segment < width.segments();
+            assert_eq!(guard::is_sound(&mut held.image, MEMORY_BYTES), sound);
+            assert_eq!(asked(&held, &validate).0.number, u8::from(!sound));
+        }
+    }
+}
+
+/// Handles of one width, one after the other: each gets what it gets alone, and none where the width is none.
+#[test]
+fn batches_of_one_width() {
+    let mut held = held();
+    for width in Width::ALL {
+        let right = primary(width, READ);
+        let handles = [
+            right,
+            primary(width, WRITE),
+            right.weaken(0b0110).expect("all are flat"),
+            Handle { local: 7, ..right },
+            Handle { node: 4, ..right },
+            Handle {
+                local: local(Width::ALL[(width as usize + 1) % 3]) as u8,
+                ..right
+            },
+        ];
+        let mut joined = handles.map(|handle| handle.to_bytes()).concat();
+        joined.extend([0; 20]);
+        let mut numbers = [0x5a; 8];
+        let mode = READ_MODE as usize;
+        let count = guard::validate_all(&mut held, mode, width.segments(), &joined, &mut numbers);
+        assert_eq!((count, numbers), (6, [0, 9, 0, 8, 2, 25, 0x5a, 0x5a]));
+        for none in (0..=300).filter(|none| ![4, 8, 16].contains(none)) {
+            let mut numbers = [0x5a; 8];
+            let count = guard::validate_all(&mut held, mode, none, &joined, &mut numbers);
+            assert_eq!((count, numbers), (0, [0x5a; 8]));
+        }
+    }
+}
+
+/// What is given is told as it is laid out: what comes after the length has to be zero.
+#[test]
+fn handles_as_they_are_given() {
+    let given = |length, from: usize| {
+        let mut bytes = [0; 27];
+        bytes[..from].fill(7);
+        Given { bytes, length }
+    };
+    for length in [21, 23, 27] {
+        assert_eq!(given(length, length).told(), vec![7; length]);
+    }
+    assert_eq!(given(0, 0).told(), Vec::<u8>::new());
+    for (length, from) in [(0, 1), (21, 22), (23, 27), (28, 27), (usize::MAX, 0)] {
+        let told = given(length, from).told();
+        assert_eq!(told.len(), 35, "{length} {from}");
+        assert_eq!(Handle::from_bytes(&told), None);
+    }
+    assert_eq!(Given::UNWRITTEN.told().len(), 35);
+}
+
+#[test]
+fn edges_are_all_tried() {
+    // Eleven calls with one handle and one with two, of which each and both are changed; 65 lengths, three stores.
+    let (calls, done) = edges::lengths(guard::ask, 5).expect("no difference");
+    assert_eq!(calls, 3 * (11 + 3) * 65 * 3);
+    assert!(done > 40, "{done}");
+    // Six calls about a segment, with 24 numbers each, and six about none; two passwords, three widths of each.
+    let (calls, done) = edges::segments(guard::ask, 5).expect("no difference");
+    assert_eq!(calls, 3 * 3 * 2 * (6 * 24 + 6));
+    assert!(done > 50, "{done}");
+    let (calls, done) = edges::new_clusters(guard::ask, 5).expect("no difference");
+    assert_eq!((calls, done), (3 * 4 * 306, 3 * 3));
+    let batches = batch::every_width(guard::validate_all, 5).expect("no difference");
+    assert_eq!(batches, 3 * 38 + (43 + 47 + 55));
+}
+
+#[test]
+fn two_copies_come_to_every_width() {
+    let count = copies::compare(guard::ask, 6, 60).expect("the copies agree");
+    for counted in [count.widths, count.other_width, count.by_width] {
+        assert!(counted.iter().all(|counted| *counted > 4), "{count:?}");
+    }
+    let count = writers::compare(guard::ask, 6, 200).expect("the copies agree");
+    assert!(count.faults().is_empty(), "{count:?}");
+}
