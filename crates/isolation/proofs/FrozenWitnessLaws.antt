@@ -20,7 +20,8 @@ use Rattle.isolation.specs.FrozenWitness.{theFreeze, attempts, attemptAn
 use Rattle.isolation.specs.FrozenWitness.{Tabled}
 use Rattle.isolation.proofs.RunLaws.{run-below}
 use Rattle.isolation.proofs.FrozenLaws.{fixed-from-then-on}
-use Rattle.isolation.proofs.WitnessLaws.{sound-one, four}
+use Rattle.isolation.proofs.HoldingLaws.{four}
+use Rattle.isolation.proofs.WitnessLaws.{sound-one}
 
 pub tabled : Tabled
 tabled h = false≢true (ap (λ (t : Table). frozenOf t 5) (h .table))
@@ -52,7 +53,7 @@ module _ (f : Name → List ℕ → ℕ → List ℕ) where
             ap (λ (q : ℕ). getD (run f (theFreeze ∷ attempts) one .copy .memory) q 0) (sym e)
             ∙ fixed .bytes p l
             ∙ ap (λ (q : ℕ). getD (one .memory) q 0) e
-            ∙ four 17 34 7 p l;
+            ∙ four 8 5 17 34 7 p l;
       }
 
   pub thawed-otherwise : Otherwise f

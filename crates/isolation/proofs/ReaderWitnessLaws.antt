@@ -17,7 +17,8 @@ use Rattle.isolation.specs.ReaderWitness.{readerCalls, readerAnswers, re
 use Rattle.isolation.specs.ReaderWitness.{ReadersList, Unharmed}
 use Rattle.isolation.proofs.RunLaws.{run-below, someBelow, unwritten-below}
 use Rattle.isolation.proofs.ReaderLaws.{readers-alter-nothing}
-use Rattle.isolation.proofs.WitnessLaws.{sound-one, four}
+use Rattle.isolation.proofs.HoldingLaws.{four}
+use Rattle.isolation.proofs.WitnessLaws.{sound-one}
 
 joins-unwritten : someBelow added (keyed 0 2 added writeMode) readerJoins one ≡ false
 unfolding keyed tests effects computing
@@ -52,5 +53,5 @@ module _ (f : Name → List ℕ → ℕ → List ℕ) where
       record {
         place = ap (λ (t : Table). placeOf t 5) (sym (unaltered .table));
         write = sym (unaltered .write);
-        bytes = λ p l. sym (unaltered .bytes p 5 (omega arith) (omega arith)) ∙ four 17 34 7 p l;
+        bytes = λ p l. sym (unaltered .bytes p 5 (omega arith) (omega arith)) ∙ four 8 5 17 34 7 p l;
       }
