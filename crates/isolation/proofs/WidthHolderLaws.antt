@@ -4,15 +4,15 @@
 use mathlib.Core.Path.{_≡_, refl, sym, ap, _∙_}
 use Prim.Native.Nat.{ℕ, _+_, _*_}
 use native.Mathlib.Omega.{arith}
-use mathlib.Core.Bool.{false}
+use mathlib.Core.Bool.{true, false}
 use mathlib.Core.List.{List, _∷_}
 use lib.ListN.{getD}
 use Rattle.sizes.specs.Sizes.{memory}
 use Rattle.handle.specs.Handles.{Name}
 use Rattle.store.specs.Records.{Table, placeOf, writeMode}
-use Rattle.calls.specs.Calls.{Copy}
+use Rattle.calls.specs.Calls.{Copy, Call}
 use Rattle.calls.specs.Numbers.{tests}
-use Rattle.calls.specs.Steps.{Ran, effects, step, run}
+use Rattle.calls.specs.Steps.{Reply, Ran, effects, step, run}
 use Rattle.calls.proofs.Computing.{computing}
 use Rattle.calls.proofs.StepLaws.{number-below}
 use Rattle.isolation.specs.Copies.{Done, SoundCopy, Unaltered, keyed}
@@ -22,7 +22,7 @@ use Rattle.isolation.specs.WidthLists.{Sort, ofFour, ofSixteen, width, t
 use Rattle.isolation.specs.WidthHolders.{writes, writesAnswers, writesPlaces, reads, readsAnswers, theFreeze, attempts}
 use Rattle.isolation.specs.WidthHolders.{attemptAnswers}
 use Rattle.isolation.specs.WidthWitness.{WritesMet, WritesTold, ReadsMet, ReadsTold, FrozenMet, FrozenTold}
-use Rattle.isolation.proofs.RunLaws.{runBelow, run-below, placesBelow, places-below, someBelow, along-below, unwritten-below}
+use Rattle.isolation.proofs.RunLaws.{numbersOf, ranBy, numbered, run-by, placesBelow, places-below, someBelow, along-below, unwritten-below}
 use Rattle.isolation.proofs.ReaderLaws.{readers-alter-nothing}
 use Rattle.isolation.proofs.FrozenLaws.{fixed-from-then-on}
 use Rattle.isolation.proofs.SpyLaws.{spying, unspied}
@@ -31,6 +31,12 @@ use Rattle.isolation.proofs.HoldingLaws.{four, placed, within, alike-ho
 use Rattle.isolation.proofs.WidthWitnessLaws.{sound-here, top-low}
 
 module _ (f : Name → List ℕ → ℕ → List ℕ) where
+  -- the replies, by the numbers
+  replied : (rs : List Reply) (xs : List Call) (v : Sort) → numbered f (numbersOf f rs) xs (one v) ≡ true
+      → ranBy f (numbersOf f rs) xs (one v) .replies ≡ rs → run f xs (one v) .replies ≡ rs
+  replied rs xs v n e =
+      ap (λ (r : Ran). r .replies) (run-by f (numbersOf f rs) xs (one v) (sound-here v 17 34 7) n) ∙ e
+
   -- ---- writers
 
   unspied-one : (v : Sort) → someBelow f (spying 0 2 f) (writes v) (one v) ≡ false
@@ -43,8 +49,13 @@ module _ (f : Name → List ℕ → ℕ → List ℕ) where
   unspied-mate ofFour = refl
   unspied-mate ofSixteen = refl
 
-  written : (v : Sort) → runBelow f (writes v) (one v) .replies ≡ writesAnswers v
+  writes-numbered : (v : Sort) → numbered f (numbersOf f (writesAnswers v)) (writes v) (one v) ≡ true
   unfolding tests effects computing
+  writes-numbered ofFour = refl
+  writes-numbered ofSixteen = refl
+
+  written : (v : Sort) → ranBy f (numbersOf f (writesAnswers v)) (writes v) (one v) .replies ≡ writesAnswers v
+  unfolding effects computing
   written ofFour = refl
   written ofSixteen = refl
 
@@ -67,7 +78,7 @@ module _ (f : Name → List ℕ → ℕ → List ℕ) where
             (alike-holding (width v) (top v) (top-low v) 17 34 7 1 34 9) refl;
         no-reader-one = no-reader v (one v) (sound-here v 17 34 7) (unspied-one v);
         no-reader-mate = no-reader v (mate v) (sound-here v 1 34 9) (unspied-mate v);
-        replies = ap (λ (r : Ran). r .replies) (run-below f (writes v) (one v) (sound-here v 17 34 7)) ∙ written v;
+        replies = replied (writesAnswers v) (writes v) v (writes-numbered v) (written v);
         places = places-below f (writes v) (one v) (sound-here v 17 34 7) ∙ looked v;
       }
 
@@ -91,8 +102,13 @@ module _ (f : Name → List ℕ → ℕ → List ℕ) where
   unwritten ofFour = refl
   unwritten ofSixteen = refl
 
-  read : (v : Sort) → runBelow f (reads v) (one v) .replies ≡ readsAnswers v
+  reads-numbered : (v : Sort) → numbered f (numbersOf f (readsAnswers v)) (reads v) (one v) ≡ true
   unfolding tests effects computing
+  reads-numbered ofFour = refl
+  reads-numbered ofSixteen = refl
+
+  read : (v : Sort) → ranBy f (numbersOf f (readsAnswers v)) (reads v) (one v) .replies ≡ readsAnswers v
+  unfolding effects computing
   read ofFour = refl
   read ofSixteen = refl
 
@@ -100,7 +116,7 @@ module _ (f : Name → List ℕ → ℕ → List ℕ) where
   reads-met v =
       record {
         no-writer = unwritten-below f 0 2 (reads v) (one v) (sound-here v 17 34 7) (unwritten v);
-        replies = ap (λ (r : Ran). r .replies) (run-below f (reads v) (one v) (sound-here v 17 34 7)) ∙ read v;
+        replies = replied (readsAnswers v) (reads v) v (reads-numbered v) (read v);
       }
 
   pub reads-told : (v : Sort) → ReadsTold f v
@@ -125,8 +141,13 @@ module _ (f : Name → List ℕ → ℕ → List ℕ) where
   frozen-done ofSixteen =
       number-below f (theFreeze ofSixteen) (one ofSixteen .store) memory (sound-here ofSixteen 17 34 7) ∙ refl
 
-  attempted : (v : Sort) → runBelow f (theFreeze v ∷ attempts v) (one v) .replies ≡ attemptAnswers
+  attempts-numbered : (v : Sort) → numbered f (numbersOf f attemptAnswers) (theFreeze v ∷ attempts v) (one v) ≡ true
   unfolding tests effects computing
+  attempts-numbered ofFour = refl
+  attempts-numbered ofSixteen = refl
+
+  attempted : (v : Sort) → ranBy f (numbersOf f attemptAnswers) (theFreeze v ∷ attempts v) (one v) .replies ≡ attemptAnswers
+  unfolding effects computing
   attempted ofFour = refl
   attempted ofSixteen = refl
 
@@ -134,8 +155,7 @@ module _ (f : Name → List ℕ → ℕ → List ℕ) where
   frozen-met v =
       record {
         done = frozen-done v;
-        replies =
-            ap (λ (r : Ran). r .replies) (run-below f (theFreeze v ∷ attempts v) (one v) (sound-here v 17 34 7)) ∙ attempted v;
+        replies = replied attemptAnswers (theFreeze v ∷ attempts v) v (attempts-numbered v) (attempted v);
       }
 
   fixed : (v : Sort) → Fixed 0 2 (top v) 0 4 (one v) (run f (theFreeze v ∷ attempts v) (one v) .copy)

@@ -30,7 +30,7 @@ use Rattle.isolation.specs.WidthLists.{Sort, ofFour, ofSixteen, turned, 
 use Rattle.isolation.specs.WidthLists.{before, beforeAnswers, toldPlaces, password, cutMade, cutShown, lastRead}
 use Rattle.isolation.specs.WidthLists.{lastLook, lastJoin, lasts, lastsAnswers, tries, answers}
 use Rattle.isolation.specs.WidthWitness.{WidthsMet, WidthsTold, WidthsBite, WidthTabled}
-use Rattle.isolation.proofs.RunLaws.{stepBelow, runBelow, run-below, then-below, append-below, someBelow, isKeyed, shut-below}
+use Rattle.isolation.proofs.RunLaws.{stepBelow, runBelow, run-below, numbersOf, ranBy, numbered, ran-by, then-below, append-below, someBelow, isKeyed, shut-below}
 use Rattle.isolation.proofs.RunLaws.{lookedBelow, placesBelow, places-below, append-places}
 use Rattle.isolation.proofs.TwoCopies.{two-copies}
 use Rattle.isolation.proofs.HoldingLaws.{alike-holding, still-holding}
@@ -60,11 +60,22 @@ width-tabled =
 module _ (f : Name → List ℕ → ℕ → List ℕ) where
   -- ---- the calls before the last
 
-  abbrev left : Sort → Copy
-  left v = runBelow f (before v) (one v) .copy
+  abbrev ran : Sort → Ran
+  ran v = ranBy f (numbersOf f (beforeAnswers f v)) (before v) (one v)
 
-  replies-before : (v : Sort) → runBelow f (before v) (one v) .replies ≡ beforeAnswers f v
+  abbrev left : Sort → Copy
+  left v = ran v .copy
+
+  numbers-before : (v : Sort) → numbered f (numbersOf f (beforeAnswers f v)) (before v) (one v) ≡ true
   unfolding tests effects computing
+  numbers-before ofFour = refl
+  numbers-before ofSixteen = refl
+
+  ran-before : (v : Sort) → runBelow f (before v) (one v) ≡ ran v
+  ran-before v = ran-by f (numbersOf f (beforeAnswers f v)) (before v) (one v) (numbers-before v)
+
+  replies-before : (v : Sort) → ran v .replies ≡ beforeAnswers f v
+  unfolding effects computing
   replies-before ofFour = refl
   replies-before ofSixteen = refl
 
@@ -79,7 +90,7 @@ module _ (f : Name → List ℕ → ℕ → List ℕ) where
       putRecord (one v .store) 3 (withPlace (started (width (turned v)) (sixteen 3) (sixteen 4)) (top (turned v)) (Present 4 2))
 
   records-before : (v : Sort) → left v .store ≡ records v
-  unfolding tests effects computing
+  unfolding effects computing
   records-before ofFour = refl
   records-before ofSixteen = refl
 
@@ -133,18 +144,18 @@ module _ (f : Name → List ℕ → ℕ → List ℕ) where
 
   outcome-read : (v : Sort) → outcome f 0 (lastRead f v) (left v)
       ≡ record { copy = left v; reply = told 0 none none 0 2 (5 ∷ 6 ∷ 3 ∷ []) }
-  unfolding tests effects computing tabulate
+  unfolding effects computing tabulate
   outcome-read ofFour = refl
   outcome-read ofSixteen = refl
 
   outcome-look : (v : Sort) → outcome f 0 (lastLook f v) (left v) ≡ record { copy = left v; reply = shows 0 (5 ∷ 6 ∷ []) }
-  unfolding tests effects computing tabulate
+  unfolding effects computing tabulate
   outcome-look ofFour = refl
   outcome-look ofSixteen = refl
 
   outcome-join : (v : Sort) → outcome f 0 (lastJoin f v) (left v)
       ≡ record { copy = left v; reply = told 0 (cutMade f (both (turned v))) none 0 0 [] }
-  unfolding tests effects computing tabulate
+  unfolding effects computing tabulate
   outcome-join ofFour = refl
   outcome-join ofSixteen = refl
 
@@ -164,6 +175,13 @@ module _ (f : Name → List ℕ → ℕ → List ℕ) where
   ended v =
       run-below f (tries f v) (one v) (sound-here v 17 34 7)
       ∙ append-below f (before v) (lasts f v) (one v)
+      ∙ ap
+      (λ (n : Ran).
+      record {
+        replies = n .replies ++ runBelow f (lasts f v) (n .copy) .replies;
+        copy = runBelow f (lasts f v) (n .copy) .copy;
+      })
+      (ran-before v)
       ∙ (λ j. record { replies = replies-before v j ++ ended-after v j .replies; copy = ended-after v j .copy })
 
   -- ---- the places that the looks tell
@@ -183,6 +201,7 @@ module _ (f : Name → List ℕ → ℕ → List ℕ) where
   placed v =
       places-below f (tries f v) (one v) (sound-here v 17 34 7)
       ∙ append-places f (before v) (lasts f v) (one v)
+      ∙ ap (λ (n : Ran). placesBelow f (before v) (one v) ++ placesBelow f (lasts f v) (n .copy)) (ran-before v)
       ∙ ap (λ (o : Outcome). placesBelow f (before v) (one v) ++ (lookedBelow f (lastLook f v) (o .copy) ∷ [])) (step-read v)
       ∙ (λ j. places-before v j ++ (place-look v j ∷ []))
 

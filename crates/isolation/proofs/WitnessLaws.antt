@@ -32,7 +32,7 @@ use Rattle.isolation.specs.Witness.{one, two, weakGiven, weakShown, befo
 use Rattle.isolation.specs.Witness.{answersBefore, answersAfter, answers, holding, toldPlaces, Witnessed, Concluded}
 use Rattle.isolation.specs.Witness.{rightRead, rightLook, rightJoin, Bites}
 use Rattle.calls.proofs.StepLaws.{numberBelow, number-below}
-use Rattle.isolation.proofs.RunLaws.{stepBelow, step-below, runBelow, run-below, then-below, append-below, someBelow, isKeyed, shut-below}
+use Rattle.isolation.proofs.RunLaws.{stepBelow, step-below, runBelow, run-below, numbersOf, ranBy, numbered, ran-by, then-below, append-below, someBelow, isKeyed, shut-below}
 use Rattle.isolation.proofs.RunLaws.{lookedBelow, placesBelow, places-below, append-places}
 use Rattle.calls.specs.Numbers.{valid, violated, tests, otherTests}
 use Rattle.calls.proofs.Computing.{computing}
@@ -68,11 +68,21 @@ abbrev other : Name
 other = record { node = 3; local = 2 }
 
 module _ (f : Name → List ℕ → ℕ → List ℕ) where
-  abbrev left : Copy
-  left = runBelow f (before f) one .copy
+  abbrev ran : Ran
+  ran = ranBy f (numbersOf f (answersBefore f)) (before f) one
 
-  replies-before : runBelow f (before f) one .replies ≡ answersBefore f
+  abbrev left : Copy
+  left = ran .copy
+
+  numbers-before : numbered f (numbersOf f (answersBefore f)) (before f) one ≡ true
   unfolding tests effects computing
+  numbers-before = refl
+
+  ran-before : runBelow f (before f) one ≡ ran
+  ran-before = ran-by f (numbersOf f (answersBefore f)) (before f) one numbers-before
+
+  replies-before : ran .replies ≡ answersBefore f
+  unfolding effects computing
   replies-before = refl
 
   -- the records before the last calls: the other node's cluster has its segment, and the one that is frozen stays
@@ -82,7 +92,7 @@ module _ (f : Name → List ℕ → ℕ → List ℕ) where
       (withPlace (started 8 (sixteen 3) (sixteen 4)) 7 (Present 0 2))
 
   records-before : left .store ≡ records
-  unfolding tests effects computing
+  unfolding effects computing
   records-before = refl
 
   -- ---- the calls with weakened handles, whose passwords are what the chain gives, byte by byte
@@ -141,6 +151,13 @@ module _ (f : Name → List ℕ → ℕ → List ℕ) where
   ended =
       run-below f (tries f) one sound-one
       ∙ append-below f (before f) (last f ∷ lastLook f ∷ lastJoin f ∷ []) one
+      ∙ ap
+      (λ (n : Ran).
+      record {
+        replies = n .replies ++ runBelow f (last f ∷ lastLook f ∷ lastJoin f ∷ []) (n .copy) .replies;
+        copy = runBelow f (last f ∷ lastLook f ∷ lastJoin f ∷ []) (n .copy) .copy;
+      })
+      ran-before
       ∙ (λ j. record { replies = replies-before j ++ ended-after j .replies; copy = ended-after j .copy })
 
   -- the places that the looks tell
@@ -159,6 +176,9 @@ module _ (f : Name → List ℕ → ℕ → List ℕ) where
   placed =
       places-below f (tries f) one sound-one
       ∙ append-places f (before f) (last f ∷ lastLook f ∷ lastJoin f ∷ []) one
+      ∙ ap
+      (λ (n : Ran). placesBelow f (before f) one ++ placesBelow f (last f ∷ lastLook f ∷ lastJoin f ∷ []) (n .copy))
+      ran-before
       ∙ ap (λ (o : Outcome). placesBelow f (before f) one ++ (lookedBelow f (lastLook f) (o .copy) ∷ [])) step-last
       ∙ (λ j. places-before j ++ (place-look j ∷ []))
 
