@@ -16,7 +16,7 @@ use Rattle.isolation.specs.WriterWitness.{WritersList, WritersUntold, Wr
 use Rattle.isolation.specs.Frozen.{FrozenStays, FixedFromThenOn}
 use Rattle.isolation.specs.FrozenWitness.{Standing}
 use Rattle.isolation.specs.WidthLists.{Sort}
-use Rattle.isolation.specs.WidthWitness.{WidthsTold, WidthsBite, WritesTold, ReadsTold, FrozenTold}
+use Rattle.isolation.specs.WidthWitness.{WidthsTold, WidthsBite, WritesTold, Strays, ReadsTold, FrozenTold}
 use Rattle.isolation.specs.Renewals.{OtherUntold, GuessesUntold, BothOpened, Revoked}
 use Rattle.isolation.specs.Checks.{ValidationJudges}
 use Rattle.isolation.proofs.KeptLaws.{sound-kept}
@@ -32,7 +32,7 @@ use Rattle.isolation.proofs.LeakLaws.{rests-on-clearing, rests-on-twelv
 use Rattle.isolation.proofs.FrozenLaws.{frozen-stays, fixed-from-then-on}
 use Rattle.isolation.proofs.FrozenWitnessLaws.{standing}
 use Rattle.isolation.proofs.WidthWitnessLaws.{widths-told, widths-bite}
-use Rattle.isolation.proofs.WidthHolderLaws.{writes-told, reads-told, frozen-told}
+use Rattle.isolation.proofs.WidthHolderLaws.{writes-told, strays-free, reads-told, frozen-told}
 use Rattle.isolation.proofs.RenewalLaws.{other-untold, guesses-untold}
 use Rattle.isolation.proofs.RenewedLaws.{revoked, both-opened}
 
@@ -119,6 +119,9 @@ aes-widths-bite = widths-bite product
 
 pub aes-writes-told : (v : Sort) → WritesTold product v
 aes-writes-told = writes-told product
+
+pub aes-strays-free : Strays product
+aes-strays-free = strays-free product
 
 pub aes-reads-told : (v : Sort) → ReadsTold product v
 aes-reads-told = reads-told product

@@ -10,7 +10,7 @@ use lib.ListN.{getD}
 use Rattle.sizes.specs.Sizes.{memory}
 use Rattle.handle.specs.Handles.{Name}
 use Rattle.store.specs.Records.{Table, placeOf, writeMode}
-use Rattle.calls.specs.Calls.{Copy, Call}
+use Rattle.calls.specs.Calls.{Copy, start, Call}
 use Rattle.calls.specs.Numbers.{tests}
 use Rattle.calls.specs.Steps.{Reply, Ran, effects, step, run}
 use Rattle.calls.proofs.Computing.{computing}
@@ -20,8 +20,9 @@ use Rattle.isolation.specs.Frozen.{Fixed}
 use Rattle.isolation.specs.Writers.{Spies, NoReader, Untold}
 use Rattle.isolation.specs.WidthLists.{Sort, ofFour, ofSixteen, width, top, one, mate}
 use Rattle.isolation.specs.WidthHolders.{writes, writesAnswers, writesPlaces, reads, readsAnswers, theFreeze, attempts}
-use Rattle.isolation.specs.WidthHolders.{attemptAnswers}
-use Rattle.isolation.specs.WidthWitness.{WritesMet, WritesTold, ReadsMet, ReadsTold, FrozenMet, FrozenTold}
+use Rattle.isolation.specs.WidthHolders.{attemptAnswers, strays, strayAnswers}
+use Rattle.isolation.specs.WidthWitness.{WritesMet, WritesTold, Strays, ReadsMet, ReadsTold, FrozenMet, FrozenTold}
+use Rattle.isolation.proofs.KeptLaws.{start-sound}
 use Rattle.isolation.proofs.RunLaws.{numbersOf, ranBy, numbered, run-by, placesBelow, places-below, someBelow, along-below, unwritten-below}
 use Rattle.isolation.proofs.ReaderLaws.{readers-alter-nothing}
 use Rattle.isolation.proofs.FrozenLaws.{fixed-from-then-on}
@@ -93,6 +94,23 @@ module _ (f : Name → List ℕ → ℕ → List ℕ) where
         places = sym (u .places) ∙ m .places;
         table = u .same .table;
         write = u .same .write;
+      }
+
+  unspied-strays : someBelow f (spying 0 0 f) strays start ≡ false
+  unfolding keyed tests effects computing
+  unspied-strays = refl
+
+  strays-numbered : numbered f (numbersOf f strayAnswers) strays start ≡ true
+  unfolding tests effects computing
+  strays-numbered = refl
+
+  pub strays-free : Strays f
+  strays-free =
+      record {
+        no-reader =
+            along-below f (spying 0 0 f) (λ x s. ¬ Spies 0 0 f x s) (unspied 0 0 f) strays start start-sound unspied-strays;
+        replies =
+            ap (λ (r : Ran). r .replies) (run-by f (numbersOf f strayAnswers) strays start start-sound strays-numbered);
       }
 
   -- ---- readers

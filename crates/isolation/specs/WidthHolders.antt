@@ -5,6 +5,7 @@
 --                           one at the width; what the cluster frees in another's hands; the cluster deleted, and made anew
 --                           with the other width and the same read password, to which the old handles are strange
 --     writesPlaces          what the looks tell
+--     strays, strayAnswers  a read, a look and a validation with bytes that hold no handle
 --     reads, readsAnswers   with the read handle: what reads is done, and what writes refused; with the write password in handles
 --                           of another width, refused with 25, in a join as the first and as the second
 --     theFreeze             a freeze of the highest segment
@@ -12,6 +13,7 @@
 --                           answered to the freeze and to these
 -- Assumes nothing.
 use mathlib.Core.List.{List, [], _∷_}
+use lib.ListN.{replicate}
 use Rattle.calls.specs.declared.Looked.{Looked}
 use Rattle.calls.specs.Calls.{Call, makingCluster, deletingCluster, makingSegment, deletingSegment, reading}
 use Rattle.calls.specs.Calls.{writing, weakeningBy, reducing, renewing, freezing, joining, validating, looking}
@@ -82,6 +84,12 @@ writesAnswers v =
 
 abbrev pub writesPlaces : List Looked
 writesPlaces = telling 25 0 0 ∷ telling 0 0 4 ∷ []
+
+abbrev pub strays : List Call
+strays = reading 0 [] (8 ∷ []) ∷ looking 0 0 (replicate 22 0) ∷ validating 1 (replicate 28 0) ∷ []
+
+abbrev pub strayAnswers : List Reply
+strayAnswers = told 25 none none 0 0 (8 ∷ []) ∷ shows 25 [] ∷ told 25 none none 0 0 [] ∷ []
 
 -- ---- readers
 

@@ -10,6 +10,8 @@
 --                        handle of 23 bytes and one of the other sort are not
 --     WritesMet, WritesTold    the same of §7, the copies `one` and `mate` and the list `writes`: in the end the cluster's table and
 --                        write password are equal
+--     Strays             bytes that hold no handle name node 0 and local number 0, as zeros do; where that cluster is inactive no call
+--                        with such bytes spies on it, and the starting copy refuses them with 25
 --     ReadsMet           no call of the list `reads` presents a handle of the cluster that validates for writing, and the answers
 --                        are computed
 --     ReadsTold          what the theorem says of it: the cluster has its width, place, write password and bytes still
@@ -27,7 +29,7 @@ use Rattle.sizes.specs.Sizes.{memory}
 use Rattle.handle.specs.Handles.{Name}
 use Rattle.store.specs.declared.Place.the-variants.{Present}
 use Rattle.store.specs.Records.{clusterAt, tableAt, readMode}
-use Rattle.calls.specs.Calls.{Copy, Call, reading}
+use Rattle.calls.specs.Calls.{Copy, start, Call, reading}
 use Rattle.calls.specs.Numbers.{number}
 use Rattle.calls.specs.Steps.{step, run}
 use Rattle.calls.specs.Literals.{sixteen, primary}
@@ -38,7 +40,7 @@ use Rattle.isolation.specs.Frozen.{placeAt, frozenAt}
 use Rattle.isolation.specs.WidthLists.{Sort, width, top, own, other, Cut, one, two, mate, toldPlaces, cutMade, cutShown}
 use Rattle.isolation.specs.WidthLists.{tries, answers}
 use Rattle.isolation.specs.WidthHolders.{writes, writesAnswers, writesPlaces, reads, readsAnswers, theFreeze, attempts}
-use Rattle.isolation.specs.WidthHolders.{attemptAnswers}
+use Rattle.isolation.specs.WidthHolders.{attemptAnswers, strays, strayAnswers}
 
 abbrev pub rightRead : (ℕ → ℕ → ℕ → List ℕ) → Call
 rightRead handle = reading 3 (handle 0 2 17) (8 ∷ 8 ∷ 8 ∷ 8 ∷ [])
@@ -46,6 +48,10 @@ rightRead handle = reading 3 (handle 0 2 17) (8 ∷ 8 ∷ 8 ∷ 8 ∷ [])
 pub record WidthTabled : Type 0 where
   pub alike : Alike 0 2 (holdingOf 8 3 17 34 7) (holdingOf 16 3 17 34 7) → ⊥
   pub same : SameToWriters 0 2 (holdingOf 4 3 17 34 7) (holdingOf 8 3 17 34 7) → ⊥
+
+pub record Strays (f : Name → List ℕ → ℕ → List ℕ) : Type 0 where
+  pub no-reader : NoReader 0 0 f (step f) strays start
+  pub replies : run f strays start .replies ≡ strayAnswers
 
 module _ (f : Name → List ℕ → ℕ → List ℕ) (v : Sort) where
   -- ---- condition 3
