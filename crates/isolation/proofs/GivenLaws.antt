@@ -4,8 +4,8 @@
 -- Assumes nothing.
 use mathlib.Core.Path.{_≡_, refl, sym, ap, ap₂, _∙_, subst}
 use mathlib.Core.Logic.{inl}
-use Prim.Native.Nat.{ℕ, _<_}
-use mathlib.Core.Bool.{Bool, true, false, _&&_}
+use Prim.Native.Nat.{ℕ}
+use mathlib.Core.Bool.{true, false, _&&_}
 use mathlib.Core.List.{List, []}
 use lib.Dec.{eqb}
 use lib.ListN.{length}
@@ -30,7 +30,7 @@ use Rattle.calls.specs.Numbers.{gappedHandle, spentHandle, joinWhole, valid}
 use Rattle.calls.specs.Steps.{left, given}
 use Rattle.calls.specs.Literals.{none, told}
 use Rattle.isolation.specs.Copies.{SixteenBytes}
-use Rattle.isolation.specs.Effects.{opened, BytesAlone, Reduced, ReducedOpens, Joined, JoinedOpens, Weakened, WeakenedOpens}
+use Rattle.isolation.specs.Effects.{opened, Reduced, ReducedOpens, Joined, JoinedOpens, Weakened, WeakenedOpens}
 use Rattle.calls.proofs.CallLaws.{or-left}
 use Rattle.calls.proofs.DoneLaws.{NoRow, no-row, each-known, done-even, done-valid}
 use Rattle.calls.proofs.StepLaws.{step-done}
