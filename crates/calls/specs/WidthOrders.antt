@@ -3,8 +3,8 @@
 -- its second place: in its first it would be given.
 --     over u l x           a call to which two rows apply, the upper and the lower
 --     applies size n x     a row with the number n applies to the call, with a slice of that many bytes
---     first                25 in its first place over every number that can meet it
---     second               the numbers above 25 in its second place over it, and it over those below
+--     first                25 in its first place over 2, 3, 4, 24, 5, 8, 9 and 21
+--     second               the numbers above 25 in its second place over it, and it over those below it but 22
 --     widths               1, 2 and 3 of call 1 by its width, and 3 over 6 and 7
 --     damaged              with a slice that lacks a byte: 25 over 1, and 1 over all else
 --     numbersOf, Meet      the numbers that the calls get; the lower rows apply too

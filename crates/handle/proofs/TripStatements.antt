@@ -17,7 +17,6 @@ use Rattle.handle.specs.Widths.{bitsOf, widthFor, packed, unpacked}
 use Rattle.handle.specs.Selectors.{Within}
 use Rattle.handle.specs.Handles.{widthOf, before, encodedAs, encoded, heldWith, decodedAs, decoded, noHandle, Holdable}
 use Rattle.handle.specs.Trips.{OfWidth, RoundTrips, AsBefore}
-use Rattle.handle.proofs.SelectorLaws.{full-flat}
 use Rattle.handle.proofs.CodecLaws.{listed, part-is, word-one, decoded-none}
 use Rattle.handle.proofs.TripLaws.{decode-encode, encode-decode, bytes-laid, encoded-none}
 use Rattle.handle.proofs.HeldLaws.{conversion-byte}
@@ -83,6 +82,6 @@ as-before =
       read = λ b o. eight-read b (o .long);
       wrote = eight-written;
       width = λ b o. ap widthOf (eight-read b (o .long));
-      flat = full-flat 8;
+      flat = λ s. refl;
       converted = conversion-byte;
     }

@@ -7,14 +7,15 @@
 --                        none: no handle has no bytes
 --                        reply: bytes laid out in a reply with their length are there, as many as it tells
 --     AsBefore           of 23 bytes: the handle read is node, local number, password and the last four bytes as they stand; a
---                        handle of width 8 is written so; flat is 255; and a parameter below 256 is the last of sixteen
---                        bytes, after fifteen zeros
+--                        handle of width 8 is written so; flat is 255 and nothing else; and a parameter below 256 is the
+--                        last of sixteen bytes, after fifteen zeros
 -- Assumes nothing.
 use Prim.Native.Nat.{ℕ, _<_}
 use mathlib.Core.Path.{_≡_}
 use mathlib.Core.Logic.{_⊎_}
 use mathlib.Core.Bool.{true}
 use mathlib.Core.List.{List, [], _∷_, _++_}
+use lib.Dec.{eqb}
 use lib.ListN.{length, getD, take, drop, replicate}
 use Rattle.bits.specs.Bytes.{bytes, word, Bytes}
 use Rattle.aes.specs.Cipher.{cipher}
@@ -45,5 +46,5 @@ pub record AsBefore : Type 0 where
   pub wrote : (h : Handle) → Holdable h → h .width ≡ Eight
       → encoded h ≡ bytes 2 (h .node) ++ (h .local ∷ []) ++ h .password ++ h .selector
   pub width : (b : List ℕ) → Bytes 23 b → widthOf (decoded b) ≡ 8
-  pub flat : flat 8 255 ≡ true
+  pub flat : (s : ℕ) → flat 8 s ≡ eqb s 255
   pub converted : (p : List ℕ) (c : ℕ) → c < 256 → conversion p c ≡ cipher p (replicate 15 0 ++ (c ∷ []))
