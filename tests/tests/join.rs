@@ -66,7 +66,7 @@ fn what_either_references_whichever_comes_first() {
         let handle = |at: usize, kind: usize| {
             // Of the greatest width, few have many segments.
             let set = match width {
-                Width::Sixteen => (at as u16 * 65) ^ (at as u16 >> 3),
+                Width::Sixteen => (at as u16).wrapping_mul(65) ^ (at as u16 >> 3),
                 _ => at as u16,
             };
             let selectors = selectors_of(width, set);

@@ -12,7 +12,7 @@ use model::table::{refusal, Found};
 use model::widths::Sight;
 use std::collections::BTreeSet;
 
-const STORES: usize = 4_000;
+const STORES: usize = 1_000;
 const JOINS: usize = 40;
 
 /// Two thirds of the clusters are active, some with equal passwords; one segment each.
