@@ -1,10 +1,8 @@
 //! Lengths, asked of the library itself: every one that no handle has, in every call and beside every kind of damage, and
 //! handles as they are given. What is expected is told without the model.
 
-#[path = "../../tests/support/mod.rs"]
-mod support;
-mod wide;
-
+use crate::support::every::{every, Rest};
+use crate::wide::{held, local, primary, refused, REST, WRITE};
 use library::chance::damage::{inflict, Damage, LAST_PLACE};
 use library::chance::handles::at_width;
 use library::guard::given::Given;
@@ -12,8 +10,6 @@ use library::question::WRITE_MODE;
 use model::call::Call;
 use model::handle::{Handle, Width};
 use model::random::Random;
-use support::every::{every, Rest};
-use wide::{held, local, primary, refused, REST, WRITE};
 
 /// Every length from 0 to 64 that no handle has, in every call and for either handle of a join: 25 on a sound store and
 /// beside every kind of damage.

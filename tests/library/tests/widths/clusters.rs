@@ -2,21 +2,16 @@
 //! segments and masks by the handle's width, the width in a record, and batches of one width. What is expected is told
 //! without the model.
 
-#[path = "../../tests/support/mod.rs"]
-mod support;
-mod wide;
-
+use crate::support::every::every;
+use crate::wide::{asked, held, local, primary, refused, READ, REST, THERE, WRITE};
 use library::chance::handles::at_width;
 use library::image::{record_at, segment_at, WIDTH_AT};
-use library::question::Held;
-use library::question::READ_MODE;
+use library::question::{Held, READ_MODE};
 use library::{batch, copies, edges, guard, writers};
 use model::call::{Call, Reply};
 use model::handle::{Handle, HandleBytes, Width};
 use model::hexadecimal;
 use model::sizes::MEMORY_BYTES;
-use support::every::every;
-use wide::{asked, held, local, primary, refused, READ, REST, THERE, WRITE};
 
 fn given(held: &Held, call: Call) -> HandleBytes {
     let (reply, _) = asked(held, &call);
@@ -118,7 +113,7 @@ fn every_call_at_every_width() {
         for call in right(width, &reader, &writer) {
             assert_eq!(asked(&before, &call).0.number, 0, "{call:?}");
         }
-        for other in support::others(width) {
+        for other in crate::support::others(width) {
             let [reader, writer] = [reader, writer].map(|handle| at_width(&handle, other));
             for call in right(Width::Four, &reader, &writer) {
                 match call {
