@@ -72,29 +72,20 @@ fn with(held: &Held, (node, local): (usize, usize), mode: Mode, password: &Passw
 
 /// In which modes a handle validates, and whether it reads and writes there; nothing else changes.
 fn opens(held: &Held, handle: Handle) -> [bool; 2] {
-    let handle = || handle.to_bytes();
+    let bytes = handle.to_bytes();
     let validates = [READ_MODE, WRITE_MODE].map(|mode| {
-        let mut after = held.clone();
-        let validate = Call::Validate {
-            mode,
-            handle: handle(),
-        };
+        let (mut after, handle) = (held.clone(), bytes.clone());
+        let validate = Call::Validate { mode, handle };
         let number = asked(&mut after, validate, &[]).reply.number;
         assert!(after == *held && (number == 0 || number == 9));
         number == 0
     });
     let mut after = held.clone();
     let (segment, data) = (SEGMENT, *b"milk");
-    let write = Call::Write {
-        segment,
-        handle: handle(),
-    };
-    let read = Call::Read {
-        segment,
-        handle: handle(),
-    };
-    let written = asked(&mut after, write, &data).reply;
-    let read = asked(&mut after, read, &[0; 4]);
+    let handle = bytes.clone();
+    let written = asked(&mut after, Call::Write { segment, handle }, &data).reply;
+    let handle = bytes;
+    let read = asked(&mut after, Call::Read { segment, handle }, &[0; 4]);
     let expected = match validates[1] {
         true => data,
         false => [0x77; 4],
@@ -135,10 +126,8 @@ fn family(held: &Held, mode: Mode, primary: Handle) -> Vec<Handle> {
     vec![primary, once, twice, reduced, joined]
 }
 
-/// Each of them with each width.
-fn each_width<T: Copy>(all: impl Iterator<Item = T>) -> Vec<(Width, T)> {
+fn each_width<T: Copy>(all: impl Iterator<Item = T>) -> impl Iterator<Item = (Width, T)> {
     all.flat_map(|one| Width::ALL.map(|width| (width, one)))
-        .collect()
 }
 
 /// The mode's own password with every bit changed by itself, the other mode's likewise, and sixteen equal bytes.
@@ -211,9 +200,8 @@ fn call_1_still_refuses_twins() {
 }
 
 fn refuses_twins(width: Width) {
-    let [read, _] = PASSWORDS;
+    let ([read, _], (node, local)) = (PASSWORDS, PLACE);
     let mut held = held(width, [read; 2]);
-    let (node, local) = PLACE;
     let new_cluster = |local: usize, write| Call::NewCluster {
         node: node as u32,
         local: local as u32,

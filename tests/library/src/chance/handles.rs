@@ -145,13 +145,23 @@ fn weakened(random: &mut Random, mut handle: Handle) -> Handle {
         return Handle::converted(node, local, &primary, to_nothing(random, width));
     }
     for _ in 0..below(random, SUBSELECTORS + 1) {
-        let mask = match random.below(4) {
-            0 => bits(random, width) | bits(random, width),
+        let mask = match random.below(16) {
+            0..=3 => bits(random, width) | bits(random, width),
+            4 => half(random, width),
             _ => !bit(random, width),
         };
         handle = handle.weaken(mask).unwrap_or(handle);
     }
     handle
+}
+
+/// The lower half of the segments, which are all of a smaller width, or the upper one.
+fn half(random: &mut Random, width: Width) -> u16 {
+    let lower = width.flat() >> (width.segments() / 2);
+    match random.one_in(2) {
+        true => lower,
+        false => width.flat() - lower,
+    }
 }
 
 /// The handle with one thing changed, or another one.

@@ -5,6 +5,7 @@ pub mod damage;
 mod faults;
 pub mod handles;
 mod joins;
+mod made;
 pub mod questions;
 pub mod stores;
 pub mod words;

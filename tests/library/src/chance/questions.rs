@@ -2,12 +2,12 @@
 
 use super::handles::{self, Wish};
 use super::stores::gaps;
-use super::{below, bit, bits, bytes, near, password, width};
+use super::{below, bytes, near, password};
 use crate::question::{Question, BEYOND, LOOK, READ_MODE, VALIDATION, WRITE_MODE};
 use model::call::{self, Call};
 use model::handle::{Handle, HandleBytes, Password};
 use model::random::Random;
-use model::sizes::{CLUSTERS, NODES, NODE_BYTES, SEGMENTS};
+use model::sizes::{NODES, NODE_BYTES, SEGMENTS};
 use model::store::{Cluster, Mode, Segment, Store};
 
 /// Codes for single calls: all alike.
@@ -73,7 +73,7 @@ impl Maker<'_> {
     }
 
     /// Mostly `likely`; else a number out of range, or a little above or below `bound`.
-    fn near(&mut self, likely: usize, bound: usize) -> u32 {
+    pub(super) fn near(&mut self, likely: usize, bound: usize) -> u32 {
         let likely = likely as u32;
         match self.random.below(40) {
             0 => BEYOND,
@@ -181,41 +181,6 @@ impl Maker<'_> {
         }
     }
 
-    fn new_cluster(&mut self) -> Call {
-        let inactive = match self.random.one_in(5) {
-            true => None,
-            false => handles::place(self.random, self.store, |cluster| !cluster.active),
-        };
-        let any = (below(self.random, NODES), below(self.random, CLUSTERS));
-        let (node, local) = inactive.unwrap_or(any);
-        let read = password(self.random);
-        let write = match self.random.one_in(6) {
-            true => read,
-            false => password(self.random),
-        };
-        Call::NewCluster {
-            node: self.near(node, NODES),
-            local: self.near(local, CLUSTERS),
-            width: self.width(),
-            read,
-            write,
-        }
-    }
-
-    /// Mostly one of the three; else a number about them, or one that is right in its lowest bytes alone.
-    fn width(&mut self) -> usize {
-        let right = width(self.random).segments();
-        match self.random.below(32) {
-            0..=2 => below(self.random, SEGMENTS + 5),
-            3 => right + (1 << 8),
-            4 => right + (1 << 16),
-            5 => right + (1 << (32 + self.random.below(32))),
-            6 => usize::MAX,
-            7 => self.random.byte().into(),
-            _ => right,
-        }
-    }
-
     fn delete_cluster(&mut self) -> Call {
         let segments = self.random.one_in(2);
         let handle = self.handle(Mode::Write, true, segments);
@@ -261,33 +226,6 @@ impl Maker<'_> {
         let present = !self.random.one_in(8);
         Call::Write {
             segment: self.segment(&handle, present),
-            handle: self.presented(&handle),
-        }
-    }
-
-    fn weaken(&mut self) -> Call {
-        let (mode, _) = self.mode();
-        let handle = self.handle(mode, false, true);
-        let (width, referenced) = (handle.width(), handle.selector.referenced());
-        let random = &mut *self.random;
-        let mask = match random.below(8) {
-            0 => width.flat(),
-            1 => 0,
-            2 => !bit(random, width),
-            3 => bit(random, width),
-            4 => referenced,
-            // Keeps nothing that the handle references.
-            5 => bits(random, width) & !referenced,
-            _ => bits(random, width),
-        };
-        // Bits at or above the width: none, all, or any.
-        let above = match random.below(4) {
-            0 => 0,
-            1 => u16::MAX,
-            _ => random.number() as u16,
-        };
-        Call::Weaken {
-            mask: mask & width.flat() | above & !width.flat(),
             handle: self.presented(&handle),
         }
     }

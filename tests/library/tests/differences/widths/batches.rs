@@ -42,7 +42,7 @@ macro_rules! taken {
                 |held, mode, width, handles, numbers| {
                     taking(held, (mode, width), handles, numbers, $taken)
                 },
-                "",
+                "numbers",
             );
         }
     };
@@ -105,15 +105,15 @@ fn in_slots(
 fn in_slots_of_another_length() {
     found_out(
         |held, mode, width, handles, numbers| in_slots(held, (mode, width), handles, numbers, 23),
-        "",
+        "numbers",
     );
     found_out(
         |held, mode, width, handles, numbers| in_slots(held, (mode, width), handles, numbers, 27),
-        "",
+        "numbers",
     );
     found_out(
         |held, mode, width, handles, numbers| in_slots(held, (mode, width), handles, numbers, 32),
-        "",
+        "numbers",
     );
 }
 

@@ -8,6 +8,7 @@ mod given;
 mod lengths;
 mod made;
 mod masks;
+mod segments;
 mod selectors;
 
 use crate::seen::{told_twice, Seen};

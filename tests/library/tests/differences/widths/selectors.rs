@@ -74,7 +74,7 @@ fn high_bytes_first(handle: &mut HandleBytes) {
     }
 }
 
-/// Of the last, they are taken and given in the same way, which is its own opposite for all but it.
+/// Each but the last is its own opposite, so that such a library reads back what it writes.
 #[test]
 fn laid_out_in_another_way() {
     let guards: [Guard; 8] = [

@@ -1,82 +1,17 @@
-//! Widths, asked of the library itself: the bytes of a handle of each, every length that no handle has, handles of
-//! another width than their cluster's, the width in a record, and batches of one width. What is expected is told without
-//! the model.
+//! Widths, asked of the library itself: the bytes of a handle of each, handles of another width than their cluster's,
+//! segments and masks by the handle's width, the width in a record, and batches of one width. What is expected is told
+//! without the model.
 
-#[path = "../../tests/support/mod.rs"]
-mod support;
-
-use library::chance::damage::{inflict, Damage, LAST_PLACE};
+use crate::support::every::every;
+use crate::wide::{asked, held, local, primary, refused, READ, REST, THERE, WRITE};
 use library::chance::handles::at_width;
-use library::guard::given::Given;
-use library::image::{encode, record_at, segment_at, WIDTH_AT};
-use library::question::{Held, Question, READ_MODE, WRITE_MODE};
+use library::image::{record_at, segment_at, WIDTH_AT};
+use library::question::{Held, READ_MODE};
 use library::{batch, copies, edges, guard, writers};
 use model::call::{Call, Reply};
-use model::handle::{Handle, HandleBytes, Password, Width};
+use model::handle::{Handle, HandleBytes, Width};
 use model::hexadecimal;
-use model::random::Random;
 use model::sizes::MEMORY_BYTES;
-use model::store::{Cluster, Segment, Store};
-use support::every::{every, Rest};
-
-const READ: Password = [0x11; 16];
-const WRITE: Password = [0x22; 16];
-/// The segments that are there, of clusters at node 1, local numbers 2, 3 and 4, which have widths 4, 8 and 16.
-const THERE: u32 = 2;
-const REST: Rest = Rest {
-    node: 1,
-    segment: THERE,
-    mode: None,
-};
-
-fn local(width: Width) -> usize {
-    2 + width as usize
-}
-
-/// The passwords are the same everywhere.
-fn held() -> Held {
-    let mut store = Store::starting();
-    for (at, width) in Width::ALL.into_iter().enumerate() {
-        let cluster = &mut store.clusters[1][local(width)];
-        *cluster = Cluster {
-            active: true,
-            width: width.number(),
-            read: READ,
-            write: WRITE,
-            ..Cluster::INACTIVE
-        };
-        cluster.segments[THERE as usize] = Segment::present(10 * at as u16, 4);
-    }
-    Held {
-        image: encode(&store),
-        memory: vec![0x77; MEMORY_BYTES],
-    }
-}
-
-fn primary(width: Width, password: Password) -> Handle {
-    Handle::primary(width, 1, local(width) as u8, password)
-}
-
-/// The reply, with what is left; the buffer is as long as a segment.
-fn asked(held: &Held, call: &Call) -> (Reply, Held) {
-    let mut after = held.clone();
-    let question = Question {
-        buffer: vec![0x33; 4],
-        ..Question::of(call.clone())
-    };
-    let answer = guard::ask(&mut after, &question);
-    if !answer.reply.is_done() {
-        assert_eq!(answer.buffer, question.buffer);
-    }
-    (answer.reply, after)
-}
-
-/// Refused with this number, giving nothing and changing nothing.
-fn refused(held: &Held, call: &Call, number: u8) {
-    let (reply, after) = asked(held, call);
-    assert_eq!(reply, Reply::refused(number), "{call:?}");
-    assert!(after == *held, "{call:?} changes something");
-}
 
 fn given(held: &Held, call: Call) -> HandleBytes {
     let (reply, _) = asked(held, &call);
@@ -178,7 +113,7 @@ fn every_call_at_every_width() {
         for call in right(width, &reader, &writer) {
             assert_eq!(asked(&before, &call).0.number, 0, "{call:?}");
         }
-        for other in support::others(width) {
+        for other in crate::support::others(width) {
             let [reader, writer] = [reader, writer].map(|handle| at_width(&handle, other));
             for call in right(Width::Four, &reader, &writer) {
                 match call {
@@ -186,77 +121,6 @@ fn every_call_at_every_width() {
                     _ => refused(&before, &call, 25),
                 }
             }
-        }
-    }
-}
-
-/// Every length from 0 to 64 that no handle has, in every call and for either handle of a join: 25 on a sound store and
-/// beside every kind of damage.
-#[test]
-fn lengths_that_no_handle_has() {
-    let random = &mut Random::from_seed(1);
-    let sound = held();
-    let damaged = Damage::ALL.map(|damage| {
-        let mut damaged = sound.clone();
-        inflict(random, &mut damaged, damage, LAST_PLACE);
-        damaged
-    });
-    let right = primary(Width::Eight, WRITE)
-        .weaken(1)
-        .expect("all are flat");
-    for length in (0..=64).filter(|length| ![21, 23, 27].contains(length)) {
-        let mut wrong = right.to_bytes();
-        wrong.resize(length, 0xff);
-        let right = right.to_bytes();
-        let mode = WRITE_MODE;
-        let second = Call::Join {
-            mode,
-            handle: right.clone(),
-            other: wrong.clone(),
-        };
-        let calls = every(&wrong, &right, REST).into_iter().chain([second]);
-        for (at, call) in calls.enumerate() {
-            refused(&sound, &call, 25);
-            refused(&damaged[(length + at) % damaged.len()], &call, 25);
-        }
-    }
-    for damaged in &damaged {
-        let (wrong, right) = (right.to_bytes()[..22].to_vec(), right.to_bytes());
-        for call in every(&wrong, &right, REST) {
-            refused(damaged, &call, 25);
-        }
-    }
-}
-
-/// 25 comes before everything at its first place, and after 8 and before 9 at its second.
-#[test]
-fn between_its_neighbours() {
-    let held = held();
-    let handle = primary(Width::Eight, WRITE);
-    let nowhere = Handle { node: 4, ..handle };
-    let wrong = nowhere.to_bytes()[..22].to_vec();
-    let rest = Rest {
-        node: 4,
-        segment: 16,
-        mode: Some(0),
-    };
-    for call in every(&wrong, &wrong, rest) {
-        refused(&held, &call, 25);
-    }
-    let inactive = Handle {
-        local: 7,
-        ..at_width(&handle, Width::Four)
-    };
-    let forged = Handle {
-        password: [0x99; 16],
-        local: local(Width::Sixteen) as u8,
-        ..handle
-    };
-    for (handle, number) in [(inactive, 8), (forged, 25)] {
-        let bytes = handle.to_bytes();
-        let calls = every(&bytes, &bytes, REST).into_iter();
-        for call in calls.filter(|call| !matches!(call, Call::Weaken { .. })) {
-            refused(&held, &call, number);
         }
     }
 }
@@ -374,26 +238,6 @@ fn batches_of_one_width() {
             assert_eq!((count, numbers), (0, [0x5a; 8]));
         }
     }
-}
-
-/// What is given is told as it is laid out: what comes after the length has to be zero.
-#[test]
-fn handles_as_they_are_given() {
-    let given = |length, from: usize| {
-        let mut bytes = [0; 27];
-        bytes[..from].fill(7);
-        Given { bytes, length }
-    };
-    for length in [21, 23, 27] {
-        assert_eq!(given(length, length).told(), vec![7; length]);
-    }
-    assert_eq!(given(0, 0).told(), Vec::<u8>::new());
-    for (length, from) in [(0, 1), (21, 22), (23, 27), (28, 27), (usize::MAX, 0)] {
-        let told = given(length, from).told();
-        assert_eq!(told.len(), 35, "{length} {from}");
-        assert_eq!(Handle::from_bytes(&told), None);
-    }
-    assert_eq!(Given::UNWRITTEN.told().len(), 35);
 }
 
 #[test]
