@@ -15,11 +15,11 @@
  *                        are then zero too. Those whose number is not below the width are absent
  *
  *            A record with an active byte above 1, with an absent segment that has a base, or with a mark above 1
- *            encodes no cluster: the image is damaged, and every call that looks at it gets GELMUSZTA_UNSOUND. It
- *            gets the same where the store is not sound, as with an absent segment that is frozen, an active
- *            cluster whose width is none of the three, an inactive one whose width is not 0, or a segment that is
- *            present though its number is not below the width. The starting store's image is all zeros;
- *            gelmuszta_start writes it.
+ *            encodes no cluster: the image is damaged, and every call that looks at it gets GELMUSZTA_UNSOUND, or
+ *            GELMUSZTA_LENGTH where a handle has none of the three lengths. It gets the same where the store is not
+ *            sound, as with an absent segment that is frozen, an active cluster whose width is none of the three, an
+ *            inactive one whose width is not 0, or a segment that is present though its number is not below the width.
+ *            The starting store's image is all zeros; gelmuszta_start writes it.
  *
  *   memory   the four nodes' memories, node 0 first. The store is sound only with a length of exactly
  *            GELMUSZTA_MEMORY (16,384) bytes. In the starting store they are all zero, which is the caller's to do.

@@ -36,7 +36,7 @@ use Rattle.image.specs.Images.{good, storeIn, imageOf}
 use Rattle.gelmuszta.specs.declared.Opened.{Opened}
 use Rattle.gelmuszta.specs.inner.Opened.{Opens}
 use Rattle.gelmuszta.specs.Exported.{nothing, returned, early, exported}
-use Rattle.gelmuszta.specs.Validation.{numberOf, fewer, whole, asMany, numbersOf, Judged}
+use Rattle.gelmuszta.specs.Validation.{numberOf, fewer, whole, asMany, numbersOf, Judged, BatchCases}
 use Rattle.gelmuszta.specs.Validation.{each as perHandle}
 use Rattle.gelmuszta.proofs.ReplyLaws.{validate-silent, silent-known}
 use Rattle.gelmuszta.proofs.ExportLaws.{picked, number-early}
@@ -242,3 +242,8 @@ pub count-is : (width : ℕ) (kind : Width) → kind ≡ widthFrom width → (ea
     → (n : ℕ) → n ≡ fewer a (length ns) → n ≡ asMany (perHandle width) hs ns
 count-is width kind ek each el hs ns a ea n en =
     e each hs ns a ea n en ∙ ap (λ (k : ℕ). asMany k hs ns) (el ∙ ap lengthOf ek)
+
+-- ---- written out
+
+pub batch-cases : BatchCases
+batch-cases = record { widths = refl; three = refl; one = refl }

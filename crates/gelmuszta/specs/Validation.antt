@@ -9,13 +9,15 @@
 --     numbersOf b m mode n hs ns    ns afterwards: the numbers of the handles judged, in their order, and then what was there
 --     Judged sd b mode n hs ..   the numbers before and after, where sd tells whether the image b holds a store that is sound
 --                                with a memory: for each such memory those that the handles get by themselves
+--     BatchCases                 widths and what is judged, written out: of 0, 4, 5, 8, 12, 16, 17, 260 and 65544 only 4, 8 and 16
+--                                have handles; of 45 bytes at widths 4, 8, 16 and 5, with three places, and with one
 -- Assumes nothing.
 use mathlib.Core.Path.{_≡_}
 use Prim.Native.Nat.{ℕ, zero, suc, _/_}
 use mathlib.Core.Bool.{Bool, true, false, _&&_}
-use mathlib.Core.List.{List, _++_}
+use mathlib.Core.List.{List, [], _∷_, _++_, map}
 use lib.Dec.{ltb}
-use lib.ListN.{length, drop}
+use lib.ListN.{length, drop, replicate}
 use Rattle.loops.specs.Tabulate.{tabulate}
 use Rattle.handle.specs.Widths.{lengthOf, widthFrom}
 use Rattle.store.specs.Sound.{sound}
@@ -47,3 +49,8 @@ numbersOf b m mode n hs ns =
 pub record Judged (sd : Bool) (b : List ℕ) (mode n : ℕ) (hs before after : List ℕ) : Type 0 where
   pub each : (m : List ℕ) → sd ≡ (good b && sound (storeIn b) (length m))
       → after ≡ tabulate (length before) (λ i. numberOf b m mode (slot n hs i))
+
+pub record BatchCases : Type 0 where
+  pub widths : map each (0 ∷ 4 ∷ 5 ∷ 8 ∷ 12 ∷ 16 ∷ 17 ∷ 260 ∷ 65544 ∷ []) ≡ 0 ∷ 21 ∷ 0 ∷ 23 ∷ 0 ∷ 27 ∷ 0 ∷ 0 ∷ 0 ∷ []
+  pub three : map (λ w. asMany (each w) (replicate 45 0) (replicate 3 0)) (4 ∷ 8 ∷ 16 ∷ 5 ∷ []) ≡ 2 ∷ 1 ∷ 1 ∷ 0 ∷ []
+  pub one : map (λ w. asMany (each w) (replicate 45 0) (replicate 1 0)) (4 ∷ 8 ∷ 16 ∷ 5 ∷ []) ≡ 1 ∷ 1 ∷ 1 ∷ 0 ∷ []

@@ -2,13 +2,14 @@
 -- joining give of it can be written too, so it reads back.
 -- Assumes nothing.
 use Prim.Native.Nat.{ℕ, suc, _+_, _/_, _%_, _^_, _≤_, _<_}
+use native.Mathlib.Nat.{mod-eq-of-lt}
 use native.Mathlib.Omega.{arith}
-use mathlib.Core.Path.{_≡_, refl, sym, ap, subst}
+use mathlib.Core.Path.{_≡_, refl, sym, ap, _∙_, subst}
 use mathlib.Core.List.{List, [], _∷_, _++_}
 use lib.ListN.{length, getD, drop, replicate, length-drop}
 use lib.Seq.{length-take-le}
 use Rattle.bits.specs.Bytes.{word}
-use Rattle.bits.proofs.ByteLaws.{word-two, bytes-small}
+use Rattle.bits.proofs.ByteLaws.{word-two, bytes-small, bytes-word16}
 use Rattle.bits.proofs.SetLaws.{setOf-lt}
 use Rattle.bits.proofs.OperationLaws.{full-lt}
 use Rattle.aes.specs.Cipher.{cipher}
@@ -154,3 +155,13 @@ module _ (f : List ℕ → ℕ → List ℕ) (sixteen : (q : List ℕ) (c : ℕ)
 pub conversion-byte : (p : List ℕ) (c : ℕ) → c < 256 → conversion p c ≡ cipher p (replicate 15 0 ++ (c ∷ []))
 unfolding conversion
 conversion-byte p c h = ap (cipher p) (bytes-small 15 c h)
+
+pub conversion-word : (p : List ℕ) (c : ℕ) → c < 65536
+    → conversion p c ≡ cipher p (replicate 14 0 ++ (c / 256 ∷ c % 256 ∷ []))
+unfolding conversion
+conversion-word p c h =
+    ap (cipher p)
+    (bytes-word16 14 c h ∙ ap (λ (x : ℕ). replicate 14 0 ++ (x ∷ c % 256 ∷ [])) (mod-eq-of-lt high))
+  where
+    high : c / 256 < 256
+    high = omega arith

@@ -16,10 +16,10 @@ use Rattle.handle.specs.Sizes.{subselectors, selectorAt}
 use Rattle.handle.specs.Widths.{bitsOf, widthFor, packed, unpacked}
 use Rattle.handle.specs.Selectors.{Within}
 use Rattle.handle.specs.Handles.{widthOf, before, encodedAs, encoded, heldWith, decodedAs, decoded, noHandle, Holdable}
-use Rattle.handle.specs.Trips.{OfWidth, RoundTrips, AsBefore}
+use Rattle.handle.specs.Trips.{OfWidth, RoundTrips, AsBefore, WordConverted}
 use Rattle.handle.proofs.CodecLaws.{listed, part-is, word-one, decoded-none}
 use Rattle.handle.proofs.TripLaws.{decode-encode, encode-decode, bytes-laid, encoded-none}
-use Rattle.handle.proofs.HeldLaws.{conversion-byte}
+use Rattle.handle.proofs.HeldLaws.{conversion-byte, conversion-word}
 
 -- ---- the round trips
 
@@ -85,3 +85,8 @@ as-before =
       flat = λ s. refl;
       converted = conversion-byte;
     }
+
+-- ---- at width 16
+
+pub word-converted : WordConverted
+word-converted = conversion-word

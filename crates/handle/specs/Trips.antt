@@ -9,8 +9,9 @@
 --     AsBefore           of 23 bytes: the handle read is node, local number, password and the last four bytes as they stand; a
 --                        handle of width 8 is written so; flat is 255 and nothing else; and a parameter below 256 is the
 --                        last of sixteen bytes, after fifteen zeros
+--     WordConverted      what a parameter of two bytes encrypts, as at width 16: fourteen zeros, its high byte and its low one
 -- Assumes nothing.
-use Prim.Native.Nat.{ℕ, _<_}
+use Prim.Native.Nat.{ℕ, _/_, _%_, _<_}
 use mathlib.Core.Path.{_≡_}
 use mathlib.Core.Logic.{_⊎_}
 use mathlib.Core.Bool.{true}
@@ -48,3 +49,7 @@ pub record AsBefore : Type 0 where
   pub width : (b : List ℕ) → Bytes 23 b → widthOf (decoded b) ≡ 8
   pub flat : (s : ℕ) → flat 8 s ≡ eqb s 255
   pub converted : (p : List ℕ) (c : ℕ) → c < 256 → conversion p c ≡ cipher p (replicate 15 0 ++ (c ∷ []))
+
+abbrev pub WordConverted : Type 0
+WordConverted =
+    (p : List ℕ) (c : ℕ) → c < 65536 → conversion p c ≡ cipher p (replicate 14 0 ++ (c / 256 ∷ c % 256 ∷ []))

@@ -170,8 +170,8 @@ pub fn short(asked: &Asked) -> bool {
 pub fn no_room(asked: &Asked) -> bool {
     match *asked.call {
         Call::NewSegment { node, size, .. } => {
-            let base = asked.found.store.place(node as usize, size as usize);
-            base.is_none()
+            let (node, size) = (node as usize, size as usize);
+            node >= NODES || asked.found.store.place(node, size).is_none()
         }
         _ => false,
     }
