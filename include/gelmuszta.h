@@ -96,7 +96,7 @@
  *
  * Nothing is kept between calls and nothing is allocated. A call judges the whole image where it stands, takes out one record
  * and puts back one where it changes it; the rest of the image is neither copied nor written. It uses less than 2 kilobytes
- * of stack (1,464 bytes at most, measured on x86-64, not proved).
+ * of stack (1,784 bytes at most, measured on x86-64, not proved).
  */
 #ifndef GELMUSZTA_H
 #define GELMUSZTA_H
