@@ -99,14 +99,15 @@ compare: need-rt need-cargo need-cc benchrun lib
 	cargo run --quiet --release --offline --manifest-path tests/library/Cargo.toml --bin against-library $(SEED) $(CALLS)
 
 # make caller          compile and run the caller in C that the README shows, and one that calls every function
+EVERY = $(addprefix examples/c/,every.c freezing.c joining.c widths.c lengths.c)
 .PHONY: caller
 caller: need-rt need-cc need-c++ lib
 	cc -std=c99 -Wall -Wextra -pedantic -Werror -Iinclude examples/c/caller.c $(LIBRARY) -o target/caller
 	target/caller | cmp - examples/c/caller.out
 	sed -n '/^    #include "gelmuszta.h"/,/^    }$$/s/^    //p' README.md | cmp - <(grep . examples/c/caller.c)
-	cc -std=c99 -Wall -Wextra -pedantic -Werror -Iinclude examples/c/every.c $(LIBRARY) -o target/every
+	cc -std=c99 -Wall -Wextra -pedantic -Werror -Iinclude $(EVERY) $(LIBRARY) -o target/every
 	target/every
-	c++ -x c++ -std=c++11 -Wall -Wextra -pedantic -Werror -Iinclude examples/c/every.c -x none $(LIBRARY) -o target/every
+	c++ -x c++ -std=c++11 -Wall -Wextra -pedantic -Werror -Iinclude $(EVERY) -x none $(LIBRARY) -o target/every
 	target/every
 
 # make bench           the measurements of docs/PERFORMANCE.md: the proved code beside Rust

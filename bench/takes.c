@@ -1,12 +1,12 @@
 /* What a call of the library takes beside time: the stack that it touches, copies of 2,000 bytes or more, and whether it
  * reaches bytes of the memory.
  *
- * Each call runs on a stack of its own, which is painted before; afterwards the lowest byte that is not as it was painted tells
- * how far down the call went. memcpy and memmove are this file's, so that those which the library calls are counted. A copy
- * made by a loop of the library's own is not among them, so calls that are done run once more with the memory's pages
- * closed, where a byte read or written is a fault. A function is tried with calls that are done and with one on a damaged
- * image; the most that it took is printed. Where a function reaches the memory otherwise than the header says, or a look
- * copies, its line ends with `wrong` and the program with status 1. */
+ * Each call runs on a stack of its own, which is painted before; afterwards the lowest byte that is not as it was painted
+ * tells how far down the call went. memcpy and memmove are this file's, so that those which the library calls are counted. A
+ * copy made by a loop of the library's own is not among them, so calls that are done run once more with the memory's pages
+ * closed, where a byte read or written is a fault. A function is tried at each width, with calls that are done and with one
+ * on a damaged image; the most that it took is printed. Where a call is not done that should be, a function reaches the
+ * memory otherwise than the header says, or a look copies, its line ends with `wrong` and the program with status 1. */
 #define _XOPEN_SOURCE 700
 #include "gelmuszta.h"
 #include <setjmp.h>
@@ -28,12 +28,20 @@
 
 static uint8_t memory[GELMUSZTA_MEMORY] __attribute__((aligned(NODE_MEMORY)));
 static uint8_t image[GELMUSZTA_IMAGE], typical[GELMUSZTA_IMAGE], large[GELMUSZTA_IMAGE], damaged[GELMUSZTA_IMAGE];
-static uint8_t reader[GELMUSZTA_HANDLE], writer[GELMUSZTA_HANDLE], weak_reader[GELMUSZTA_HANDLE], weak_writer[GELMUSZTA_HANDLE];
-static uint8_t other_reader[GELMUSZTA_HANDLE], given[GELMUSZTA_HANDLE], other[GELMUSZTA_HANDLE], count, numbers[3], number;
-static uint8_t buffer[LENGTH], large_buffer[NODE_MEMORY], three[3 * GELMUSZTA_HANDLE];
+static uint8_t count, numbers[3], number, buffer[LENGTH], large_buffer[NODE_MEMORY], three[3 * GELMUSZTA_HANDLE];
 static const uint8_t first_password[GELMUSZTA_PASSWORD] = {1}, second_password[GELMUSZTA_PASSWORD] = {2};
-static size_t from, length;
-static const size_t node = 2, local = 3, free_local = 6, segment = 1, free_segment = 5, all = sizeof memory;
+static size_t width, from, length;
+static const size_t node = 2, local = 3, free_local = 6, segment = 1, free_segment = 3, all = sizeof memory;
+
+static struct handle {
+    uint8_t bytes[GELMUSZTA_HANDLE];
+    size_t length;
+} reader, writer, weak_reader, weak_writer, other_reader, given, other;
+
+/* The store as calls take it, a handle presented, and where a handle given goes. */
+#define STORE image, memory, all
+#define OF(handle) (handle).bytes, (handle).length
+#define TO(handle) (handle).bytes, &(handle).length
 
 /* ---- copies */
 
@@ -60,52 +68,41 @@ static void start(void) {
 }
 static void sound(void) { number = !gelmuszta_sound(image, all); }
 static void new_cluster(void) {
-    number = gelmuszta_new_cluster(image, memory, all, node, free_local, first_password, second_password, given, other);
+    number = gelmuszta_new_cluster(STORE, node, free_local, width, first_password, second_password, TO(given), TO(other));
 }
-static void delete_cluster(void) { number = gelmuszta_delete_cluster(image, memory, all, node, writer); }
-static void new_segment(void) { number = gelmuszta_new_segment(image, memory, all, node, free_segment, 64, writer); }
-static void delete_segment(void) { number = gelmuszta_delete_segment(image, memory, all, node, segment, writer); }
+static void delete_cluster(void) { number = gelmuszta_delete_cluster(STORE, node, OF(writer)); }
+static void new_segment(void) { number = gelmuszta_new_segment(STORE, node, free_segment, 64, OF(writer)); }
+static void delete_segment(void) { number = gelmuszta_delete_segment(STORE, node, segment, OF(writer)); }
 static void read_primary(void) {
-    number = gelmuszta_read(image, memory, all, segment, reader, buffer, sizeof buffer, &length);
+    number = gelmuszta_read(STORE, segment, OF(reader), buffer, sizeof buffer, &length);
 }
 static void read_weak(void) {
-    number = gelmuszta_read(image, memory, all, segment, weak_reader, buffer, sizeof buffer, &length);
+    number = gelmuszta_read(STORE, segment, OF(weak_reader), buffer, sizeof buffer, &length);
 }
 static void read_large(void) {
-    number = gelmuszta_read(image, memory, all, segment, reader, large_buffer, sizeof large_buffer, &length);
+    number = gelmuszta_read(STORE, segment, OF(reader), large_buffer, sizeof large_buffer, &length);
 }
-static void write_primary(void) {
-    number = gelmuszta_write(image, memory, all, segment, writer, buffer, sizeof buffer);
-}
-static void write_weak(void) {
-    number = gelmuszta_write(image, memory, all, segment, weak_writer, buffer, sizeof buffer);
-}
-static void look_primary(void) {
-    number = gelmuszta_look(image, memory, all, node, segment, reader, &from, &length);
-}
-static void look_weak(void) {
-    number = gelmuszta_look(image, memory, all, node, segment, weak_reader, &from, &length);
-}
-static void weaken(void) { number = gelmuszta_weaken(reader, 0x7f, given, &count); }
-static void reduce(void) {
-    number = gelmuszta_reduce(image, memory, all, GELMUSZTA_MODE_READ, weak_reader, given);
-}
+static void write_primary(void) { number = gelmuszta_write(STORE, segment, OF(writer), buffer, sizeof buffer); }
+static void write_weak(void) { number = gelmuszta_write(STORE, segment, OF(weak_writer), buffer, sizeof buffer); }
+static void look_primary(void) { number = gelmuszta_look(STORE, node, segment, OF(reader), &from, &length); }
+static void look_weak(void) { number = gelmuszta_look(STORE, node, segment, OF(weak_reader), &from, &length); }
+static void weaken(void) { number = gelmuszta_weaken(OF(reader), 0xfffe, TO(given), &count); }
+static void reduce(void) { number = gelmuszta_reduce(STORE, GELMUSZTA_MODE_READ, OF(weak_reader), TO(given)); }
 static void new_password(void) {
-    number = gelmuszta_new_password(image, memory, all, GELMUSZTA_MODE_READ, reader, first_password, given);
+    number = gelmuszta_new_password(STORE, GELMUSZTA_MODE_READ, OF(reader), first_password, TO(given));
 }
-static void freeze(void) { number = gelmuszta_freeze(image, memory, all, node, segment, writer); }
+static void freeze(void) { number = gelmuszta_freeze(STORE, node, segment, OF(writer)); }
 static void join(void) {
-    number = gelmuszta_join(image, memory, all, GELMUSZTA_MODE_READ, weak_reader, other_reader, given);
+    number = gelmuszta_join(STORE, GELMUSZTA_MODE_READ, OF(weak_reader), OF(other_reader), TO(given));
 }
-static void validate(void) {
-    number = gelmuszta_validate(image, memory, all, GELMUSZTA_MODE_READ, weak_reader);
-}
+static void validate(void) { number = gelmuszta_validate(STORE, GELMUSZTA_MODE_READ, OF(weak_reader)); }
 static void validate_all(void) {
-    gelmuszta_validate_all(image, memory, all, GELMUSZTA_MODE_READ, three, sizeof three, numbers, sizeof numbers);
-    number = numbers[0];
+    const size_t bytes = 3 * GELMUSZTA_HANDLE_BYTES(width);
+    gelmuszta_validate_all(STORE, GELMUSZTA_MODE_READ, width, three, bytes, numbers, sizeof numbers);
+    number = numbers[2];
 }
 static void convert(void) {
-    gelmuszta_convert(first_password, 3, given);
+    gelmuszta_convert(first_password, 3, given.bytes);
     number = GELMUSZTA_DONE;
 }
 
@@ -190,12 +187,12 @@ static bool reaches_memory(void (*call)(void), const uint8_t on[GELMUSZTA_IMAGE]
 
 /* ---- the stores: on each node five clusters with two segments of 400 bytes; the same, and one node filled by one segment */
 
-/* Four segments, from `first` on, are taken away one by one. */
-static void weakest(const uint8_t handle[GELMUSZTA_HANDLE], unsigned first, uint8_t weak[GELMUSZTA_HANDLE]) {
-    memcpy(weak, handle, GELMUSZTA_HANDLE);
-    for (unsigned bit = first; bit < first + 4; bit++) {
-        number |= gelmuszta_weaken(weak, (uint8_t)~(1u << bit), given, &count);
-        memcpy(weak, given, GELMUSZTA_HANDLE);
+/* Some segments, from `first` on, are taken away one by one. */
+static void weakest(const struct handle *handle, unsigned first, unsigned cuts, struct handle *weak) {
+    *weak = *handle;
+    for (unsigned bit = first; bit < first + cuts; bit++) {
+        number |= gelmuszta_weaken(OF(*weak), (uint16_t)~(1u << bit), TO(given), &count);
+        *weak = given;
     }
 }
 
@@ -206,59 +203,79 @@ static void make_store(uint8_t made[GELMUSZTA_IMAGE], bool whole) {
         for (size_t l = 0; l < CLUSTERS; l++) {
             uint8_t read[GELMUSZTA_PASSWORD] = {(uint8_t)(3 + 2 * l)}, write[GELMUSZTA_PASSWORD] = {(uint8_t)(4 + 2 * l)};
             bool here = n == node && l == local;
-            number |= gelmuszta_new_cluster(image, memory, all, n, l, read, write, given, other);
+            number |= gelmuszta_new_cluster(STORE, n, l, width, read, write, TO(given), TO(other));
             if (!whole || n != node)
                 for (size_t s = 0; s < SEGMENTS; s++)
-                    number |= gelmuszta_new_segment(image, memory, all, n, s, LENGTH, other);
+                    number |= gelmuszta_new_segment(STORE, n, s, LENGTH, OF(other));
             else if (here)
-                number |= gelmuszta_new_segment(image, memory, all, n, segment, NODE_MEMORY, other);
+                number |= gelmuszta_new_segment(STORE, n, segment, NODE_MEMORY, OF(other));
             if (here) {
-                memcpy(reader, given, sizeof reader);
-                memcpy(writer, other, sizeof writer);
+                reader = given;
+                writer = other;
             }
         }
     memcpy(made, image, sizeof image);
 }
 
+/* Those of four segments keep two, or three; the others are cut as often as can be. */
 static void make_handles(void) {
-    weakest(reader, 4, weak_reader);
-    weakest(reader, 3, other_reader);
-    weakest(writer, 4, weak_writer);
-    for (size_t i = 0; i < 3; i++) memcpy(three + i * GELMUSZTA_HANDLE, weak_reader, GELMUSZTA_HANDLE);
+    const bool four = width == GELMUSZTA_WIDTH_4;
+    const size_t bytes = GELMUSZTA_HANDLE_BYTES(width);
+    weakest(&reader, four ? 2 : 4, four ? 2 : 4, &weak_reader);
+    weakest(&reader, four ? 2 : 3, four ? 1 : 4, &other_reader);
+    weakest(&writer, four ? 2 : 4, four ? 2 : 4, &weak_writer);
+    for (size_t i = 0; i < 3; i++) memcpy(three + i * bytes, weak_reader.bytes, bytes);
 }
 
 /* ---- the table */
 
-/* Prints the line of a function; whether something in it is wrong. */
-static bool row(size_t f) {
+static struct taken {
+    size_t stack, copies;
+    bool reaches, refused;
+} taken[sizeof functions / sizeof *functions];
+
+/* The most that a function took so far, with its calls at this width. */
+static void measure(size_t f, struct taken *most) {
     const uint8_t *const images[] = {functions[f].on, damaged};
-    size_t most = 0, most_copies = 0;
-    bool reaches = false, wrong;
     for (size_t c = 0; c < 2 && functions[f].calls[c]; c++) {
         for (size_t i = 0; i < 2; i++) {
             size_t bytes = touched(functions[f].calls[c], images[i]);
-            if (bytes > most) most = bytes;
-            if (copies > most_copies) most_copies = copies;
-            if (i == 0 && number != GELMUSZTA_DONE) return true;
+            if (bytes > most->stack) most->stack = bytes;
+            if (copies > most->copies) most->copies = copies;
+            if (i == 0) most->refused |= number != GELMUSZTA_DONE;
         }
-        reaches |= reaches_memory(functions[f].calls[c], functions[f].on);
+        most->reaches |= reaches_memory(functions[f].calls[c], functions[f].on);
     }
-    wrong = reaches != functions[f].reaches || (functions[f].calls[0] == look_primary && most_copies > 0);
-    printf("%-20s%14zu%10zu%16s%s\n", functions[f].name, most, most_copies, reaches ? "yes" : "no", wrong ? "  wrong" : "");
+}
+
+/* Prints the line of a function; whether something in it is wrong. */
+static bool row(size_t f, const struct taken *most) {
+    bool copying_look = functions[f].calls[0] == look_primary && most->copies > 0;
+    bool wrong = most->refused || most->reaches != functions[f].reaches || copying_look;
+    printf("%-20s%14zu%10zu%16s%s\n", functions[f].name, most->stack, most->copies, most->reaches ? "yes" : "no",
+           wrong ? "  wrong" : "");
     return wrong;
 }
 
 int main(void) {
+    static const size_t widths[] = {GELMUSZTA_WIDTH_4, GELMUSZTA_WIDTH_8, GELMUSZTA_WIDTH_16};
+    const size_t all_functions = sizeof functions / sizeof *functions;
     struct sigaction action = {0};
     bool wrong = false;
     action.sa_handler = fault;
-    make_store(typical, false);
-    make_store(large, true);
-    make_handles();
-    memcpy(damaged, typical, sizeof damaged);
-    damaged[0] = 2;
-    if (number != GELMUSZTA_DONE || sigaction(SIGSEGV, &action, 0)) return 1;
+    if (sigaction(SIGSEGV, &action, 0)) return 1;
+    for (size_t w = 0; w < 3; w++) {
+        width = widths[w];
+        number = GELMUSZTA_DONE;
+        make_store(typical, false);
+        make_store(large, true);
+        make_handles();
+        memcpy(damaged, typical, sizeof damaged);
+        damaged[0] = 2;
+        if (number != GELMUSZTA_DONE) return 1;
+        for (size_t f = 0; f < all_functions; f++) measure(f, taken + f);
+    }
     printf("%-20s%14s%10s%16s\n", "", "bytes of stack", "copies", "reaches memory");
-    for (size_t f = 0; f < sizeof functions / sizeof *functions; f++) wrong |= row(f);
+    for (size_t f = 0; f < all_functions; f++) wrong |= row(f, taken + f);
     return wrong;
 }

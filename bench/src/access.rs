@@ -1,8 +1,8 @@
 //! The text of crates/refusals, crates/cluster and crates/guard in Rust, as far as reads and looks need it.
 
 use crate::aes::{self, Tables};
-use crate::handle::Handle;
-use crate::store::{self, Cluster, Place, Store, CLUSTERS, NODES, NODE_MEMORY, SEGMENTS};
+use crate::handle::{Handle, LENGTH};
+use crate::store::{self, Cluster, Place, Store, CLUSTERS, NODES, NODE_MEMORY};
 
 const UNSOUND: u8 = 1;
 const NO_SUCH_PLACE: u8 = 2;
@@ -36,6 +36,11 @@ fn first_refusal(
     away: bool,
     mode: usize,
 ) -> u8 {
+    let width = handle.width;
+    let bits = width.bits();
+    if bits == 0 {
+        return LENGTH;
+    }
     if !sound {
         return UNSOUND;
     }
@@ -61,6 +66,9 @@ fn first_refusal(
     if !active {
         return INACTIVE;
     }
+    if cluster.width != bits {
+        return LENGTH;
+    }
     let password = store::primary(cluster, mode);
     if !handle.validates_with(tables, password) {
         return VIOLATED;
@@ -71,13 +79,14 @@ fn first_refusal(
 /// The refusals that reads and looks share, up to 14; `far` and `away` judge a look's current node.
 fn reach(o: &Opened, place: Place, segment: usize, far: bool, away: bool) -> u8 {
     let tables = aes::tables();
+    let width = o.handle.width;
     let number = first_refusal(
         &tables,
         o.sound,
         o.handle,
         o.cluster,
         far,
-        SEGMENTS <= segment,
+        width.bits() as usize <= segment,
         away,
         store::READ_MODE,
     );
@@ -123,7 +132,7 @@ fn copy(to: &mut [u8], from: &[u8]) {
     }
 }
 
-fn look_up(store: Store, size: usize, bytes: [u8; 23]) -> Opened {
+fn look_up(store: Store, size: usize, bytes: &[u8]) -> Opened {
     let handle = Handle::decode(bytes);
     let at = store::record_at(handle.node(), handle.local as usize);
     let cluster = store.clusters[at];
@@ -136,13 +145,7 @@ fn look_up(store: Store, size: usize, bytes: [u8; 23]) -> Opened {
 }
 
 /// Of a read's answer the length alone, which is what the boundary has: 0 where it is refused.
-pub fn read(
-    store: Store,
-    memory: &[u8],
-    buffer: &mut [u8],
-    segment: usize,
-    bytes: [u8; 23],
-) -> usize {
+pub fn read(store: Store, memory: &[u8], buffer: &mut [u8], segment: usize, bytes: &[u8]) -> usize {
     let o = look_up(store, memory.len(), bytes);
     let place = store::place_of(o.cluster, segment);
     if access(&o, place, segment, buffer.len()) != 0 {
@@ -164,7 +167,7 @@ fn part_of(handle: Handle, place: Place) -> Part {
     Part { from, to }
 }
 
-fn look_part(store: Store, size: usize, current: usize, segment: usize, bytes: [u8; 23]) -> Part {
+fn look_part(store: Store, size: usize, current: usize, segment: usize, bytes: &[u8]) -> Part {
     let o = look_up(store, size, bytes);
     let place = store::place_of(o.cluster, segment);
     let node = o.handle.node();
@@ -174,7 +177,13 @@ fn look_part(store: Store, size: usize, current: usize, segment: usize, bytes: [
     part_of(o.handle, place)
 }
 
-pub fn look(store: Store, memory: &[u8], current: usize, segment: usize, bytes: [u8; 23]) -> &[u8] {
+pub fn look<'a>(
+    store: Store,
+    memory: &'a [u8],
+    current: usize,
+    segment: usize,
+    bytes: &[u8],
+) -> &'a [u8] {
     let part = look_part(store, memory.len(), current, segment, bytes);
     &memory[part.from..part.to]
 }

@@ -1,26 +1,56 @@
-//! The text of crates/handle in Rust, as far as weakening, validation, reads and looks need it.
+//! The text of crates/handle in Rust, as far as weakening, validation, reads and looks need it; bytes are in codec.rs.
 
 use crate::aes::{self, Tables};
+use crate::codec;
 
-const NODES: u16 = 4;
-const CLUSTERS: u8 = 8;
-const SUBSELECTORS: usize = 4;
-const SEGMENTS: usize = 8;
-const FLAT: u8 = 255;
+const NODES: usize = 4;
+const CLUSTERS: usize = 8;
+pub const SUBSELECTORS: usize = 4;
+const ROOM: usize = 16;
 const PASSWORD_BYTES: usize = 16;
-const PARAMETER_AT: usize = 15;
+const HIGH_AT: usize = 14;
+const LOW_AT: usize = 15;
 const NO_SUCH_PLACE: u8 = 2;
 const GAPPED: u8 = 4;
 const SPENT: u8 = 17;
 const EMPTY: u8 = 21;
-const BYTE: u16 = 256;
+pub const LENGTH: u8 = 25;
+
+#[derive(Clone, Copy)]
+pub enum Width {
+    None,
+    Four,
+    Eight,
+    Sixteen,
+}
+
+impl Width {
+    pub fn bits(self) -> u8 {
+        match self {
+            Width::None => 0,
+            Width::Four => 4,
+            Width::Eight => 8,
+            Width::Sixteen => 16,
+        }
+    }
+
+    fn full(self) -> u16 {
+        match self {
+            Width::None => 0,
+            Width::Four => 0xf,
+            Width::Eight => 0xff,
+            Width::Sixteen => 0xffff,
+        }
+    }
+}
 
 #[derive(Clone, Copy)]
 pub struct Handle {
     pub node: u16,
     pub local: u8,
     pub password: [u8; 16],
-    pub selector: [u8; 4],
+    pub width: Width,
+    pub selector: [u16; SUBSELECTORS],
 }
 
 pub struct Weakened {
@@ -29,14 +59,16 @@ pub struct Weakened {
     pub count: u8,
 }
 
-fn convert_with(tables: &Tables, password: [u8; 16], parameter: u8) -> [u8; 16] {
+fn convert_with(tables: &Tables, password: [u8; 16], parameter: u16) -> [u8; 16] {
     let mut block = [0u8; 16];
-    block[PARAMETER_AT] = parameter;
+    block[HIGH_AT] = codec::high(parameter);
+    block[LOW_AT] = codec::low(parameter);
     aes::encrypt_with(tables, password, block)
 }
 
-fn converted_with(tables: &Tables, password: [u8; 16], subselector: u8) -> [u8; 16] {
-    if subselector == FLAT {
+fn converted_with(tables: &Tables, width: Width, password: [u8; 16], subselector: u16) -> [u8; 16] {
+    let flat = width.full();
+    if subselector == flat {
         return password;
     }
     convert_with(tables, password, subselector)
@@ -51,12 +83,7 @@ fn same(a: [u8; 16], b: [u8; 16]) -> bool {
 }
 
 fn refused(number: u8) -> Weakened {
-    let none = Handle {
-        node: 0,
-        local: 0,
-        password: [0u8; 16],
-        selector: [0u8; 4],
-    };
+    let none = Handle::none();
     Weakened {
         number,
         handle: none,
@@ -74,82 +101,50 @@ fn done(handle: Handle) -> Weakened {
 }
 
 impl Handle {
-    pub fn decode(b: [u8; 23]) -> Handle {
-        Handle {
-            node: (b[0] as u16) * BYTE + (b[1] as u16),
-            local: b[2],
-            password: [
-                b[3], b[4], b[5], b[6], b[7], b[8], b[9], b[10], b[11], b[12], b[13], b[14], b[15],
-                b[16], b[17], b[18],
-            ],
-            selector: [b[19], b[20], b[21], b[22]],
-        }
-    }
-
-    pub fn encode(self) -> [u8; 23] {
-        let p = self.password;
-        let s = self.selector;
-        [
-            (self.node / BYTE) as u8,
-            (self.node % BYTE) as u8,
-            self.local,
-            p[0],
-            p[1],
-            p[2],
-            p[3],
-            p[4],
-            p[5],
-            p[6],
-            p[7],
-            p[8],
-            p[9],
-            p[10],
-            p[11],
-            p[12],
-            p[13],
-            p[14],
-            p[15],
-            s[0],
-            s[1],
-            s[2],
-            s[3],
-        ]
-    }
-
     pub fn node(self) -> usize {
         self.node as usize
     }
 
-    fn common(self) -> u8 {
+    fn shared(self) -> u16 {
         let s = self.selector;
         s[0] & (s[1] & (s[2] & s[3]))
     }
 
+    fn common(self) -> u16 {
+        let width = self.width;
+        self.shared() & width.full()
+    }
+
     fn count(self) -> u8 {
-        u8::count_ones(self.common()) as u8
+        let common = self.common();
+        u16::count_ones(common) as u8
     }
 
     pub fn references(self, segment: usize) -> bool {
-        if SEGMENTS <= segment {
+        if ROOM <= segment {
             return false;
         }
-        let common = self.common();
-        (common & (1 << segment)) != 0
+        let shared = self.shared();
+        (shared & (1 << segment)) != 0
     }
 
     pub fn gapped(self) -> bool {
+        let width = self.width;
+        let flat = width.full();
         let s = self.selector;
-        let a = s[0] == FLAT;
-        let b = s[1] == FLAT;
-        let c = s[2] == FLAT;
-        let d = s[3] == FLAT;
+        let a = s[0] == flat;
+        let b = s[1] == flat;
+        let c = s[2] == flat;
+        let d = s[3] == flat;
         (a & !(b & (c & d))) | ((b & !(c & d)) | (c & !d))
     }
 
     fn first_flat(self) -> usize {
+        let width = self.width;
+        let flat = width.full();
         let s = self.selector;
         for k in 0..SUBSELECTORS {
-            if s[k] == FLAT {
+            if s[k] == flat {
                 return k;
             }
         }
@@ -157,29 +152,56 @@ impl Handle {
     }
 
     fn opened_with(self, tables: &Tables, primary: [u8; 16]) -> [u8; 16] {
+        let width = self.width;
         let s = self.selector;
-        let a = converted_with(tables, primary, s[0]);
-        let b = converted_with(tables, a, s[1]);
-        let c = converted_with(tables, b, s[2]);
-        converted_with(tables, c, s[3])
+        let a = converted_with(tables, width, primary, s[0]);
+        let b = converted_with(tables, width, a, s[1]);
+        let c = converted_with(tables, width, b, s[2]);
+        converted_with(tables, width, c, s[3])
     }
 
     pub fn validates_with(self, tables: &Tables, primary: [u8; 16]) -> bool {
         let opened = self.opened_with(tables, primary);
-        same(opened, self.password)
+        let password = self.password;
+        same(opened, password)
     }
 
-    pub fn weaken_with(self, tables: &Tables, mask: u8) -> Weakened {
-        let node = self.node;
-        let local = self.local;
-        if NODES <= node {
-            return refused(NO_SUCH_PLACE);
+    fn standing(self) -> u8 {
+        let width = self.width;
+        if width.bits() == 0 {
+            return LENGTH;
         }
-        if CLUSTERS <= local {
-            return refused(NO_SUCH_PLACE);
+        if NODES <= self.node() {
+            return NO_SUCH_PLACE;
+        }
+        if CLUSTERS <= self.local as usize {
+            return NO_SUCH_PLACE;
         }
         if self.gapped() {
-            return refused(GAPPED);
+            return GAPPED;
+        }
+        0
+    }
+
+    fn cut_with(self, tables: &Tables, place: usize, parameter: u16) -> Handle {
+        let width = self.width;
+        let old = self.password;
+        let password = convert_with(tables, old, parameter);
+        let mut selector = self.selector;
+        selector[place] = parameter;
+        Handle {
+            node: self.node,
+            local: self.local,
+            password,
+            width,
+            selector,
+        }
+    }
+
+    pub fn weaken_with(self, tables: &Tables, mask: u16) -> Weakened {
+        let number = self.standing();
+        if number != 0 {
+            return refused(number);
         }
         let common = self.common();
         let kept = common & mask;
@@ -194,19 +216,13 @@ impl Handle {
         if SUBSELECTORS <= place {
             return refused(SPENT);
         }
-        let parameter = !excluded;
-        let password = convert_with(tables, self.password, parameter);
-        let mut selector = self.selector;
-        selector[place] = parameter;
-        done(Handle {
-            node,
-            local,
-            password,
-            selector,
-        })
+        let width = self.width;
+        let parameter = width.full() - excluded;
+        let weaker = self.cut_with(tables, place, parameter);
+        done(weaker)
     }
 
-    pub fn weaken(self, mask: u8) -> Weakened {
+    pub fn weaken(self, mask: u16) -> Weakened {
         let tables = aes::tables();
         self.weaken_with(&tables, mask)
     }

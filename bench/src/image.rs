@@ -1,13 +1,14 @@
 //! The text of crates/image in Rust, as far as soundness needs it, and of the images that are measured.
 
 use crate::spans;
-use crate::store::{CLUSTERS, MAP_WORDS, MEMORY, NODES, SEGMENTS};
+use crate::store::{is_width, CLUSTERS, MAP_WORDS, MEMORY, NODES};
 
-pub const IMAGE: usize = 2336;
-const RECORD: usize = 73;
+pub const IMAGE: usize = 3648;
+const RECORD: usize = 114;
 const SEGMENT: usize = 5;
-const READ_AT: usize = 1;
-const SEGMENTS_AT: usize = 33;
+const WIDTH_AT: usize = 1;
+const READ_AT: usize = 2;
+const SEGMENTS_AT: usize = 34;
 const MARK_AT: usize = 4;
 const BYTE: u16 = 256;
 
@@ -38,10 +39,10 @@ fn claim_segment(b: &[u8], map: &mut [u64]) -> bool {
     (mark <= 1) & spans::mark(map, base, to)
 }
 
-fn claim_segments(b: &[u8], map: &mut [u64]) -> bool {
+fn claim_segments(b: &[u8], count: usize, map: &mut [u64]) -> bool {
     let mut ok = true;
     let mut i: usize = 0;
-    while i < SEGMENTS {
+    while i < count {
         let from = i * SEGMENT;
         let to = from + SEGMENT;
         ok = claim_segment(&b[from..to], map) & ok;
@@ -53,12 +54,17 @@ fn claim_segments(b: &[u8], map: &mut [u64]) -> bool {
 fn claim_record(b: &[u8], map: &mut [u64]) -> bool {
     let active = b[0];
     if active == 0 {
-        return zero(&b[READ_AT..RECORD]);
+        return zero(&b[WIDTH_AT..RECORD]);
     }
     if active != 1 {
         return false;
     }
-    claim_segments(&b[SEGMENTS_AT..RECORD], map)
+    let width = b[WIDTH_AT] as usize;
+    if !is_width(width) {
+        return false;
+    }
+    let above = SEGMENTS_AT + width * SEGMENT;
+    zero(&b[above..RECORD]) & claim_segments(&b[SEGMENTS_AT..RECORD], width, map)
 }
 
 pub fn sound_in(image: &[u8; IMAGE], size: usize) -> bool {
@@ -81,13 +87,18 @@ pub fn sound_in(image: &[u8; IMAGE], size: usize) -> bool {
     (size == MEMORY) & ok
 }
 
+/// Where the width of a cluster lies; `n` is the number of its record.
+pub fn width_at(n: usize) -> usize {
+    n * RECORD + WIDTH_AT
+}
+
 /// Where the mark of a segment lies; `n` is the number of its cluster's record.
 pub fn mark_at(n: usize, segment: usize) -> usize {
     n * RECORD + SEGMENTS_AT + segment * SEGMENT + MARK_AT
 }
 
-/// Every node has `clusters` active clusters of `segments` segments each, one after the other.
-pub fn image_of(clusters: usize, segments: usize, length: usize) -> [u8; IMAGE] {
+/// Every node has `clusters` active clusters of that width, with `segments` segments each, one after the other.
+pub fn image_of(clusters: usize, width: u8, segments: usize, length: usize) -> [u8; IMAGE] {
     let mut image = [0; IMAGE];
     for (n, record) in image.chunks_exact_mut(RECORD).enumerate() {
         let local = n % CLUSTERS;
@@ -95,6 +106,7 @@ pub fn image_of(clusters: usize, segments: usize, length: usize) -> [u8; IMAGE] 
             continue;
         }
         record[0] = 1;
+        record[WIDTH_AT] = width;
         record[READ_AT..SEGMENTS_AT].fill(n as u8 + 1);
         let table = record[SEGMENTS_AT..].chunks_exact_mut(SEGMENT);
         for (i, segment) in table.take(segments).enumerate() {

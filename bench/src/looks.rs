@@ -1,14 +1,13 @@
 //! A read of a segment that fills its node, and a look at it, on records: the proved ones beside those of access.rs.
 //! Both sides make the store of two tables in the same call, so that is in every figure.
 
+use crate::codec::HandleBytes;
 use crate::handle::Handle;
 use crate::store::{self, Table, CLUSTERS, MEMORY, NODES, NODE_MEMORY, SEGMENTS};
 use crate::{access, beside, report, report_making};
 use std::hint::black_box;
 use std::slice::{from_raw_parts, from_raw_parts_mut};
 use Side::{Proved, Rust};
-
-type HandleBytes = [u8; 23];
 
 extern "C" {
     /// The length told, 0 when refused.
@@ -18,7 +17,8 @@ extern "C" {
         memory: *const u8,
         memory_length: usize,
         segment: usize,
-        bytes: *const HandleBytes,
+        handle: *const u8,
+        handle_length: usize,
         buffer: *mut u8,
         buffer_length: usize,
     ) -> usize;
@@ -30,7 +30,8 @@ extern "C" {
         memory_length: usize,
         current: usize,
         segment: usize,
-        bytes: *const HandleBytes,
+        handle: *const u8,
+        handle_length: usize,
     ) -> usize;
 }
 
@@ -43,14 +44,16 @@ unsafe extern "C" fn rust_read(
     memory: *const u8,
     memory_length: usize,
     segment: usize,
-    bytes: *const HandleBytes,
+    handle: *const u8,
+    handle_length: usize,
     buffer: *mut u8,
     buffer_length: usize,
 ) -> usize {
     let store = store::store_from(&*bases, &*lengths);
     let memory = from_raw_parts(memory, memory_length);
     let buffer = from_raw_parts_mut(buffer, buffer_length);
-    access::read(store, memory, buffer, segment, *bytes)
+    let handle = from_raw_parts(handle, handle_length);
+    access::read(store, memory, buffer, segment, handle)
 }
 
 #[inline(never)]
@@ -61,11 +64,13 @@ unsafe extern "C" fn rust_look(
     memory_length: usize,
     current: usize,
     segment: usize,
-    bytes: *const HandleBytes,
+    handle: *const u8,
+    handle_length: usize,
 ) -> usize {
     let store = store::store_from(&*bases, &*lengths);
     let memory = from_raw_parts(memory, memory_length);
-    access::look(store, memory, current, segment, *bytes).len()
+    let handle = from_raw_parts(handle, handle_length);
+    access::look(store, memory, current, segment, handle).len()
 }
 
 /// What a read or a look gets, a read's buffer apart.
@@ -76,7 +81,7 @@ struct Asked {
     memory: Vec<u8>,
     current: usize,
     segment: usize,
-    bytes: HandleBytes,
+    handle: HandleBytes,
 }
 
 enum Side {
@@ -95,7 +100,8 @@ impl Asked {
                 asked.memory.as_ptr(),
                 asked.memory.len(),
                 asked.segment,
-                &asked.bytes,
+                asked.handle.bytes.as_ptr(),
+                asked.handle.length,
                 buffer.as_mut_ptr(),
                 buffer.len(),
             )
@@ -113,7 +119,8 @@ impl Asked {
                 asked.memory.len(),
                 asked.current,
                 asked.segment,
-                &asked.bytes,
+                asked.handle.bytes.as_ptr(),
+                asked.handle.length,
             )
         }
     }
@@ -129,30 +136,37 @@ fn large() -> Asked {
     let first = NODE * CLUSTERS * SEGMENTS;
     lengths[first..first + CLUSTERS * SEGMENTS].fill(0);
     lengths[first + LOCAL * SEGMENTS + SEGMENT] = NODE_MEMORY as u16;
-    let mut bytes = [0; 23];
-    bytes[1..3].copy_from_slice(&[NODE as u8, LOCAL as u8]);
-    bytes[19..].fill(255);
+    let mut handle = HandleBytes {
+        length: 27,
+        bytes: [0; 27],
+    };
+    handle.bytes[1..3].copy_from_slice(&[NODE as u8, LOCAL as u8]);
+    handle.bytes[19..].fill(255);
     Asked {
         bases,
         lengths,
         memory: (0..MEMORY).map(|at| (at % 251) as u8).collect(),
         current: NODE,
         segment: SEGMENT,
-        bytes,
+        handle,
     }
 }
 
-/// One thing wrong at a time: nothing is shown, nothing is copied. The first two are of the current node, a look's alone.
+/// One thing wrong at a time: nothing is shown, nothing is copied. The first two are of the current node, a look's alone;
+/// with 23 bytes the handle is one of eight segments, and the cluster has sixteen.
 fn refusals(right: &Asked) {
-    let changes: [fn(&mut Asked); 9] = [
+    let changes: [fn(&mut Asked); 12] = [
         |asked| asked.current = NODES,
         |asked| asked.current += 1,
         |asked| asked.memory.truncate(MEMORY - 1),
-        |asked| asked.bytes[2] = CLUSTERS as u8,
+        |asked| asked.handle.length = 0,
+        |asked| asked.handle.length = 22,
+        |asked| asked.handle.length = 23,
+        |asked| asked.handle.bytes[2] = CLUSTERS as u8,
         |asked| asked.segment = SEGMENTS,
-        |asked| asked.bytes[22] = 0,
-        |asked| asked.bytes[3] = 1,
-        |asked| asked.bytes = Handle::decode(asked.bytes).weaken(0xfd).handle.encode(),
+        |asked| asked.handle.bytes[26] = 0,
+        |asked| asked.handle.bytes[3] = 1,
+        |asked| asked.handle = without(asked.handle, SEGMENT),
         |asked| asked.segment += 1,
     ];
     for (i, change) in changes.iter().enumerate() {
@@ -164,6 +178,11 @@ fn refusals(right: &Asked) {
         }
     }
     copies_nothing(right, NODE_MEMORY - 1);
+}
+
+fn without(handle: HandleBytes, segment: usize) -> HandleBytes {
+    let weaker = Handle::decode(handle.held()).weaken(!(1 << segment));
+    weaker.handle.encode()
 }
 
 fn copies_nothing(asked: &Asked, room: usize) {

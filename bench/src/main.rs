@@ -3,13 +3,14 @@
 
 mod access;
 mod aes;
+mod codec;
 mod handle;
+mod handles;
 mod image;
 mod looks;
 mod spans;
 mod store;
 
-use handle::Handle;
 use image::IMAGE;
 use std::hint::black_box;
 use std::time::Instant;
@@ -17,8 +18,6 @@ use store::Table;
 
 extern "C" {
     fn measured_encrypt(key: *const [u8; 16], block: *const [u8; 16], out: *mut [u8; 16]);
-    fn measured_validate(bytes: *const [u8; 23], primary: *const [u8; 16]) -> bool;
-    fn measured_weaken(bytes: *const [u8; 23], mask: u8, out: *mut [u8; 23]) -> u8;
     fn measured_sound(bases: *const Table, lengths: *const Table, size: usize) -> bool;
     fn gelmuszta_sound(image: *const [u8; IMAGE], size: usize) -> bool;
 }
@@ -56,20 +55,6 @@ extern "C" fn rust_encrypt(key: &[u8; 16], block: &[u8; 16], out: &mut [u8; 16])
 }
 
 #[inline(never)]
-extern "C" fn rust_validate(bytes: &[u8; 23], primary: &[u8; 16]) -> bool {
-    let tables = aes::tables();
-    Handle::decode(*bytes).validates_with(&tables, *primary)
-}
-
-#[inline(never)]
-extern "C" fn rust_weaken(bytes: &[u8; 23], mask: u8, out: &mut [u8; 23]) -> u8 {
-    let reply = Handle::decode(*bytes).weaken(mask);
-    black_box(reply.count);
-    *out = reply.handle.encode();
-    reply.number
-}
-
-#[inline(never)]
 extern "C" fn rust_sound(bases: &Table, lengths: &Table, size: usize) -> bool {
     store::sound(store::store_from(bases, lengths), size)
 }
@@ -95,91 +80,6 @@ fn encryption() {
     );
     assert_eq!(a, b, "the two give the same bytes");
     report("encryption, new key and block", times);
-}
-
-/// A primary handle weakened four times, and each of the five handles on the way.
-fn cut_handles(primary: [u8; 16]) -> Vec<[u8; 23]> {
-    let mut bytes = [0u8; 23];
-    bytes[2] = 2;
-    bytes[3..19].copy_from_slice(&primary);
-    bytes[19..].fill(255);
-    let mut cut = vec![bytes];
-    for mask in [0xfe, 0xfd, 0xfb, 0xf7] {
-        let mut next = [0u8; 23];
-        let number = unsafe { measured_weaken(cut.last().expect("one is there"), mask, &mut next) };
-        let mut other = [0u8; 23];
-        assert_eq!(
-            number,
-            rust_weaken(cut.last().expect("one is there"), mask, &mut other)
-        );
-        assert_eq!((number, next), (0, other), "the two give the same handle");
-        cut.push(next);
-    }
-    cut
-}
-
-fn validation() {
-    let primary = [0x22u8; 16];
-    for (conversions, bytes) in cut_handles(primary).iter().enumerate() {
-        let mut ends = (true, true);
-        let times = beside(
-            || ends.0 &= unsafe { measured_validate(black_box(bytes), black_box(&primary)) },
-            || ends.1 &= rust_validate(black_box(bytes), black_box(&primary)),
-        );
-        assert_eq!(ends, (true, true), "the handle validates");
-        if conversions == 0 || conversions == 4 {
-            report(&format!("validation, {conversions} conversions"), times);
-        }
-    }
-}
-
-/// The refusals of weakening, with the places of the numbers: 2, 4, 21, 17.
-fn refusals(cut: &[[u8; 23]]) {
-    let with = |local: u8, selector: [u8; 4]| {
-        let mut bytes = cut[0];
-        bytes[2] = local;
-        bytes[19..].copy_from_slice(&selector);
-        bytes
-    };
-    for (bytes, mask, number) in [
-        (with(8, [0, 255, 0, 255]), 0, 2),
-        (with(2, [0, 255, 0, 255]), 0, 4),
-        (cut[0], 0, 21),
-        (with(2, [0, 255, 255, 255]), 255, 21),
-        (with(2, [0x3f, 0xcf, 0xf3, 0xfc]), 255, 21),
-        (cut[4], 0x0f, 21),
-        (cut[4], 0x1f, 17),
-    ] {
-        let mut out = ([1u8; 23], [1u8; 23]);
-        let proved = unsafe { measured_weaken(&bytes, mask, &mut out.0) };
-        assert_eq!(
-            (proved, rust_weaken(&bytes, mask, &mut out.1)),
-            (number, number),
-            "the two give the same number"
-        );
-        assert_eq!(out, ([0; 23], [0; 23]), "a refusal gives no handle");
-    }
-}
-
-fn weakening() {
-    let handles = cut_handles([0x22; 16]);
-    refusals(&handles);
-    for (name, bytes, mask) in [
-        ("weakening, nothing excluded", handles[4], 0xf0),
-        ("weakening, the last subselector", handles[3], 0xf0),
-    ] {
-        let mut out = ([0u8; 23], [0u8; 23]);
-        let times = beside(
-            || {
-                unsafe { measured_weaken(black_box(&bytes), black_box(mask), &mut out.0) };
-            },
-            || {
-                rust_weaken(black_box(&bytes), black_box(mask), &mut out.1);
-            },
-        );
-        assert_eq!(out.0, out.1, "the two give the same handle");
-        report(name, times);
-    }
 }
 
 /// A store made of two tables and tested: `each` segments on every node, of `length` bytes, one after the other.
@@ -233,12 +133,37 @@ fn marks() {
         (0, 2, 1, false),
         (7, 0, 1, false),
     ] {
-        let mut image = image::image_of(5, 2, 400);
+        let mut image = image::image_of(5, 8, 2, 400);
         image[image::mark_at(record, segment)] = mark;
-        let proved = unsafe { gelmuszta_sound(&image, store::MEMORY) };
-        let rust = rust_sound_in(&image, store::MEMORY);
-        assert_eq!((proved, rust), (sound, sound), "the two judge alike");
+        judged_alike(&image, sound);
     }
+}
+
+/// An active cluster has one of the three widths, an inactive one 0, and no segment at or above the width is present.
+fn widths() {
+    for (record, width, sound) in [
+        (0, 4, true),
+        (0, 8, true),
+        (0, 16, true),
+        (0, 0, false),
+        (0, 5, false),
+        (0, 24, false),
+        (7, 0, true),
+        (7, 8, false),
+    ] {
+        let mut image = image::image_of(5, 8, 2, 400);
+        image[image::width_at(record)] = width;
+        judged_alike(&image, sound);
+    }
+    for (width, segments, sound) in [(4, 5, false), (8, 9, false), (16, 16, true)] {
+        judged_alike(&image::image_of(8, width, segments, 32), sound);
+    }
+}
+
+fn judged_alike(image: &[u8; IMAGE], sound: bool) {
+    let proved = unsafe { gelmuszta_sound(image, store::MEMORY) };
+    let rust = rust_sound_in(image, store::MEMORY);
+    assert_eq!((proved, rust), (sound, sound), "the two judge alike");
 }
 
 fn main() {
@@ -247,14 +172,22 @@ fn main() {
         "nanoseconds a call", "proved", "Rust", "ratio"
     );
     encryption();
-    validation();
-    weakening();
+    handles::validation();
+    handles::weakening();
     soundness("soundness, empty store", 0, 1);
     soundness("soundness, 10 segments of 400 bytes a node", 10, 400);
     soundness("soundness, 64 segments of 64 bytes a node", 64, 64);
+    soundness("soundness, 128 segments of 32 bytes a node", 128, 32);
     looks::looks();
     marks();
-    soundness_in("on the image, empty store", image::image_of(0, 0, 0));
-    soundness_in("on the image, typical store", image::image_of(5, 2, 400));
-    soundness_in("on the image, full store", image::image_of(8, 8, 64));
+    widths();
+    for (name, image) in [
+        ("empty store", image::image_of(0, 0, 0, 0)),
+        ("typical store", image::image_of(5, 8, 2, 400)),
+        ("full store", image::image_of(8, 8, 8, 64)),
+        ("typical store, 16 segments", image::image_of(5, 16, 2, 400)),
+        ("full store, 16 segments", image::image_of(8, 16, 16, 32)),
+    ] {
+        soundness_in(&format!("on the image, {name}"), image);
+    }
 }

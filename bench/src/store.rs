@@ -4,7 +4,7 @@ use crate::spans;
 
 pub const NODES: usize = 4;
 pub const CLUSTERS: usize = 8;
-pub const SEGMENTS: usize = 8;
+pub const SEGMENTS: usize = 16;
 pub const MAP_WORDS: usize = 64;
 const RECORDS: usize = 32;
 pub const NODE_MEMORY: usize = 4096;
@@ -27,6 +27,7 @@ pub struct Segment {
 #[derive(Clone, Copy)]
 pub struct Cluster {
     pub active: bool,
+    pub width: u8,
     pub read: [u8; PASSWORD_BYTES],
     pub write: [u8; PASSWORD_BYTES],
     pub segments: [Segment; SEGMENTS],
@@ -89,10 +90,44 @@ fn empty(cluster: Cluster) -> bool {
     ok
 }
 
+pub fn is_width(width: usize) -> bool {
+    (width == 4) | ((width == 8) | (width == 16))
+}
+
+fn allowed(place: Place, i: usize, width: usize) -> bool {
+    (i < width) | absent(place)
+}
+
+fn below(cluster: Cluster) -> bool {
+    let width = cluster.width as usize;
+    let mut ok = true;
+    let mut i: usize = 0;
+    while i < SEGMENTS {
+        let segment = cluster.segments[i];
+        let place = segment.place;
+        ok = allowed(place, i, width) & ok;
+        i += 1;
+    }
+    ok
+}
+
+fn sound_width(active: bool, width: usize) -> bool {
+    if active {
+        return is_width(width);
+    }
+    width == 0
+}
+
+fn sized(cluster: Cluster) -> bool {
+    let active = cluster.active;
+    let width = cluster.width as usize;
+    sound_width(active, width) & below(cluster)
+}
+
 fn settled(cluster: Cluster) -> bool {
     let read = cluster.read;
     let write = cluster.write;
-    cluster.active | ((zero(read) & zero(write)) & empty(cluster))
+    (cluster.active | ((zero(read) & zero(write)) & empty(cluster))) & sized(cluster)
 }
 
 pub fn sound(store: Store, size: usize) -> bool {
@@ -153,11 +188,14 @@ pub fn primary(cluster: Cluster, mode: usize) -> [u8; PASSWORD_BYTES] {
 }
 
 /// A number for each segment, in the order of the records.
-pub type Table = [u16; 256];
+pub type Table = [u16; RECORDS * SEGMENTS];
+
+/// The width of every cluster that is made of two tables.
+const WIDTH: u8 = 16;
 
 /// Bases and lengths of `each` segments on every node, of `length` bytes, one after the other.
 pub fn tables(each: usize, length: u16) -> (Table, Table) {
-    let (mut bases, mut lengths) = ([0; 256], [0; 256]);
+    let (mut bases, mut lengths) = ([0; RECORDS * SEGMENTS], [0; RECORDS * SEGMENTS]);
     for node in 0..NODES {
         for i in 0..each {
             let at = node * CLUSTERS * SEGMENTS + i;
@@ -175,14 +213,14 @@ fn place_from(base: u16, length: u16) -> Place {
     Place::Present { base, length }
 }
 
-fn segments_from(bases: &Table, lengths: &Table, n: usize) -> [Segment; 8] {
+fn segments_from(bases: &Table, lengths: &Table, n: usize) -> [Segment; SEGMENTS] {
     let absent = Segment {
         place: Place::Absent,
         frozen: false,
     };
-    let mut r = [absent; 8];
-    for i in 0..8usize {
-        let at = n * 8 + i;
+    let mut r = [absent; SEGMENTS];
+    for i in 0..SEGMENTS {
+        let at = n * SEGMENTS + i;
         r[i] = Segment {
             place: place_from(bases[at], lengths[at]),
             frozen: false,
@@ -194,6 +232,7 @@ fn segments_from(bases: &Table, lengths: &Table, n: usize) -> [Segment; 8] {
 pub fn store_from(bases: &Table, lengths: &Table) -> Store {
     let inactive = Cluster {
         active: false,
+        width: 0,
         read: [0; PASSWORD_BYTES],
         write: [0; PASSWORD_BYTES],
         segments: [Segment {
@@ -201,13 +240,14 @@ pub fn store_from(bases: &Table, lengths: &Table) -> Store {
             frozen: false,
         }; SEGMENTS],
     };
-    let mut clusters = [inactive; 32];
-    for n in 0..32usize {
+    let mut clusters = [inactive; RECORDS];
+    for n in 0..RECORDS {
         let segments = segments_from(bases, lengths, n);
         clusters[n] = Cluster {
             active: true,
-            read: [0; 16],
-            write: [0; 16],
+            width: WIDTH,
+            read: [0; PASSWORD_BYTES],
+            write: [0; PASSWORD_BYTES],
             segments,
         };
     }

@@ -3,7 +3,6 @@
 //! A look and validation have no code: lists do not ask for them.
 
 use crate::handle::{Handle, HandleBytes, Password};
-use crate::sizes::HANDLE_BYTES;
 use crate::store::Mode;
 use crate::table::DONE;
 use std::ops::Range;
@@ -36,76 +35,77 @@ pub const CALLS: [(u8, &str); 11] = [
 ];
 
 /// One call, a look, or validation asked for by itself. Numbers are as the caller gave them, right
-/// or wrong; `node` is the current node. A read's buffer and a write's data are handed over beside
-/// the call.
-#[derive(Clone, Copy, Debug, PartialEq, Eq)]
+/// or wrong, and handles have any length; `node` is the current node. A read's buffer and a write's
+/// data are handed over beside the call.
+#[derive(Clone, Debug, PartialEq, Eq)]
 pub enum Call {
     NewCluster {
         node: u32,
         local: u32,
+        width: usize,
         read: Password,
         write: Password,
     },
     DeleteCluster {
         node: u32,
-        handle: Handle,
+        handle: HandleBytes,
     },
     NewSegment {
         node: u32,
         segment: u32,
         size: u32,
-        handle: Handle,
+        handle: HandleBytes,
     },
     DeleteSegment {
         node: u32,
         segment: u32,
-        handle: Handle,
+        handle: HandleBytes,
     },
     Read {
         segment: u32,
-        handle: Handle,
+        handle: HandleBytes,
     },
     Write {
         segment: u32,
-        handle: Handle,
+        handle: HandleBytes,
     },
     Weaken {
-        mask: u8,
-        handle: Handle,
+        mask: u16,
+        handle: HandleBytes,
     },
     Reduce {
         mode: u32,
-        handle: Handle,
+        handle: HandleBytes,
     },
     NewPassword {
         mode: u32,
-        handle: Handle,
+        handle: HandleBytes,
         password: Password,
     },
     Freeze {
         node: u32,
         segment: u32,
-        handle: Handle,
+        handle: HandleBytes,
     },
     Join {
         mode: u32,
-        handle: Handle,
-        other: Handle,
+        handle: HandleBytes,
+        other: HandleBytes,
     },
     Look {
         node: u32,
         segment: u32,
-        handle: Handle,
+        handle: HandleBytes,
     },
     Validate {
         mode: u32,
-        handle: Handle,
+        handle: HandleBytes,
     },
 }
 
 impl Call {
-    /// The handle that the call presents; the first, where it presents two.
-    pub fn handle(&self) -> Option<&Handle> {
+    /// The bytes of the handle that the call presents; the first, where it presents two.
+    pub fn handle_bytes(&self) -> Option<&[u8]> {
         match self {
             Call::NewCluster { .. } => None,
             Call::DeleteCluster { handle, .. }
@@ -123,13 +123,24 @@ impl Call {
         }
     }
 
-    /// Every handle that the call presents: none, one, or the two of a join.
-    pub fn presented(&self) -> impl Iterator<Item = &Handle> {
+    /// The bytes of every handle that the call presents: none, one, or the two of a join.
+    pub fn presented_bytes(&self) -> impl Iterator<Item = &[u8]> {
         let other = match self {
-            Call::Join { other, .. } => Some(other),
+            Call::Join { other, .. } => Some(other.as_slice()),
             _ => None,
         };
-        self.handle().into_iter().chain(other)
+        self.handle_bytes().into_iter().chain(other)
+    }
+
+    /// The handle that the call presents, or the first; `None` also where its length is none of a
+    /// handle's.
+    pub fn handle(&self) -> Option<Handle> {
+        Handle::from_bytes(self.handle_bytes()?)
+    }
+
+    /// Every handle that the call presents, but for those whose length is none of a handle's.
+    pub fn presented(&self) -> impl Iterator<Item = Handle> + '_ {
+        self.presented_bytes().filter_map(Handle::from_bytes)
     }
 
     pub fn current_node(&self) -> Option<u32> {
@@ -233,8 +244,8 @@ impl From<Range<usize>> for Part {
     }
 }
 
-/// What a call gives back; fields that it does not give are zero.
-#[derive(Clone, Copy, Debug, PartialEq, Eq)]
+/// What a call gives back; fields that it does not give are zero, and handles have no bytes.
+#[derive(Clone, Debug, PartialEq, Eq)]
 pub struct Reply {
     pub number: u8,
     pub first: HandleBytes,
@@ -252,8 +263,8 @@ impl Reply {
     pub const fn refused(number: u8) -> Reply {
         Reply {
             number,
-            first: [0; HANDLE_BYTES],
-            second: [0; HANDLE_BYTES],
+            first: HandleBytes::new(),
+            second: HandleBytes::new(),
             count: 0,
             length: 0,
             shown: Part::NONE,

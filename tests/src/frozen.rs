@@ -61,7 +61,7 @@ fn frozen(store: &Store, memory: &[u8]) -> Met {
 pub enum Case {
     /// A freeze of a segment that is frozen is done.
     Again,
-    /// 22 for call 2: by segment 0 alone, by the last alone, by others and not by segment 0.
+    /// 22 for call 2: by segment 0 alone, by the last of its width alone, by others and not by segment 0.
     FirstAlone,
     LastAlone,
     NotTheFirst,
@@ -148,7 +148,9 @@ impl Case {
     }
 
     fn of_cluster(node: &[Cluster], cluster: &Cluster, number: u8) -> Option<Case> {
-        let [first, .., last] = cluster.segments.map(|segment| segment.frozen);
+        let [first, ..] = cluster.segments.map(|segment| segment.frozen);
+        let end = cluster.segments.get(..usize::from(cluster.width));
+        let last = end.and_then(<[_]>::last).is_some_and(|last| last.frozen);
         let count = cluster.segments.iter().filter(|segment| segment.frozen);
         match (number, count.count()) {
             (DONE, _) if node.iter().any(Cluster::has_frozen) => Some(Case::OtherClusterDeleted),

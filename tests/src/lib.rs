@@ -4,7 +4,8 @@
 //! understood the same way twice. Nothing here is proved.
 //!
 //! - [`aes`]: AES-128 of FIPS 197 by tables of words.
-//! - [`handle`]: selectors, the 23 bytes, conversion, weakening, reduction.
+//! - [`width`]: the three widths.
+//! - [`handle`]: selectors, the bytes of each width, conversion, weakening, reduction.
 //! - [`store`]: records, soundness, placement.
 //! - [`table`]: the numbers of refusal, their words, and the test behind each of them.
 //! - [`call`]: the eleven calls, looks and validation with their arguments, and replies.
@@ -15,6 +16,7 @@
 //! - [`frozen`]: whether what is frozen stays, and what calls come to there, for those who watch them.
 //! - [`joins`]: how the two handles of a join meet, for those who count what was met.
 //! - [`renewals`]: what a new password meets, and what is done by a handle that opens both modes, for the same.
+//! - [`widths`]: what calls come to by the widths of handles and clusters, for the same.
 //! - [`random`], [`generate`]: lists made by chance from a seed.
 //! - [`program`], [`streams`]: a program run, with its input and output in every way that they can come.
 
@@ -36,3 +38,5 @@ pub mod store;
 pub mod streams;
 pub mod table;
 pub mod vectors;
+pub mod width;
+pub mod widths;

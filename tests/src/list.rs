@@ -1,12 +1,18 @@
 //! Lists of calls: records of 64 bytes, the chain through them, and the text that comes out.
 
 use crate::call::{self, Call, Reply};
-use crate::handle::{Handle, Password};
+use crate::handle::{HandleBytes, Password};
 use crate::hexadecimal;
 use crate::model;
-use crate::sizes::{HANDLE_BYTES, MEMORY_BYTES, NODE_BYTES, PASSWORD_BYTES};
+use crate::sizes::{MEMORY_BYTES, NODE_BYTES, PASSWORD_BYTES};
 use crate::store::Store;
 use crate::table::{refusal_above, Found, FIELD, LINK, LIST_LENGTH, LOOP};
+use crate::width::Width;
+
+/// The one width of a list's clusters and handles.
+pub const WIDTH: Width = Width::Eight;
+/// Bytes of a list's handles: 23.
+pub const HANDLE_BYTES: usize = WIDTH.handle_bytes();
 
 pub const RECORD_BYTES: usize = 64;
 pub const MOST_RECORDS: usize = 255;
@@ -31,8 +37,8 @@ pub const OTHER_HANDLE_AT: usize = 32;
 
 pub type Record = [u8; RECORD_BYTES];
 
-/// For each number, the calls that a list can bring to it. A list starts from a sound store and has
-/// a buffer that any segment fits in, so 1 is not among them, nor 15 for a read.
+/// For each number, the calls that a list can bring to it. A list starts from a sound store, has one
+/// width alone and a buffer that any segment fits in, so 1 and 25 are not among them, nor 15 for a read.
 const REACHABLE: [(u8, &[u8]); 21] = [
     (0, &[1, 2, 3, 4, 5, 6, 7, 8, 9, 10, 11]),
     (2, &[1, 2, 3, 4, 5, 6, 7, 8, 9, 10, 11]),
@@ -65,7 +71,7 @@ pub fn reachable() -> impl Iterator<Item = (u8, u8)> {
 }
 
 /// What a record asks for.
-#[derive(Clone, Copy, Debug, PartialEq, Eq)]
+#[derive(Clone, Debug, PartialEq, Eq)]
 pub enum Request {
     /// The code belongs to no call.
     BadCode,
@@ -80,10 +86,8 @@ fn password_at(record: &Record, at: usize) -> Password {
     password
 }
 
-fn handle_at(record: &Record, at: usize) -> Handle {
-    let mut bytes = [0; HANDLE_BYTES];
-    bytes.copy_from_slice(&record[at..at + HANDLE_BYTES]);
-    Handle::from_bytes(&bytes)
+fn handle_at(record: &Record, at: usize) -> HandleBytes {
+    record[at..at + HANDLE_BYTES].to_vec()
 }
 
 /// The call that a record's code stands for; bytes that it does not use are not looked at.
@@ -94,13 +98,16 @@ fn call_of(record: &Record) -> Option<Call> {
     let [first, second] = [FIRST_PASSWORD_AT, SECOND_PASSWORD_AT].map(|at| password_at(record, at));
     #[rustfmt::skip]
     let call = match record[CODE_AT] {
-        call::NEW_CLUSTER => Call::NewCluster { node, local: segment, read: first, write: second },
+        call::NEW_CLUSTER => {
+            let width = WIDTH.segments();
+            Call::NewCluster { node, local: segment, width, read: first, write: second }
+        }
         call::DELETE_CLUSTER => Call::DeleteCluster { node, handle },
         call::NEW_SEGMENT => Call::NewSegment { node, segment, size, handle },
         call::DELETE_SEGMENT => Call::DeleteSegment { node, segment, handle },
         call::READ => Call::Read { segment, handle },
         call::WRITE => Call::Write { segment, handle },
-        call::WEAKEN => Call::Weaken { mask: record[SEGMENT_AT], handle },
+        call::WEAKEN => Call::Weaken { mask: record[SEGMENT_AT].into(), handle },
         call::REDUCE => Call::Reduce { mode, handle },
         call::NEW_PASSWORD => Call::NewPassword { mode, handle, password: first },
         call::FREEZE => Call::Freeze { node, segment, handle },

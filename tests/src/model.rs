@@ -4,6 +4,7 @@ use crate::call::{Call, Reply};
 use crate::handle::{Handle, Password};
 use crate::store::{Cluster, Mode, Segment, Store};
 use crate::table::{refusal, Found};
+use crate::width::Width;
 use std::ops::Range;
 
 /// Runs one call. `buffer` is a read's buffer or a write's data, and is not looked at otherwise.
@@ -22,39 +23,32 @@ pub fn run(store: &mut Store, memory: &mut [u8], buffer: &mut [u8], call: &Call)
 
 /// What a call does to which no refusal applies.
 fn carry_out(store: &mut Store, memory: &mut [u8], buffer: &mut [u8], call: &Call) -> Reply {
+    let mut handles = call.presented();
+    let mut handle = || handles.next().expect("row 25 refuses every other length");
     match *call {
         Call::NewCluster {
             node,
             local,
+            width,
             read,
             write,
-        } => new_cluster(store, node as usize, local as usize, read, write),
-        Call::DeleteCluster { handle, .. } => delete_cluster(store, &handle),
-        Call::NewSegment {
-            segment,
-            size,
-            handle,
-            ..
-        } => new_segment(store, memory, segment, size as usize, &handle),
-        Call::DeleteSegment {
-            segment, handle, ..
-        } => delete_segment(store, &handle, segment),
-        Call::Read { segment, handle } => read(&memory[part(store, &handle, segment)], buffer),
-        Call::Write { segment, handle } => {
-            write(&mut memory[part(store, &handle, segment)], buffer)
+        } => {
+            let width = Width::of_segments(width).expect("row 3 refuses every other width");
+            new_cluster(store, (node as usize, local as usize), width, [read, write])
         }
-        Call::Weaken { mask, handle } => weaken(handle, mask),
-        Call::Reduce { handle, .. } => reduce(store, call, handle),
-        Call::NewPassword {
-            handle, password, ..
-        } => new_password(store, call, handle, password),
-        Call::Freeze {
-            segment, handle, ..
-        } => freeze(store, &handle, segment),
-        Call::Join { handle, other, .. } => join(store, call, handle, &other),
-        Call::Look {
-            segment, handle, ..
-        } => look(part(store, &handle, segment)),
+        Call::DeleteCluster { .. } => delete_cluster(store, &handle()),
+        Call::NewSegment { segment, size, .. } => {
+            new_segment(store, memory, segment, size as usize, &handle())
+        }
+        Call::DeleteSegment { segment, .. } => delete_segment(store, &handle(), segment),
+        Call::Read { segment, .. } => read(&memory[part(store, &handle(), segment)], buffer),
+        Call::Write { segment, .. } => write(&mut memory[part(store, &handle(), segment)], buffer),
+        Call::Weaken { mask, .. } => weaken(handle(), mask),
+        Call::Reduce { .. } => reduce(store, call, handle()),
+        Call::NewPassword { password, .. } => new_password(store, call, handle(), password),
+        Call::Freeze { segment, .. } => freeze(store, &handle(), segment),
+        Call::Join { .. } => join(store, call, handle(), &handle()),
+        Call::Look { segment, .. } => look(part(store, &handle(), segment)),
         Call::Validate { .. } => Reply::DONE,
     }
 }
@@ -84,18 +78,18 @@ fn part(store: &Store, handle: &Handle, segment: u32) -> Range<usize> {
 
 fn new_cluster(
     store: &mut Store,
-    node: usize,
-    local: usize,
-    read: Password,
-    write: Password,
+    (node, local): (usize, usize),
+    width: Width,
+    [read, write]: [Password; 2],
 ) -> Reply {
     store.clusters[node][local] = Cluster {
         active: true,
+        width: width.number(),
         read,
         write,
         ..Cluster::INACTIVE
     };
-    let primary = |password| Handle::primary(node as u16, local as u8, password).to_bytes();
+    let primary = |password| Handle::primary(width, node as u16, local as u8, password).to_bytes();
     Reply {
         first: primary(read),
         second: primary(write),
@@ -157,7 +151,7 @@ fn look(part: Range<usize>) -> Reply {
     }
 }
 
-fn weaken(handle: Handle, mask: u8) -> Reply {
+fn weaken(handle: Handle, mask: u16) -> Reply {
     let weaker = handle
         .weaken(mask)
         .expect("rows 21 and 17 refuse what cannot be weakened");

@@ -2,7 +2,7 @@
 //! still done with a handle that references none. What is made by chance has to come to each.
 
 use crate::call::Call;
-use crate::handle::{Handle, FLAT};
+use crate::handle::Handle;
 use crate::table::{DONE, EMPTY, GAPPED, NO_SUCH_PLACE};
 
 #[derive(Clone, Copy, Debug, PartialEq, Eq, PartialOrd, Ord)]
@@ -11,7 +11,7 @@ pub enum Way {
     AllTaken,
     /// The same where none is flat: 21 comes before 17.
     AllTakenNoneFlat,
-    /// 21 by mask 255: the handle references nothing, and a subselector is flat.
+    /// 21 by a mask with all bits of the width: the handle references nothing, and a subselector is flat.
     NothingThere,
     /// The same where none is flat.
     NothingThereNoneFlat,
@@ -48,25 +48,27 @@ impl Way {
     /// The way that a call which came to `number` has gone, if it is one.
     pub fn of(call: &Call, number: u8) -> Option<Way> {
         let references_nothing = |handle: &Handle| handle.selector.count() == 0;
+        let handle = call.handle()?;
         match call {
-            Call::Weaken { mask, handle } => Way::of_weakening(handle, *mask, number),
-            Call::Reduce { handle, .. } if references_nothing(handle) && number == DONE => {
+            Call::Weaken { mask, .. } => Way::of_weakening(&handle, *mask, number),
+            Call::Reduce { .. } if references_nothing(&handle) && number == DONE => {
                 Some(Way::Reduced)
             }
-            Call::Validate { handle, .. } if references_nothing(handle) && number == DONE => {
+            Call::Validate { .. } if references_nothing(&handle) && number == DONE => {
                 Some(Way::Validated)
             }
             _ => None,
         }
     }
 
-    fn of_weakening(handle: &Handle, mask: u8, number: u8) -> Option<Way> {
+    fn of_weakening(handle: &Handle, mask: u16, number: u8) -> Option<Way> {
+        let has_all_bits = mask | !handle.width().flat() == u16::MAX;
         let none_flat = handle.selector.first_flat().is_none();
         let (referenced, left) = (handle.selector.count(), handle.kept(mask).count_ones());
         match (number, referenced, left) {
             (NO_SUCH_PLACE, _, 0) => Some(Way::NowhereFirst),
             (GAPPED, _, 0) => Some(Way::GappedFirst),
-            (EMPTY, 0, _) if mask != FLAT => None,
+            (EMPTY, 0, _) if !has_all_bits => None,
             (EMPTY, 0, _) if none_flat => Some(Way::NothingThereNoneFlat),
             (EMPTY, 0, _) => Some(Way::NothingThere),
             (EMPTY, ..) if none_flat => Some(Way::AllTakenNoneFlat),

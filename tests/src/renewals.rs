@@ -85,7 +85,7 @@ impl Renewal {
         }
         let opens_both = Mode::ALL
             .iter()
-            .all(|mode| handle.validates(cluster.primary(*mode)));
+            .all(|mode| handle.validates(cluster, *mode));
         let by = used(call).filter(|_| number == DONE && opens_both)?;
         match handle.selector.is_primary() {
             true => Some(Renewal::ByPrimary(by)),

@@ -1,12 +1,13 @@
 //! The records of all clusters, when they are sound, and where a new segment goes.
 //!
 //! The types hold damaged stores too: any base, any length, a mark on an absent segment, an inactive
-//! cluster with secrets.
+//! cluster with secrets, any width.
 
 use crate::handle::Password;
 use crate::sizes::{
     CLUSTERS, MEMORY_BYTES, NODES, NODE_BYTES, NODE_SEGMENTS, PASSWORD_BYTES, SEGMENTS,
 };
+use crate::width::Width;
 use std::ops::Range;
 
 /// Where a segment is in its node's memory, if it is there.
@@ -124,6 +125,8 @@ impl Mode {
 #[derive(Clone, Copy, Debug, PartialEq, Eq)]
 pub struct Cluster {
     pub active: bool,
+    /// How many segments it has; 0 where it is inactive.
+    pub width: u8,
     pub read: Password,
     pub write: Password,
     pub segments: [Segment; SEGMENTS],
@@ -133,24 +136,42 @@ impl Cluster {
     /// A cluster as it is in the starting store.
     pub const INACTIVE: Cluster = Cluster {
         active: false,
+        width: 0,
         read: [0; PASSWORD_BYTES],
         write: [0; PASSWORD_BYTES],
         segments: [Segment::ABSENT; SEGMENTS],
     };
 
     pub fn has_segments(&self) -> bool {
-        self.segments.iter().any(Segment::is_present)
+        any_present(&self.segments)
     }
 
     pub fn has_frozen(&self) -> bool {
         self.segments.iter().any(|segment| segment.frozen)
     }
 
-    /// An inactive cluster keeps no passwords and no segments.
+    /// The width, where it is one that an active cluster may have.
+    pub fn known_width(&self) -> Option<Width> {
+        Width::of_segments(self.width.into())
+    }
+
+    pub fn has_width(&self, width: Width) -> bool {
+        self.known_width() == Some(width)
+    }
+
+    /// An active cluster has one of the three widths, and no segment at or above it. An inactive one has
+    /// width 0, and keeps no passwords and no segments.
     fn is_sound(&self) -> bool {
         let zero = [0; PASSWORD_BYTES];
-        let keeps_nothing = self.read == zero && self.write == zero && !self.has_segments();
-        (self.active || keeps_nothing) && self.segments.iter().all(Segment::is_sound)
+        let fits = match (self.active, self.known_width()) {
+            (true, Some(width)) => !any_present(&self.segments[width.segments()..]),
+            (true, None) => false,
+            (false, _) => {
+                let keeps_nothing = self.read == zero && self.write == zero;
+                self.width == 0 && keeps_nothing && !self.has_segments()
+            }
+        };
+        fits && self.segments.iter().all(Segment::is_sound)
     }
 
     /// Whether it is active and one handle opens both its modes: call 1 makes no such cluster, but
@@ -247,6 +268,10 @@ impl Store {
         }
         (NODE_BYTES - base >= size).then_some(base)
     }
+}
+
+fn any_present(segments: &[Segment]) -> bool {
+    segments.iter().any(Segment::is_present)
 }
 
 fn node_is_sound(clusters: &[Cluster; CLUSTERS]) -> bool {

@@ -1,37 +1,53 @@
-//! Freezing: the mark and nothing else, the numbers of call 10, and 22 for calls 2, 4 and 6 at its two places.
+//! Freezing: the mark and nothing else, and 22 for calls 2, 4 and 6 at its two places.
 
 mod support;
 
 use model::call::{Call, Reply};
-use model::handle::Handle;
+use model::handle::{Handle, Width};
 use model::sizes::{MEMORY_BYTES, NODES};
-use model::store::{Cluster, Segment};
+use model::store::Segment;
 use model::table::{numbers_of_calls, word};
-use support::faults::{self, Faulty, Kind, LOCAL, NODE, SEGMENT};
 use support::*;
 
-/// Cluster 2 of node 0 with all eight segments, of four bytes each, those of `marks` frozen.
-fn bench(marks: u8) -> Bench {
-    let mut bench = Bench::with_cluster();
-    for segment in 0..8 {
-        assert_eq!(bench.number(new_segment(segment, 4)), 0);
-        assert_eq!(bench.write(segment, b"abcd", writer()), 0);
+/// Cluster 2 of node 0 with all segments of its width, of four bytes each, those of `marks` frozen.
+fn bench_of(width: Width, marks: u16) -> Bench {
+    let mut bench = Bench::with_cluster_of(width);
+    for segment in segments(width) {
+        assert_eq!(bench.number(new_segment_of(width, segment, 4)), 0);
+        assert_eq!(bench.write(segment, b"abcd", writer_of(width)), 0);
     }
-    for segment in (0..8).filter(|segment| marks >> segment & 1 == 1) {
-        assert_eq!(bench.reply(freeze(segment)), Reply::DONE);
+    for segment in segments(width).filter(|segment| marks >> segment & 1 == 1) {
+        assert_eq!(bench.reply(freeze_of(width, segment)), Reply::DONE);
     }
     bench
 }
 
+fn bench(marks: u16) -> Bench {
+    bench_of(Width::Eight, marks)
+}
+
+/// Every set of segments at widths 4 and 8; at width 16 each alone, all but each, and some others.
+fn marks(width: Width) -> Vec<u16> {
+    if width != Width::Sixteen {
+        return (0..=width.flat()).collect();
+    }
+    let alone = (0..16).flat_map(|bit| [1 << bit, !(1 << bit)]);
+    let others = (0..20).map(|at| 0x9e37_u16.wrapping_mul(at));
+    alone.chain(others).chain([0xffff]).collect()
+}
+
 fn delete_cluster(handle: Handle) -> Call {
-    Call::DeleteCluster { node: 0, handle }
+    Call::DeleteCluster {
+        node: 0,
+        handle: handle.into(),
+    }
 }
 
 fn freeze_by(node: u32, segment: u32, handle: Handle) -> Call {
     Call::Freeze {
         node,
         segment,
-        handle,
+        handle: handle.into(),
     }
 }
 
@@ -39,7 +55,7 @@ fn freeze_by(node: u32, segment: u32, handle: Handle) -> Call {
 fn its_word_and_its_places() {
     assert_eq!(word(22), Some("frozen"));
     let places = [
-        1, 2, 3, 4, 24, 5, 6, 7, 8, 9, 23, 10, 22, 11, 12, 13, 14, 22, 15, 16, 21, 17,
+        25, 1, 2, 3, 4, 24, 5, 6, 7, 8, 25, 9, 23, 10, 22, 11, 12, 13, 14, 22, 15, 16, 21, 17,
     ];
     assert!(numbers_of_calls().eq(places));
 }
@@ -48,25 +64,29 @@ fn its_word_and_its_places() {
 
 #[test]
 fn the_mark_and_nothing_else() {
-    for segment in 0..8 {
-        let mut bench = bench(0);
-        let mut expected = bench.clone();
-        expected.store.clusters[0][2].segments[segment].frozen = true;
-        let mut buffer = [0xee; 3];
-        let reply = bench.ask(freeze(segment as u32), &mut buffer);
-        assert_eq!((reply, buffer), (Reply::DONE, [0xee; 3]));
-        assert_eq!(bench, expected);
+    for width in Width::ALL {
+        for segment in segments(width) {
+            let mut bench = bench_of(width, 0);
+            let mut expected = bench.clone();
+            expected.store.clusters[0][2].segments[segment as usize].frozen = true;
+            let mut buffer = [0xee; 3];
+            let reply = bench.ask(freeze_of(width, segment), &mut buffer);
+            assert_eq!((reply, buffer), (Reply::DONE, [0xee; 3]));
+            assert_eq!(bench, expected);
+        }
     }
 }
 
 #[test]
 fn twice_is_done_and_alters_nothing() {
-    for marks in 0..=255 {
-        let mut bench = bench(marks);
-        let before = bench.clone();
-        for segment in (0..8).filter(|segment| marks >> segment & 1 == 1) {
-            assert_eq!(bench.reply(freeze(segment)), Reply::DONE);
-            assert_eq!(bench, before);
+    for width in Width::ALL {
+        for marks in marks(width) {
+            let mut bench = bench_of(width, marks);
+            let before = bench.clone();
+            for segment in segments(width).filter(|segment| marks >> segment & 1 == 1) {
+                assert_eq!(bench.reply(freeze_of(width, segment)), Reply::DONE);
+                assert_eq!(bench, before);
+            }
         }
     }
 }
@@ -92,23 +112,23 @@ fn new_ones_are_not_frozen() {
 fn everything_else_is_as_with_any_other() {
     let (mut frozen, mut free) = (bench(0xff), bench(0));
     let weaker = reader().weaken(0x11).unwrap();
-    let renewed = |mode, handle| Call::NewPassword {
+    let renewed = |mode, handle: Handle| Call::NewPassword {
         mode,
-        handle,
+        handle: handle.into(),
         password: [0x33; 16],
     };
     let calls = [
         Call::Reduce {
             mode: READ_MODE,
-            handle: weaker,
+            handle: weaker.into(),
         },
         Call::Validate {
             mode: WRITE_MODE,
-            handle: writer(),
+            handle: writer().into(),
         },
         Call::Weaken {
             mask: 0x0f,
-            handle: weaker,
+            handle: weaker.into(),
         },
         new_segment(4, 4096),
         new_segment(4, 0),
@@ -122,11 +142,11 @@ fn everything_else_is_as_with_any_other() {
         }
     }
     for call in calls {
-        assert_eq!(frozen.reply(call), free.reply(call), "{call:?}");
+        assert_eq!(frozen.reply(&call), free.reply(&call), "{call:?}");
     }
     for (mode, handle) in [(READ_MODE, reader()), (WRITE_MODE, writer())] {
         let mut revoked = frozen.clone();
-        let given = Reply::with_handle(&Handle::primary(0, 2, [0x33; 16]));
+        let given = Reply::with_handle(&Handle::primary(Width::Eight, 0, 2, [0x33; 16]));
         assert_eq!(revoked.reply(renewed(mode, handle)), given);
         let [before, after] = [&frozen, &revoked].map(|bench| bench.store.clusters[0][2].segments);
         assert_eq!(after, before);
@@ -135,71 +155,31 @@ fn everything_else_is_as_with_any_other() {
 
 // The numbers.
 
-/// What a call leaves that nothing speaks against.
-fn done(faulty: &Faulty, kind: Kind, buffer: &[u8]) -> Bench {
-    let mut bench = put_to(faulty);
-    let segment = &mut bench.store.clusters[NODE][LOCAL].segments[SEGMENT];
-    match kind {
-        Kind::Freeze => segment.frozen = true,
-        Kind::DeleteSegment => *segment = Segment::ABSENT,
-        Kind::DeleteCluster => bench.store.clusters[NODE][LOCAL] = Cluster::INACTIVE,
-        Kind::Write => bench.memory[8292..8296].copy_from_slice(&buffer[..4]),
-        Kind::Look => {}
-    }
-    bench
-}
-
-fn put_to(faulty: &Faulty) -> Bench {
-    Bench {
-        store: faulty.store.clone(),
-        memory: vec![0x77; faulty.memory_bytes],
-    }
-}
-
-/// Every set of faults that can meet: alone each gives its number, and of several the first is given.
-#[test]
-fn numbers_in_their_order() {
-    let kinds = [
-        (Kind::DeleteCluster, 256),
-        (Kind::DeleteSegment, 768),
-        (Kind::Write, 768),
-        (Kind::Freeze, 1024),
-    ];
-    for (kind, count) in kinds {
-        for faulty in faults::all(kind) {
-            let (mut bench, mut buffer) = (put_to(&faulty), vec![0xee; faulty.buffer_bytes]);
-            let expected = match faulty.number() {
-                0 => done(&faulty, kind, &buffer),
-                _ => put_to(&faulty),
-            };
-            let reply = bench.ask(faulty.call, &mut buffer);
-            assert_eq!(reply, Reply::refused(faulty.number()), "{faulty:?}");
-            assert!(bench == expected, "{faulty:?}");
-            assert_eq!(buffer, vec![0xee; faulty.buffer_bytes]);
-        }
-        assert_eq!(faults::all(kind).count(), count, "{kind:?}");
-    }
-}
-
-/// Whichever they are, one of them is enough; what is not primary is told first.
+/// Whichever they are, one of them is enough; what is not primary is told first, and another width before that.
 #[test]
 fn no_cluster_is_deleted_of_which_any_segment_is_frozen() {
-    let weaker = writer().weaken(0xfe).unwrap();
-    let forged = Handle {
-        password: WRITE_SECRET,
-        ..weaker
-    };
-    for marks in 0..=255 {
-        let mut bench = bench(marks);
-        let before = bench.clone();
-        assert_eq!(bench.number(delete_cluster(reader())), 9);
-        assert_eq!(bench.number(delete_cluster(forged)), 9);
-        assert_eq!(bench.number(delete_cluster(weaker)), 10);
-        if marks != 0 {
-            assert_eq!(bench.reply(delete_cluster(writer())), Reply::refused(22));
-            assert_eq!(bench, before);
-        } else {
-            assert_eq!(bench.number(delete_cluster(writer())), 0);
+    for width in Width::ALL {
+        let weaker = writer_of(width).weaken(!1).unwrap();
+        let forged = Handle {
+            password: WRITE_SECRET,
+            ..weaker
+        };
+        for marks in marks(width) {
+            let mut bench = bench_of(width, marks);
+            let before = bench.clone();
+            for other in others(width) {
+                assert_eq!(bench.number(delete_cluster(writer_of(other))), 25);
+            }
+            assert_eq!(bench.number(delete_cluster(reader_of(width))), 9);
+            assert_eq!(bench.number(delete_cluster(forged)), 9);
+            assert_eq!(bench.number(delete_cluster(weaker)), 10);
+            let delete = delete_cluster(writer_of(width));
+            if marks != 0 {
+                assert_eq!(bench.reply(delete), Reply::refused(22));
+                assert_eq!(bench, before);
+            } else {
+                assert_eq!(bench.number(delete), 0);
+            }
         }
     }
 }
@@ -209,18 +189,29 @@ fn a_frozen_segment_elsewhere_does_not_keep_a_cluster() {
     let mut bench = bench(0xff);
     for (node, local) in [(0, 3), (1, 2)] {
         assert_eq!(bench.number(new_cluster(node, local)), 0);
-        let handle = Handle::primary(node as u16, local as u8, WRITE_SECRET);
-        assert_eq!(bench.number(Call::DeleteCluster { node, handle }), 0);
+        let handle = Handle::primary(Width::Eight, node as u16, local as u8, WRITE_SECRET);
+        assert_eq!(
+            bench.number(Call::DeleteCluster {
+                node,
+                handle: handle.into()
+            }),
+            0
+        );
     }
 }
 
 #[test]
 fn each_segment_by_its_own_mark() {
-    for marks in 0..=255 {
-        for segment in 0..8 {
-            let number = if marks >> segment & 1 == 1 { 22 } else { 0 };
-            assert_eq!(bench(marks).number(delete_segment(segment)), number);
-            assert_eq!(bench(marks).write(segment, b"efgh", writer()), number);
+    for width in Width::ALL {
+        for marks in marks(width) {
+            let bench = bench_of(width, marks);
+            for segment in segments(width) {
+                let number = if marks >> segment & 1 == 1 { 22 } else { 0 };
+                let delete = delete_segment_of(width, segment);
+                assert_eq!(bench.clone().number(delete), number);
+                let written = bench.clone().write(segment, b"efgh", writer_of(width));
+                assert_eq!(written, number);
+            }
         }
     }
 }
@@ -255,7 +246,7 @@ fn arguments_out_of_range() {
     for node in [4, 5, 255, 256, 65_536, u32::MAX] {
         assert_eq!(bench.number(freeze_by(node, 8, writer())), 2, "{node}");
     }
-    let at = |node, local| Handle::primary(node, local, WRITE_SECRET);
+    let at = |node, local| Handle::primary(Width::Eight, node, local, WRITE_SECRET);
     for handle in [at(4, 2), at(256, 2), at(0x8000, 2), at(0, 8), at(0, 255)] {
         assert_eq!(bench.number(freeze_by(0, 8, handle)), 2, "{handle:?}");
     }
@@ -265,7 +256,7 @@ fn arguments_out_of_range() {
     for node in 1..NODES as u32 {
         assert_eq!(bench.number(freeze_by(node, 5, writer())), 5);
     }
-    let zero = Handle::primary(0, 3, [0; 16]);
+    let zero = Handle::primary(Width::Eight, 0, 3, [0; 16]);
     assert_eq!(bench.number(freeze_by(0, 5, zero)), 8);
     assert_eq!(bench.number(freeze_by(0, 5, reader())), 9);
     assert!(!bench.store.clusters[0][2].has_frozen());

@@ -1,6 +1,6 @@
 //! The header's numbers are those of the table, in its order and with its words.
 
-use model::table::{numbers_of_calls, word, DONE, FROZEN};
+use model::table::{numbers_of_calls, word, DONE, FROZEN, LENGTH};
 
 const HEADER: &str = include_str!("../../include/gelmuszta.h");
 
@@ -16,12 +16,17 @@ fn lines() -> impl Iterator<Item = (&'static str, u8, Option<&'static str>)> {
     })
 }
 
-/// The table's order, in which 22 alone has two places; an enumeration has a number once, and this one has it
+/// The table's order, in which 22 and 25 have two places; an enumeration has a number once, and this one has it
 /// at the first of them.
 fn expected() -> Vec<u8> {
     let mut numbers: Vec<u8> = [DONE].into_iter().chain(numbers_of_calls()).collect();
-    let second = numbers.iter().rposition(|&number| number == FROZEN);
-    numbers.remove(second.expect("22 has its places"));
+    for twice in [FROZEN, LENGTH] {
+        let places: Vec<usize> = (0..numbers.len())
+            .filter(|&at| numbers[at] == twice)
+            .collect();
+        assert_eq!(places.len(), 2, "{twice}");
+        numbers.remove(places[1]);
+    }
     numbers
 }
 
@@ -29,8 +34,9 @@ fn expected() -> Vec<u8> {
 fn numbers_in_the_table_s_order() {
     let numbers: Vec<u8> = lines().map(|(_, number, _)| number).collect();
     assert_eq!(numbers, expected());
-    assert_eq!(numbers[4..6], [4, 24]);
-    assert_eq!(numbers[10..14], [9, 23, 10, 22]);
+    assert_eq!(numbers[..3], [0, 25, 1]);
+    assert_eq!(numbers[5..7], [4, 24]);
+    assert_eq!(numbers[10..15], [8, 9, 23, 10, 22]);
     assert_eq!(numbers[numbers.len() - 3..], [16, 21, 17]);
 }
 
@@ -51,6 +57,7 @@ fn words_and_names() {
         ("GELMUSZTA_FROZEN", 22, "frozen, "),
         ("GELMUSZTA_WHOLE", 23, "whole, 11: "),
         ("GELMUSZTA_APART", 24, "apart, 11: "),
+        ("GELMUSZTA_LENGTH", 25, "length, "),
     ] {
         let line = lines().find(|line| line.0 == name);
         assert!(line.is_some_and(|(_, found, comment)| {

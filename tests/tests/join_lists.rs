@@ -3,7 +3,7 @@
 
 mod support;
 
-use model::handle::{Handle, Selector};
+use model::handle::Handle;
 use model::hexadecimal::encode;
 use model::list::{output, request, Record, Request, RECORD_BYTES};
 use support::*;
@@ -36,7 +36,7 @@ fn line(record: Record) -> String {
     lines(&[record]).swap_remove(0)
 }
 
-fn weaker(mask: u8) -> Handle {
+fn weaker(mask: u16) -> Handle {
     reader().weaken(mask).unwrap()
 }
 
@@ -61,7 +61,7 @@ fn a_refusal_stops_at_the_number() {
     let (one, two) = (weaker(0x07), weaker(0x18));
     let nowhere = Handle { node: 4, ..two };
     let gapped = Handle {
-        selector: Selector([255, 0x18, 255, 255]),
+        selector: eight([255, 0x18, 255, 255]),
         ..two
     };
     let apart = Handle { local: 3, ..two };

@@ -3,19 +3,18 @@
 mod support;
 
 use model::call::{Call, Part, Reply};
-use model::handle::{Handle, Selector};
+use model::handle::{Handle, Selector, Width};
 use model::list::{request, Request, CODE_AT, RECORD_BYTES};
 use model::random::Random;
 use model::sizes::{MEMORY_BYTES, NODES, NODE_BYTES};
 use model::store::{Cluster, Segment};
-use support::faults::{self, Kind};
 use support::*;
 
 fn look(node: u32, segment: u32, handle: Handle) -> Call {
     Call::Look {
         node,
         segment,
-        handle,
+        handle: handle.into(),
     }
 }
 
@@ -27,13 +26,14 @@ fn shown(from: usize, length: usize) -> Reply {
 }
 
 /// The node's cluster 2 with these segments, a base and a length each, in a memory of bytes by chance.
-fn bench(node: usize, segments: &[(u16, u16)]) -> Bench {
+fn bench(width: Width, node: usize, segments: &[(u16, u16)]) -> Bench {
     let mut bench = Bench::starting();
     let mut random = Random::from_seed(1);
     bench.memory.fill_with(|| random.byte());
     let cluster = &mut bench.store.clusters[node][2];
     *cluster = Cluster {
         active: true,
+        width: width.number(),
         read: READ_SECRET,
         write: WRITE_SECRET,
         ..Cluster::INACTIVE
@@ -46,11 +46,15 @@ fn bench(node: usize, segments: &[(u16, u16)]) -> Bench {
 
 #[test]
 fn the_segment_and_where_it_is() {
-    let mut bench = Bench::with_segment();
-    assert_eq!(bench.reply(look(0, 5, reader())), shown(0, 4));
-    assert_eq!(bench.look(0, 5, reader()), Ok(b"abcd".to_vec()));
-    assert_eq!(bench.number(new_segment(0, 9)), 0);
-    assert_eq!(bench.reply(look(0, 0, reader())), shown(4, 9));
+    for width in Width::ALL {
+        let mut bench = Bench::with_segment_of(width);
+        let (reader, segment) = (reader_of(width), own(width));
+        assert_eq!(bench.reply(look(0, segment, reader)), shown(0, 4));
+        assert_eq!(bench.look(0, segment, reader), Ok(b"abcd".to_vec()));
+        let last = u32::from(width.number()) - 1;
+        assert_eq!(bench.number(new_segment_of(width, last, 9)), 0);
+        assert_eq!(bench.reply(look(0, last, reader)), shown(4, 9));
+    }
 }
 
 /// Of one byte, of all bytes, at either end, in each node; what lies beside it is not shown.
@@ -66,9 +70,9 @@ fn all_of_the_segment_and_no_other_byte() {
         (4095, 1),
     ];
     for node in 0..NODES {
-        let handle = Handle::primary(node as u16, 2, READ_SECRET);
+        let handle = Handle::primary(Width::Eight, node as u16, 2, READ_SECRET);
         for (base, length) in extents {
-            let mut bench = bench(node, &[(base, length)]);
+            let mut bench = bench(Width::Eight, node, &[(base, length)]);
             let (base, length) = (usize::from(base), usize::from(length));
             let from = node * 4096 + base;
             assert_eq!(
@@ -79,25 +83,31 @@ fn all_of_the_segment_and_no_other_byte() {
             assert_eq!(bench.look(node as u32, 0, handle), Ok(expected));
         }
     }
-    let last = bench(3, &[(4095, 1)]).reply(look(3, 0, Handle::primary(3, 2, READ_SECRET)));
+    let last = bench(Width::Eight, 3, &[(4095, 1)]).reply(look(
+        3,
+        0,
+        Handle::primary(Width::Eight, 3, 2, READ_SECRET),
+    ));
     assert_eq!(last.shown.from + last.shown.length, MEMORY_BYTES);
 }
 
 /// Primary, weakened once to four times, reduced, to nothing, and some that do not validate.
-fn handles(node: u16) -> Vec<Handle> {
-    let mut handles = Vec::new();
+fn handles(width: Width, node: u16) -> Vec<Handle> {
+    let (mut handles, flat) = (Vec::new(), width.flat());
     for secret in [READ_SECRET, WRITE_SECRET] {
-        let mut handle = Handle::primary(node, 2, secret);
+        let mut handle = Handle::primary(width, node, 2, secret);
         handles.push(handle);
-        for mask in [0xfe, 0x7f, 0xf7, 0xcf] {
+        // Without segment 0, without the last, and without others where there are.
+        for mask in [flat - 1, flat >> 1, !8 | 4, !0x30 | 4] {
             handle = handle.weaken(mask).expect("one is flat");
             handles.push(handle);
             handles.push(handle.reduce(&secret));
             handles.push(handle.reduce(&[7; 16]));
         }
-        let nothing = Selector([0xf0, 0x0f, 255, 255]);
+        let nothing = Selector::new(width, [0b1100, 0b0011, flat, flat]);
         handles.push(Handle::converted(node, 2, &secret, nothing));
-        handles.push(Handle::primary(node, 3, secret));
+        handles.push(Handle::primary(width, node, 3, secret));
+        handles.extend(others(width).map(|other| Handle::primary(other, node, 2, secret)));
     }
     handles
 }
@@ -113,51 +123,58 @@ fn what_a_read_gives() {
         (8, 92),
         (1000, 3000),
     ];
-    let mut done = 0;
-    for node in 0..NODES {
-        let mut bench = bench(node, &segments);
-        for handle in handles(node as u16) {
-            for segment in 0..9 {
-                let looked = bench.look(node as u32, segment, handle);
-                done += usize::from(looked.is_ok());
-                assert_eq!(looked, bench.read(segment, handle), "{handle:?} {segment}");
+    // Of four segments or six, the primary handle references all, the weakened ones with their reductions fewer.
+    let done_by = [
+        (Width::Four, 4 + 2 * (3 + 2 + 2 + 2)),
+        (Width::Eight, 6 + 2 * (5 + 5 + 4 + 2)),
+        (Width::Sixteen, 6 + 2 * (5 + 5 + 4 + 2)),
+    ];
+    for (width, expected) in done_by {
+        let mut done = 0;
+        for node in 0..NODES {
+            let mut bench = bench(width, node, &segments[..width.segments().min(6)]);
+            for handle in handles(width, node as u16) {
+                for segment in 0..18 {
+                    let looked = bench.look(node as u32, segment, handle);
+                    done += usize::from(looked.is_ok());
+                    assert_eq!(looked, bench.read(segment, handle), "{handle:?} {segment}");
+                }
             }
         }
+        assert_eq!(done, NODES * expected, "{width:?}");
     }
-    // Of six segments, the primary handle references all, and the weakened ones with their reductions 5, 5, 4 and 2.
-    assert_eq!(done, NODES * (6 + 2 * (5 + 5 + 4 + 2)));
+}
+
+/// Each segment of a cluster of sixteen, and of one of four.
+#[test]
+fn every_segment_of_the_width() {
+    for width in Width::ALL {
+        let extents: Vec<(u16, u16)> = (0..width.number())
+            .map(|at| (4090 - 7 * u16::from(at), 1 + u16::from(at % 7)))
+            .collect();
+        let mut bench = bench(width, 2, &extents);
+        let handle = Handle::primary(width, 2, 2, READ_SECRET);
+        for (segment, (base, length)) in extents.iter().enumerate() {
+            let from = 2 * NODE_BYTES + usize::from(*base);
+            let reply = bench.reply(look(2, segment as u32, handle));
+            assert_eq!(reply, shown(from, (*length).into()));
+        }
+        for segment in [u32::from(width.number()), 16, 20] {
+            assert_eq!(bench.look(2, segment, handle), Err(3));
+        }
+    }
 }
 
 #[test]
 fn whatever_the_buffer() {
-    let mut bench = bench(1, &[(10, 100)]);
-    let handle = Handle::primary(1, 2, READ_SECRET);
+    let mut bench = bench(Width::Sixteen, 1, &[(10, 100)]);
+    let handle = Handle::primary(Width::Sixteen, 1, 2, READ_SECRET);
     for bytes in [0, 1, 99, 100, 101, NODE_BYTES] {
         let mut buffer = vec![0xee; bytes];
         let reply = bench.ask(look(1, 0, handle), &mut buffer);
         assert_eq!(reply, shown(NODE_BYTES + 10, 100));
         assert_eq!(buffer, vec![0xee; bytes]);
     }
-}
-
-/// Every set of faults: alone each gives its number, and of several the first is given.
-#[test]
-fn numbers_in_their_order() {
-    for faulty in faults::all(Kind::Look) {
-        let mut bench = Bench {
-            store: faulty.store.clone(),
-            memory: vec![0x77; faulty.memory_bytes],
-        };
-        let expected = match faulty.number() {
-            0 => shown(2 * 4096 + 100, 4),
-            number => Reply::refused(number),
-        };
-        assert_eq!(bench.reply(faulty.call), expected, "{:?}", faulty.faults);
-        assert_eq!(bench.store, faulty.store);
-        assert!(bench.memory == vec![0x77; faulty.memory_bytes]);
-    }
-    // Each with the segment frozen and not.
-    assert_eq!(faults::all(Kind::Look).count(), 2 * 512);
 }
 
 #[test]
@@ -167,7 +184,7 @@ fn no_such_place_in_the_handle_or_the_call() {
         assert_eq!(bench.look(node, 5, reader()), Err(2), "{node}");
         assert_eq!(bench.look(node, 8, reader()), Err(2), "{node}");
     }
-    let at = |node, local| Handle::primary(node, local, READ_SECRET);
+    let at = |node, local| Handle::primary(Width::Eight, node, local, READ_SECRET);
     for handle in [at(4, 2), at(256, 2), at(0x8000, 2), at(0, 8), at(0, 255)] {
         let node = u32::from(handle.node);
         assert_eq!(bench.look(0, 5, handle), Err(2), "{handle:?}");
@@ -187,9 +204,9 @@ fn segments_above_7() {
 #[test]
 fn elsewhere_is_every_other_node() {
     for node in 0..NODES as u32 {
-        let mut bench = bench(node as usize, &[(0, 4)]);
-        let handle = Handle::primary(node as u16, 2, READ_SECRET);
-        let unknown = Handle::primary(node as u16, 2, [9; 16]);
+        let mut bench = bench(Width::Four, node as usize, &[(0, 4)]);
+        let handle = Handle::primary(Width::Four, node as u16, 2, READ_SECRET);
+        let unknown = Handle::primary(Width::Four, node as u16, 2, [9; 16]);
         for current in 0..NODES as u32 {
             let (known, other) = match current == node {
                 true => (None, Err(9)),
@@ -217,7 +234,7 @@ fn by_read_handles_alone() {
 #[test]
 fn a_zero_password_opens_no_inactive_cluster() {
     let mut bench = Bench::starting();
-    let zero = Handle::primary(0, 2, [0; 16]);
+    let zero = Handle::primary(Width::Eight, 0, 2, [0; 16]);
     for segment in 0..8 {
         assert_eq!(bench.look(0, segment, zero), Err(8));
     }
@@ -247,7 +264,7 @@ fn what_the_calls_before_it_left() {
     assert_eq!(bench.look(0, 6, reader()), Ok(vec![0; 3]));
     let renew = Call::NewPassword {
         mode: READ_MODE,
-        handle: reader(),
+        handle: reader().into(),
         password: [0x33; 16],
     };
     assert_eq!(bench.number(renew), 0);

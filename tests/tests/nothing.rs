@@ -4,20 +4,29 @@
 mod support;
 
 use model::call::{Call, Reply};
-use model::handle::{convert, Handle, Selector};
+use model::handle::{convert, Handle, Selector, Width};
+use model::random::Random;
 use model::table::word;
-use support::naive::{has, number, referenced_and_kept, selectors};
+use support::naive::{flat, has, number, referenced_and_kept, sets};
 use support::*;
 
 const EMPTY: u8 = 21;
 
 /// The read handle of [`Bench::with_segment`] with another selector, and the password that goes with it.
 fn handle(selector: u32) -> Handle {
-    Handle::converted(0, 2, &READ_SECRET, Selector(selector.to_be_bytes()))
+    Handle::converted(
+        0,
+        2,
+        &READ_SECRET,
+        eight(selector.to_be_bytes().map(u16::from)),
+    )
 }
 
-fn weaken(mask: u8, handle: Handle) -> Call {
-    Call::Weaken { mask, handle }
+fn weaken(mask: u16, handle: Handle) -> Call {
+    Call::Weaken {
+        mask,
+        handle: handle.into(),
+    }
 }
 
 /// Handles that reference nothing, with three flat subselectors to none.
@@ -82,94 +91,145 @@ fn no_such_place_and_gapped_come_before() {
 #[test]
 fn one_segment_kept_is_done_and_counted() {
     let mut bench = Bench::starting();
-    for segment in 0..8 {
-        let mask = 1 << segment;
-        let reply = bench.reply(weaken(mask, reader()));
-        let kept = Handle {
-            password: convert(&READ_SECRET, mask),
-            selector: Selector([mask, 255, 255, 255]),
-            ..reader()
-        };
-        let expected = Reply {
-            count: 1,
-            ..Reply::with_handle(&kept)
-        };
-        assert_eq!(reply, expected);
-        assert_eq!(bench.reply(weaken(mask, kept)), expected);
-        assert_eq!(bench.reply(weaken(!mask, kept)), Reply::refused(EMPTY));
+    for width in Width::ALL {
+        let flat = flat(width);
+        for segment in segments(width) {
+            let mask = 1 << segment;
+            let reply = bench.reply(weaken(mask, reader_of(width)));
+            let kept = Handle {
+                password: convert(&READ_SECRET, mask),
+                selector: Selector::new(width, [mask, flat, flat, flat]),
+                ..reader_of(width)
+            };
+            let expected = Reply {
+                count: 1,
+                ..Reply::with_handle(&kept)
+            };
+            assert_eq!(reply, expected);
+            assert_eq!(bench.reply(weaken(mask, kept)), expected);
+            assert_eq!(bench.reply(weaken(!mask, kept)), Reply::refused(EMPTY));
+        }
     }
 }
 
-/// Every mask and every set of referenced segments, with every number of flat subselectors.
+/// A mask whose bits are all at or above the width keeps nothing.
+#[test]
+fn upper_bits_keep_nothing() {
+    let mut bench = Bench::starting();
+    for width in [Width::Four, Width::Eight] {
+        for bit in u32::from(width.number())..16 {
+            let call = weaken(1 << bit, reader_of(width));
+            assert_eq!(bench.reply(call), Reply::refused(EMPTY));
+        }
+        let all = weaken(!flat(width), reader_of(width));
+        assert_eq!(bench.reply(all), Reply::refused(EMPTY));
+    }
+}
+
+/// Every mask of the width and every set of referenced segments, with every number of flat subselectors; many of them
+/// at width 16. The mask's upper bits are by chance.
 #[test]
 fn a_weakening_done_never_counts_0() {
-    let mut bench = Bench::starting();
-    let mut numbers = [0u32; 22];
-    for selector in selectors() {
-        let handle = Handle {
-            selector: Selector(selector),
-            ..reader()
-        };
-        for mask in 0..=255 {
-            let expected = number(selector, mask);
-            let reply = bench.reply(weaken(mask, handle));
-            assert_eq!(reply.number, expected, "{selector:?} {mask}");
-            numbers[usize::from(expected)] += 1;
-            if expected != 0 {
-                assert_eq!(reply, Reply::refused(expected));
-                continue;
+    let (mut bench, random) = (Bench::starting(), &mut Random::from_seed(1));
+    for width in Width::ALL {
+        let mut numbers = [0u32; 22];
+        for parts in sets(width) {
+            let handle = Handle {
+                selector: Selector::new(width, parts),
+                ..reader_of(width)
+            };
+            for low in 0..=flat(width).min(255) {
+                let mask = match width {
+                    Width::Sixteen => random.number() as u16 & random.number() as u16,
+                    _ => low | random.number() as u16 & !flat(width),
+                };
+                let expected = number(width, parts, mask);
+                let reply = bench.reply(weaken(mask, handle));
+                assert_eq!(reply.number, expected, "{parts:?} {mask}");
+                numbers[usize::from(expected)] += 1;
+                if expected != 0 {
+                    assert_eq!(reply, Reply::refused(expected));
+                    continue;
+                }
+                let (_, kept) = referenced_and_kept(width, parts, mask);
+                assert_ne!(reply.count, 0);
+                assert_eq!(reply.count, kept);
+                let given = given(&reply).selector.subselectors;
+                assert_eq!(referenced_and_kept(width, given, mask), (kept, kept));
             }
-            let (_, kept) = referenced_and_kept(selector, mask);
-            assert_ne!(reply.count, 0);
-            assert_eq!(reply.count, kept);
-            let given = Handle::from_bytes(&reply.first).selector.0;
-            assert_eq!(referenced_and_kept(given, mask), (kept, kept));
         }
+        // Four selectors for each set of segments but all of them, one for these; 3^4 or 3^8 pairs share nothing.
+        let (sets, segments) = (u32::from(flat(width)) + 1, u32::from(width.number()));
+        if width != Width::Sixteen {
+            assert_eq!(numbers.iter().sum::<u32>(), sets * (4 * (sets - 1) + 1));
+            assert_eq!(numbers[21], 4 * 3u32.pow(segments) - 3);
+        }
+        let spent = [(Width::Four, 96), (Width::Eight, 52_416)];
+        let spent = spent.iter().find(|(of, _)| *of == width);
+        assert!(
+            spent.is_none_or(|(_, count)| numbers[17] == *count),
+            "{numbers:?}"
+        );
+        assert!([0, 17, 21]
+            .iter()
+            .all(|&number: &usize| numbers[number] > 50));
     }
-    // Four selectors for each set of segments but all eight, one for these; 3^8 pairs of sets share nothing.
-    assert_eq!(numbers.iter().sum::<u32>(), 256 * (4 * 255 + 1));
-    assert_eq!(numbers[21], 4 * 3u32.pow(8) - 3);
-    assert_eq!(numbers[17], 52_416);
 }
 
 #[test]
 fn reduction_of_a_handle_that_references_nothing_is_done() {
-    let mut bench = Bench::with_segment();
-    let mut given = [0; 23];
-    given[2] = 2;
-    given[3..19].copy_from_slice(&convert(&READ_SECRET, 0));
-    given[20..].fill(255);
-    for handle in to_nothing() {
-        let before = bench.clone();
-        let mode = READ_MODE;
-        let reply = bench.reply(Call::Reduce { mode, handle });
-        let expected = Reply {
-            first: given,
-            ..Reply::DONE
-        };
-        assert_eq!(reply, expected);
-        assert_eq!(bench.reply(Call::Validate { mode, handle }), Reply::DONE);
-        assert_eq!(bench.number(Call::Reduce { mode: 2, handle }), 9);
-        assert_eq!(bench, before);
+    for width in Width::ALL {
+        let mut bench = Bench::with_segment_of(width);
+        let flat = flat(width);
+        let parts = [[0, flat, flat, flat], [0b0101, 0b1010, flat, flat], [0; 4]];
+        let mut first = vec![0xff; width.handle_bytes()];
+        (first[0], first[1], first[2]) = (0, 0, 2);
+        first[3..19].copy_from_slice(&convert(&READ_SECRET, 0));
+        // Subselector 0 is half a byte, a byte or two.
+        match width {
+            Width::Four => first[19] = 0xf0,
+            Width::Eight => first[19] = 0,
+            Width::Sixteen => first[19..21].fill(0),
+        }
+        for parts in parts {
+            let before = bench.clone();
+            let handle = Handle::converted(0, 2, &READ_SECRET, Selector::new(width, parts));
+            let reduce = |mode| Call::Reduce {
+                mode,
+                handle: handle.into(),
+            };
+            let expected = Reply {
+                first: first.clone(),
+                ..Reply::DONE
+            };
+            assert_eq!(bench.reply(reduce(READ_MODE)), expected);
+            let validate = Call::Validate {
+                mode: READ_MODE,
+                handle: handle.into(),
+            };
+            assert_eq!(bench.reply(validate), Reply::DONE);
+            assert_eq!(bench.number(reduce(WRITE_MODE)), 9);
+            assert_eq!(bench, before);
+        }
     }
 }
 
 #[test]
 fn other_calls_give_what_they_gave() {
     let mut bench = Bench::with_segment();
-    let write = |selector| Handle::converted(0, 2, &WRITE_SECRET, Selector(selector));
+    let write = |selector| Handle::converted(0, 2, &WRITE_SECRET, eight(selector));
     for reads in to_nothing() {
-        let writes = write(reads.selector.0);
+        let writes = write(reads.selector.subselectors);
         assert_eq!(bench.read(5, reads), Err(11));
         assert_eq!(bench.write(5, b"efgh", writes), 11);
         let delete = Call::DeleteCluster {
             node: 0,
-            handle: writes,
+            handle: writes.into(),
         };
         assert_eq!(bench.number(delete), 10);
         let renew = Call::NewPassword {
             mode: READ_MODE,
-            handle: reads,
+            handle: reads.into(),
             password: [0x33; 16],
         };
         assert_eq!(bench.number(renew), 10);

@@ -1,18 +1,23 @@
 //! Placement examples P10 to P14, and placement against its own definition.
 
+use model::handle::Width;
 use model::random::Random;
-use model::sizes::{MEMORY_BYTES, NODE_BYTES};
+use model::sizes::{CLUSTERS, MEMORY_BYTES, NODE_BYTES};
 use model::store::{Cluster, Extent, Segment, Store};
 
-/// A store whose node 0 has the given segments, in as many clusters as they need.
-fn store_with(extents: &[(u16, u16)]) -> Store {
+/// A store whose node 0 has the given segments, in as many clusters of the width as they need.
+fn store_of(width: Width, extents: &[(u16, u16)]) -> Store {
     let mut store = Store::starting();
     for (at, &(base, length)) in extents.iter().enumerate() {
-        let cluster = &mut store.clusters[0][at / 8];
-        cluster.active = true;
-        cluster.segments[at % 8] = Segment::present(base, length);
+        let cluster = &mut store.clusters[0][at / width.segments()];
+        (cluster.active, cluster.width) = (true, width.number());
+        cluster.segments[at % width.segments()] = Segment::present(base, length);
     }
     store
+}
+
+fn store_with(extents: &[(u16, u16)]) -> Store {
+    store_of(Width::Eight, extents)
 }
 
 #[test]
@@ -42,13 +47,15 @@ fn first_free(extents: &[Extent], size: usize) -> Option<usize> {
     })
 }
 
-/// Segments with gaps between them, by chance, in no order of their numbers.
-fn scattered(random: &mut Random) -> Store {
+/// Segments with gaps between them, by chance, in no order of their numbers; as many as the width allows, or as there is
+/// room for.
+fn scattered(random: &mut Random, width: Width) -> Store {
     let mut extents = Vec::new();
     let mut end = 0;
-    while extents.len() < 64 {
-        let base = end + random.below(90) as usize;
-        let length = 1 + random.below(90) as usize;
+    let most = if width == Width::Sixteen { 32 } else { 90 };
+    while extents.len() < CLUSTERS * width.segments() {
+        let base = end + random.below(most) as usize;
+        let length = 1 + random.below(most) as usize;
         end = base + length;
         if end > NODE_BYTES {
             break;
@@ -56,14 +63,14 @@ fn scattered(random: &mut Random) -> Store {
         extents.push((base as u16, length as u16));
     }
     random.shuffle(&mut extents);
-    store_with(&extents)
+    store_of(width, &extents)
 }
 
 #[test]
 fn placement_is_the_smallest_base_that_fits() {
     let mut random = Random::from_seed(7);
-    for _ in 0..200 {
-        let store = scattered(&mut random);
+    for at in 0..300 {
+        let store = scattered(&mut random, Width::ALL[at % 3]);
         assert!(store.is_sound(MEMORY_BYTES));
         let segments = store.clusters[0]
             .iter()

@@ -3,27 +3,35 @@
 mod support;
 
 use model::call::Call;
-use model::handle::{Handle, Selector};
-use model::sizes::HANDLE_BYTES;
+use model::handle::{Handle, Width};
 use support::*;
 
 fn gapped() -> Handle {
     Handle {
-        selector: Selector([255, 254, 255, 255]),
+        selector: eight([255, 254, 255, 255]),
         ..writer()
     }
 }
 
 fn delete_cluster(node: u32, handle: Handle) -> Call {
-    Call::DeleteCluster { node, handle }
+    Call::DeleteCluster {
+        node,
+        handle: handle.into(),
+    }
 }
 
 fn reduce(mode: u32, handle: Handle) -> Call {
-    Call::Reduce { mode, handle }
+    Call::Reduce {
+        mode,
+        handle: handle.into(),
+    }
 }
 
-fn weaken(mask: u8, handle: Handle) -> Call {
-    Call::Weaken { mask, handle }
+fn weaken(mask: u16, handle: Handle) -> Call {
+    Call::Weaken {
+        mask,
+        handle: handle.into(),
+    }
 }
 
 #[test]
@@ -73,7 +81,7 @@ fn gapped_before_elsewhere() {
 #[test]
 fn elsewhere_before_inactive() {
     let mut bench = Bench::with_segment();
-    let inactive = Handle::primary(0, 3, [0; 16]);
+    let inactive = Handle::primary(Width::Eight, 0, 3, [0; 16]);
     assert_eq!(bench.number(delete_cluster(1, inactive)), 5);
     assert_eq!(bench.number(delete_cluster(0, inactive)), 8);
 }
@@ -84,6 +92,7 @@ fn in_use_before_twins() {
     let twins = |local| Call::NewCluster {
         node: 0,
         local,
+        width: 8,
         read: READ_SECRET,
         write: READ_SECRET,
     };
@@ -94,7 +103,7 @@ fn in_use_before_twins() {
 #[test]
 fn a_zero_password_opens_no_inactive_cluster() {
     let mut bench = Bench::starting();
-    let zero = Handle::primary(0, 2, [0; 16]);
+    let zero = Handle::primary(Width::Eight, 0, 2, [0; 16]);
     assert_eq!(bench.number(delete_cluster(0, zero)), 8);
     assert_eq!(bench.read(0, zero), Err(8));
     assert_eq!(bench.write(0, b"", zero), 8);
@@ -110,13 +119,13 @@ fn violated_protection_before_what_the_tables_hold() {
         node: 0,
         segment: 5,
         size: 4,
-        handle: reader(),
+        handle: reader().into(),
     };
     assert_eq!(bench.number(with_reader), 9);
     let wrong = Call::DeleteSegment {
         node: 0,
         segment: 0,
-        handle: reader(),
+        handle: reader().into(),
     };
     assert_eq!(bench.number(wrong), 9);
 }
@@ -174,7 +183,7 @@ fn short_buffer_and_short_data() {
     let mut bench = Bench::with_segment();
     let read = Call::Read {
         segment: 5,
-        handle: reader(),
+        handle: reader().into(),
     };
     let mut buffer = *b"...";
     assert_eq!(bench.ask(read, &mut buffer).number, 15);
@@ -187,7 +196,7 @@ fn short_buffer_and_short_data() {
 fn empty_before_spent() {
     let mut bench = Bench::starting();
     let spent = Handle {
-        selector: Selector([0xfe, 0xfd, 0xfb, 0xf7]),
+        selector: eight([0xfe, 0xfd, 0xfb, 0xf7]),
         ..writer()
     };
     for mask in 0..=255 {
@@ -204,13 +213,13 @@ fn empty_before_spent() {
 fn refused_weakening_gives_no_count() {
     let mut bench = Bench::starting();
     let spent = Handle {
-        selector: Selector([0xfe, 0xfd, 0xfb, 0xf7]),
+        selector: eight([0xfe, 0xfd, 0xfb, 0xf7]),
         ..writer()
     };
     for (mask, number) in [(239, 17), (15, 21)] {
         let reply = bench.reply(weaken(mask, spent));
         assert_eq!((reply.number, reply.count), (number, 0));
-        assert_eq!(reply.first, [0; HANDLE_BYTES]);
+        assert!(reply.first.is_empty());
     }
     assert_eq!(bench.reply(weaken(240, spent)).count, 4);
 }

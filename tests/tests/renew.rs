@@ -4,25 +4,35 @@
 mod support;
 
 use model::call::{Call, Reply};
-use model::handle::{Handle, Password};
+use model::handle::{Handle, Password, Width};
 use support::renewed::{self, LOCAL, NODE};
 use support::*;
 
-/// Both modes, each with its primary handle and the other mode's.
-fn modes() -> [(u32, Handle, Handle); 2] {
-    [
-        (READ_MODE, reader(), writer()),
-        (WRITE_MODE, writer(), reader()),
-    ]
+/// Both modes at each width, each with its primary handle and the other mode's.
+fn modes() -> impl Iterator<Item = (u32, Handle, Handle)> {
+    Width::ALL.into_iter().flat_map(|width| {
+        [
+            (READ_MODE, reader_of(width), writer_of(width)),
+            (WRITE_MODE, writer_of(width), reader_of(width)),
+        ]
+    })
+}
+
+/// What each width's clusters can come to: their passwords made equal in one mode, or in the other.
+fn made() -> impl Iterator<Item = (Width, u32)> {
+    let modes = [READ_MODE, WRITE_MODE];
+    Width::ALL
+        .into_iter()
+        .flat_map(move |width| modes.map(|mode| (width, mode)))
 }
 
 /// Cluster 2 of node 0 with a segment, after `mode` has got the other mode's password, and the one handle that is
 /// primary in both modes then.
-fn equal(mode: u32) -> (Bench, Handle) {
-    let mut state = Bench::with_segment();
+fn equal((width, mode): (Width, u32)) -> (Bench, Handle) {
+    let mut state = Bench::with_segment_of(width);
     let (own, other) = match mode {
-        READ_MODE => (reader(), writer()),
-        _ => (writer(), reader()),
+        READ_MODE => (reader_of(width), writer_of(width)),
+        _ => (writer_of(width), reader_of(width)),
     };
     let reply = state.reply(renew(mode, own, other.password));
     assert_eq!(reply, Reply::with_handle(&other));
@@ -39,7 +49,10 @@ fn neighbours(password: Password) -> impl Iterator<Item = Password> {
 }
 
 fn validates(state: &mut Bench, mode: u32, handle: Handle) -> bool {
-    let number = state.number(Call::Validate { mode, handle });
+    let number = state.number(Call::Validate {
+        mode,
+        handle: handle.into(),
+    });
     assert!(number == 0 || number == 9);
     number == 0
 }
@@ -50,17 +63,19 @@ fn opens(state: &mut Bench, handle: Handle) -> [bool; 2] {
 }
 
 /// The primary handle and what is made from it: weakened once and twice, reduced, joined. All but the first reference
-/// segment 5 and not segment 0.
+/// the segment that is there and not segment 0.
 fn family(state: &mut Bench, mode: u32, primary: Handle) -> Vec<Handle> {
-    let once = primary.weaken(0xfe).unwrap();
-    let twice = once.weaken(0x60).unwrap();
+    let two = 0b11 << own(primary.width());
+    let once = primary.weaken(!1).unwrap();
+    let twice = once.weaken(two).unwrap();
     let reduce = Call::Reduce {
         mode,
-        handle: twice,
+        handle: twice.into(),
     };
-    let joined = join(mode, twice, primary.weaken(0x08).unwrap());
-    let made = [reduce, joined].map(|call| Handle::from_bytes(&state.reply(call).first));
-    assert_eq!(made.map(|handle| handle.selector.0[0]), [0x60, 0x68]);
+    let joined = join(mode, twice, primary.weaken(0b1000).unwrap());
+    let made = [reduce, joined].map(|call| given(&state.reply(call)));
+    let parts = made.map(|handle| handle.selector.subselectors[0]);
+    assert_eq!(parts, [two, two | 0b1000]);
     [vec![primary, once, twice], made.to_vec()].concat()
 }
 
@@ -68,9 +83,9 @@ fn family(state: &mut Bench, mode: u32, primary: Handle) -> Vec<Handle> {
 
 #[test]
 fn by_the_mode_s_own_password_alone() {
-    let start = Bench::with_segment();
     let mut refused = 0;
     for (mode, own, other) in modes() {
+        let start = Bench::with_segment_of(own.width());
         let alike = (0..=255).map(|byte| [byte; 16]);
         let near = [own, other].map(|handle| neighbours(handle.password));
         for password in alike.chain(near.into_iter().flatten()) {
@@ -81,7 +96,7 @@ fn by_the_mode_s_own_password_alone() {
                 assert_eq!(reply, Reply::refused(12));
                 refused += 1;
             } else {
-                let renewed = Handle::primary(0, 2, password);
+                let renewed = Handle::primary(own.width(), 0, 2, password);
                 assert_eq!(reply, Reply::with_handle(&renewed));
                 let cluster = &mut expected.store.clusters[0][2];
                 match mode {
@@ -92,13 +107,13 @@ fn by_the_mode_s_own_password_alone() {
             assert!(state == expected, "{mode} {password:?}");
         }
     }
-    assert_eq!(refused, 2);
+    assert_eq!(refused, 6);
 }
 
 /// Where the two are equal, that one password is 12 in either mode, and any other is taken.
 #[test]
 fn by_the_one_password_of_both_modes() {
-    for made in [READ_MODE, WRITE_MODE] {
+    for made in made() {
         let (start, both) = equal(made);
         assert!(start.store.clusters[0][2].has_equal_passwords());
         for mode in [READ_MODE, WRITE_MODE] {
@@ -132,23 +147,24 @@ fn numbers_in_their_order() {
             }
             number => Reply::refused(number),
         };
-        assert_eq!(state.ask(renewed.call, &mut []), reply, "{renewed:?}");
+        assert_eq!(state.ask(&renewed.call, &mut []), reply, "{renewed:?}");
         assert!(state == expected, "{renewed:?}");
         asked += 1;
         done += usize::from(reply.is_done());
     }
-    // Done in either mode: two new passwords where the two differ, one where they are equal.
-    assert_eq!((asked, done), (128 * 12, 6));
+    // Done in either mode at each width: two new passwords where the two differ, one where they are equal.
+    assert_eq!((asked, done), (512 * 12 * 3, 6 * 3));
 }
 
 /// A new cluster never begins with one password for both.
 #[test]
 fn call_1_still_refuses_twins() {
-    for made in [READ_MODE, WRITE_MODE] {
+    for made in made() {
         let (mut state, both) = equal(made);
         let new_cluster = |local, write| Call::NewCluster {
             node: 0,
             local,
+            width: 16,
             read: both.password,
             write,
         };
@@ -160,7 +176,7 @@ fn call_1_still_refuses_twins() {
         assert_eq!(state.number(new_cluster(3, [0x44; 16])), 0);
         let delete = Call::DeleteCluster {
             node: 0,
-            handle: both,
+            handle: both.into(),
         };
         assert_eq!(state.number(delete), 0);
         assert_eq!(state.number(new_cluster(2, both.password)), 7);
@@ -171,15 +187,16 @@ fn call_1_still_refuses_twins() {
 
 #[test]
 fn it_reads_and_writes_and_so_does_what_is_made_from_it() {
-    for made in [READ_MODE, WRITE_MODE] {
+    for made in made() {
         let (mut state, both) = equal(made);
         for mode in [READ_MODE, WRITE_MODE] {
             for (at, handle) in family(&mut state, mode, both).into_iter().enumerate() {
                 assert_eq!(opens(&mut state, handle), [true; 2], "{handle:?}");
                 let data = [b'a' + at as u8; 4];
-                assert_eq!(state.write(5, &data, handle), 0);
-                assert_eq!(state.read(5, handle), Ok(data.to_vec()));
-                assert_eq!(state.look(0, 5, handle), Ok(data.to_vec()));
+                let segment = own(both.width());
+                assert_eq!(state.write(segment, &data, handle), 0);
+                assert_eq!(state.read(segment, handle), Ok(data.to_vec()));
+                assert_eq!(state.look(0, segment, handle), Ok(data.to_vec()));
                 let not_referenced = match at {
                     0 => 14,
                     _ => 11,
@@ -194,45 +211,58 @@ fn it_reads_and_writes_and_so_does_what_is_made_from_it() {
 /// Reducing and joining give the same in either mode.
 #[test]
 fn the_same_is_made_from_it_in_either_mode() {
-    let (mut state, both) = equal(READ_MODE);
-    let [reads, writes] = [READ_MODE, WRITE_MODE].map(|mode| family(&mut state, mode, both));
-    assert_eq!(reads, writes);
-    for call in [
-        |mode, handle| Call::Reduce { mode, handle },
-        |mode, handle| join(mode, handle, handle),
-    ] {
-        for &handle in &reads {
-            let [one, other] = [READ_MODE, WRITE_MODE].map(|mode| state.reply(call(mode, handle)));
-            assert_eq!(one, other);
+    let modes = [READ_MODE, WRITE_MODE];
+    for made in made() {
+        let (mut state, both) = equal(made);
+        let [reads, writes] = modes.map(|mode| family(&mut state, mode, both));
+        assert_eq!(reads, writes);
+        for call in [
+            |mode, handle: Handle| Call::Reduce {
+                mode,
+                handle: handle.into(),
+            },
+            |mode, handle: Handle| join(mode, handle, handle),
+        ] {
+            for &handle in &reads {
+                let [one, other] = modes.map(|mode| state.reply(call(mode, handle)));
+                assert_eq!(one, other);
+            }
         }
     }
 }
 
 #[test]
 fn it_does_all_that_a_write_primary_handle_does() {
-    for made in [READ_MODE, WRITE_MODE] {
+    for made in made() {
         let (mut state, handle) = equal(made);
-        let (node, segment, size) = (0, 6, 3);
+        let present = own(handle.width());
+        let (node, segment, size) = (0, present + 1, 3);
         #[rustfmt::skip]
         let calls = [
-            Call::NewSegment { node, segment, size, handle },
-            Call::DeleteSegment { node, segment, handle },
-            Call::NewSegment { node, segment, size, handle },
-            Call::Read { segment, handle },
-            Call::DeleteSegment { node, segment, handle },
-            Call::Freeze { node, segment: 5, handle },
-            Call::Read { segment: 5, handle },
+            Call::NewSegment { node, segment, size, handle: handle.into() },
+            Call::DeleteSegment { node, segment, handle: handle.into() },
+            Call::NewSegment { node, segment, size, handle: handle.into() },
+            Call::Read { segment, handle: handle.into() },
+            Call::DeleteSegment { node, segment, handle: handle.into() },
+            Call::Freeze { node, segment: present, handle: handle.into() },
+            Call::Read { segment: present, handle: handle.into() },
         ];
         for call in calls {
-            assert_eq!(state.number(call), 0, "{call:?}");
+            assert_eq!(state.number(&call), 0, "{call:?}");
         }
-        assert_eq!(state.number(Call::DeleteCluster { node, handle }), 22);
-        let weaker = handle.weaken(0x20).unwrap();
-        assert_eq!(state.number(freeze(5)), u8::from(made == WRITE_MODE) * 9);
+        let delete = Call::DeleteCluster {
+            node,
+            handle: handle.into(),
+        };
+        assert_eq!(state.number(delete), 22);
+        let weaker = handle.weaken(1 << present).unwrap();
+        let by_the_old = freeze_of(handle.width(), present);
+        let number = u8::from(made.1 == WRITE_MODE) * 9;
+        assert_eq!(state.number(by_the_old), number);
         let by_the_weaker = Call::DeleteSegment {
             node,
-            segment: 5,
-            handle: weaker,
+            segment: present,
+            handle: weaker.into(),
         };
         assert_eq!(state.number(by_the_weaker), 10);
     }
@@ -241,12 +271,12 @@ fn it_does_all_that_a_write_primary_handle_does() {
 /// Whichever mode's password is changed then, what was made from the old one opens the other mode alone.
 #[test]
 fn a_change_of_one_mode_ends_it() {
-    for made in [READ_MODE, WRITE_MODE] {
+    for made in made() {
         for changed in [READ_MODE, WRITE_MODE] {
             let (mut state, both) = equal(made);
             let old = family(&mut state, changed, both);
             let reply = state.reply(renew(changed, both, [0x33; 16]));
-            let renewed = Handle::primary(0, 2, [0x33; 16]);
+            let renewed = Handle::primary(both.width(), 0, 2, [0x33; 16]);
             assert_eq!(reply, Reply::with_handle(&renewed));
             let reads = changed == READ_MODE;
             for handle in old {

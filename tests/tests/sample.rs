@@ -104,3 +104,22 @@ fn a_longest_chain_runs_whole() {
     list[254 * RECORD_BYTES] = 1;
     assert_eq!(text(&list), "list 20\n");
 }
+
+/// Whatever its other bytes are, a new cluster is one of eight segments: none of them is a width.
+#[test]
+fn a_list_makes_clusters_of_eight() {
+    for unused in [0, 4, 8, 16, 255] {
+        let mut list = sample();
+        list[3] = unused;
+        list[5..32].fill(unused);
+        assert_eq!(text(&list), SAMPLE_OUTPUT, "{unused}");
+    }
+    for segment in 0..=255 {
+        let mut list = sample();
+        list[RECORD_BYTES + 4] = segment;
+        list[2 * RECORD_BYTES + 4] = segment;
+        let made = text(&list).contains("\n3 3 0\n2 5 0 00000000\n");
+        let refused = text(&list).contains("\n3 3 3\n2 5 3\n");
+        assert_eq!((made, refused), (segment < 8, segment >= 8), "{segment}");
+    }
+}

@@ -3,13 +3,14 @@
 mod support;
 
 use model::call::{Call, Reply};
-use model::handle::{convert, derive, Handle, HandleBytes, Selector, FLAT};
-use support::Bench;
+use model::handle::{convert, derive, Handle, Width};
+use support::{eight, Bench};
 
+const FLAT: u16 = 255;
 const PASSWORD: [u8; 16] = *b"a primary secret";
 
 fn handle(selector: u32) -> Handle {
-    let selector = Selector(selector.to_be_bytes());
+    let selector = eight(selector.to_be_bytes().map(u16::from));
     Handle {
         node: 1,
         local: 2,
@@ -18,20 +19,23 @@ fn handle(selector: u32) -> Handle {
     }
 }
 
-fn weakened(selector: u32, mask: u8) -> (u32, u32) {
+fn weakened(selector: u32, mask: u16) -> (u32, u32) {
     let weaker = handle(selector)
         .weaken(mask)
         .expect("something is left, and a subselector is flat");
     (
-        u32::from_be_bytes(weaker.selector.0),
+        u32::from_be_bytes(weaker.selector.subselectors.map(|part| part as u8)),
         weaker.selector.count(),
     )
 }
 
 /// What call 7 replies.
-fn reply(selector: u32, mask: u8) -> Reply {
+fn reply(selector: u32, mask: u16) -> Reply {
     let handle = handle(selector);
-    Bench::starting().reply(Call::Weaken { mask, handle })
+    Bench::starting().reply(Call::Weaken {
+        mask,
+        handle: handle.into(),
+    })
 }
 
 #[test]
@@ -84,26 +88,26 @@ fn p7_p8_no_subselector_left() {
 #[test]
 fn p9_reduced() {
     let reduced = handle(0xfefd_fbf7).reduce(&PASSWORD);
-    assert_eq!(reduced.selector, Selector([0xf0, FLAT, FLAT, FLAT]));
+    assert_eq!(reduced.selector, eight([0xf0, FLAT, FLAT, FLAT]));
     assert_eq!(reduced.password, convert(&PASSWORD, 0xf0));
-    assert!(reduced.validates(&PASSWORD));
+    assert!(reduced.is_made_from(&PASSWORD));
 }
 
 #[test]
 fn reducing_a_primary_handle_converts_nothing() {
-    let primary = Handle::primary(1, 2, PASSWORD);
+    let primary = Handle::primary(Width::Eight, 1, 2, PASSWORD);
     assert_eq!(primary.reduce(&PASSWORD), primary);
-    assert!(primary.validates(&PASSWORD));
+    assert!(primary.is_made_from(&PASSWORD));
     let converted = Handle {
         password: convert(&PASSWORD, FLAT),
         ..primary
     };
-    assert!(!converted.validates(&PASSWORD));
+    assert!(!converted.is_made_from(&PASSWORD));
 }
 
 #[test]
 fn conversions_go_up_from_subselector_0() {
-    let selector = Selector([0xfe, 0x7d, 0xf3, FLAT]);
+    let selector = eight([0xfe, 0x7d, 0xf3, FLAT]);
     let up = [0xfe, 0x7d, 0xf3]
         .iter()
         .fold(PASSWORD, |password, &c| convert(&password, c));
@@ -116,22 +120,22 @@ fn conversions_go_up_from_subselector_0() {
 
 #[test]
 fn each_weakening_validates() {
-    let mut handle = Handle::primary(3, 7, PASSWORD);
+    let mut handle = Handle::primary(Width::Eight, 3, 7, PASSWORD);
     for (mask, count) in [(0x7f, 7), (0x3f, 6), (0x0f, 4), (0x03, 2)] {
         handle = handle.weaken(mask).unwrap();
         assert_eq!(handle.selector.count(), count);
-        assert!(handle.validates(&PASSWORD));
-        assert!(!handle.validates(&[0; 16]));
+        assert!(handle.is_made_from(&PASSWORD));
+        assert!(!handle.is_made_from(&[0; 16]));
     }
     assert_eq!(handle.weaken(1), None);
 }
 
 #[test]
 fn twenty_three_bytes_read_back() {
-    let bytes: HandleBytes = std::array::from_fn(|at| at as u8 + 1);
-    let handle = Handle::from_bytes(&bytes);
+    let bytes: [u8; 23] = std::array::from_fn(|at| at as u8 + 1);
+    let handle = Handle::from_bytes(&bytes).unwrap();
     assert_eq!((handle.node, handle.local), (0x0102, 3));
     assert_eq!((handle.password[0], handle.password[15]), (4, 19));
-    assert_eq!(handle.selector, Selector([20, 21, 22, 23]));
+    assert_eq!(handle.selector, eight([20, 21, 22, 23]));
     assert_eq!(handle.to_bytes(), bytes);
 }

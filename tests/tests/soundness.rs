@@ -1,20 +1,22 @@
 //! What makes a store unsound, one thing at a time, and what looks odd and is sound.
 
-use model::call::{Call, Reply};
-use model::handle::Handle;
+use model::call::Call;
+use model::handle::{Handle, Width};
 use model::model::run;
-use model::sizes::MEMORY_BYTES;
-use model::store::{Segment, Store};
-use model::table::{word, EMPTY, UNSOUND};
-
+use model::sizes::{CLUSTERS, MEMORY_BYTES, NODE_BYTES, SEGMENTS};
+use model::store::{Place, Segment, Store};
 const READ: [u8; 16] = [0x11; 16];
 const WRITE: [u8; 16] = [0x22; 16];
 
 /// A store with one active cluster that has one segment.
 fn store() -> Store {
+    store_of(Width::Eight)
+}
+
+fn store_of(width: Width) -> Store {
     let mut store = Store::starting();
     let cluster = &mut store.clusters[1][3];
-    cluster.active = true;
+    (cluster.active, cluster.width) = (true, width.number());
     cluster.read = READ;
     cluster.write = WRITE;
     cluster.segments[0] = Segment::present(10, 20);
@@ -75,6 +77,7 @@ fn segments_out_of_range_or_overlapping() {
     }
     let mut overlapping = store();
     overlapping.clusters[1][4].active = true;
+    overlapping.clusters[1][4].width = 8;
     overlapping.clusters[1][4].segments[2] = Segment::present(29, 5);
     assert!(!overlapping.is_sound(MEMORY_BYTES));
 }
@@ -92,97 +95,133 @@ fn inactive_with_something_left() {
     }
 }
 
-/// In whichever segment, of an active cluster or an inactive one.
+/// In whichever segment, of an active cluster or an inactive one, also at or above the width.
 #[test]
 fn marks_on_absent_segments() {
-    for segment in 0..8 {
-        let mut present = store();
-        present.clusters[1][3].segments[segment] = Segment::present(100, 1).marked();
-        assert!(present.is_sound(MEMORY_BYTES));
+    for width in Width::ALL {
+        for segment in 0..SEGMENTS {
+            let mut present = store_of(width);
+            present.clusters[1][3].segments[segment] = Segment::present(100, 1).marked();
+            let is_there = segment < width.segments();
+            assert_eq!(present.is_sound(MEMORY_BYTES), is_there);
+            let mut active = store_of(width);
+            active.clusters[1][3].segments[segment] = Segment::ABSENT.marked();
+            let mut inactive = store_of(width);
+            inactive.clusters[3][7].segments[segment] = Segment::ABSENT.marked();
+            for damaged in [active, inactive] {
+                assert!(!damaged.is_sound(MEMORY_BYTES));
+            }
+        }
+    }
+}
+
+// Widths.
+
+/// One of the three where the cluster is active, 0 where it is not; whatever else it holds.
+#[test]
+fn widths_of_clusters() {
+    for width in 0..=255 {
         let mut active = store();
-        active.clusters[1][3].segments[segment] = Segment::ABSENT.marked();
-        let mut inactive = store();
-        inactive.clusters[3][7].segments[segment] = Segment::ABSENT.marked();
-        for damaged in [active, inactive] {
-            assert!(!damaged.is_sound(MEMORY_BYTES));
+        active.clusters[1][3].width = width;
+        assert_eq!(active.is_sound(MEMORY_BYTES), [4, 8, 16].contains(&width));
+        active.clusters[1][3].segments = [Segment::ABSENT; SEGMENTS];
+        assert_eq!(active.is_sound(MEMORY_BYTES), [4, 8, 16].contains(&width));
+        for (node, local) in [(0, 0), (1, 4), (3, 7)] {
+            let mut inactive = store();
+            inactive.clusters[node][local].width = width;
+            assert_eq!(inactive.is_sound(MEMORY_BYTES), width == 0, "{width}");
         }
     }
 }
 
-/// Every call, a look and validation, all of them about places where nothing is damaged.
-fn calls() -> Vec<Call> {
-    let reader = Handle::primary(1, 3, READ);
-    let handle = Handle::primary(1, 3, WRITE);
-    let (node, segment, mode) = (1, 0, 2);
-    #[rustfmt::skip]
-    let calls = vec![
-        Call::NewCluster { node: 0, local: 0, read: READ, write: WRITE },
-        Call::DeleteCluster { node, handle },
-        Call::NewSegment { node, segment: 1, size: 5, handle },
-        Call::DeleteSegment { node, segment, handle },
-        Call::Read { segment, handle: reader },
-        Call::Write { segment, handle },
-        Call::Reduce { mode, handle },
-        Call::NewPassword { mode, handle, password: [9; 16] },
-        Call::Freeze { node, segment, handle },
-        Call::Look { node, segment, handle: reader },
-        Call::Validate { mode, handle },
-    ];
-    calls
-}
-
-/// A segment in an inactive cluster that goes beyond its node, and marks where no segment is.
-fn damaged() -> [Store; 3] {
-    let put = |(node, local): (usize, usize), segment| {
-        let mut store = store();
-        store.clusters[node][local].segments[7] = segment;
-        store
-    };
-    [
-        put((3, 7), Segment::present(4000, 97)),
-        put((3, 7), Segment::ABSENT.marked()),
-        put((1, 3), Segment::ABSENT.marked()),
-    ]
-}
-
+/// A segment at or above the width, though it is inside the node and shares no byte.
 #[test]
-fn damage_anywhere_refuses_all_but_weakening_and_changes_nothing() {
-    for call in calls() {
-        let (mut memory, mut buffer) = (vec![0xaa; MEMORY_BYTES], vec![0xbb; 64]);
-        let reply = run(&mut store(), &mut memory, &mut buffer, &call);
-        assert_eq!(reply.number, 0, "{call:?}");
-        for damaged in damaged() {
-            let (mut memory, mut buffer) = (vec![0xaa; MEMORY_BYTES], vec![0xbb; 64]);
-            let mut left = damaged.clone();
-            let reply = run(&mut left, &mut memory, &mut buffer, &call);
-            assert_eq!(reply, Reply::refused(UNSOUND));
-            assert_eq!(left, damaged);
-            assert_eq!((memory, buffer), (vec![0xaa; MEMORY_BYTES], vec![0xbb; 64]));
+fn segments_at_or_above_the_width() {
+    for width in Width::ALL {
+        for segment in 1..SEGMENTS {
+            for present in [
+                Segment::present(100, 1),
+                Segment::present(30, 4066).marked(),
+            ] {
+                let mut store = store_of(width);
+                store.clusters[1][3].segments[segment] = present;
+                let is_there = segment < width.segments();
+                assert_eq!(
+                    store.is_sound(MEMORY_BYTES),
+                    is_there,
+                    "{width:?} {segment}"
+                );
+                // The bytes are taken, whoever asks.
+                store.clusters[1][3].segments[segment] = Segment::present(29, 1);
+                assert!(!store.is_sound(MEMORY_BYTES));
+            }
         }
     }
-    assert_eq!(word(UNSOUND), Some("unsound"));
 }
 
+/// All segments of all clusters of a node, as many as the widths allow; one more byte is too many.
 #[test]
-fn damage_does_not_matter_to_weakening() {
-    let handle = Handle::primary(1, 3, READ);
-    for mut damaged in damaged() {
-        let mut weaken = |mask| {
-            let call = Call::Weaken { mask, handle };
-            run(&mut damaged, &mut [], &mut [], &call)
+fn a_node_full_of_segments() {
+    for width in Width::ALL {
+        let mut store = Store::starting();
+        let size = NODE_BYTES / (CLUSTERS * width.segments());
+        for (local, cluster) in store.clusters[2].iter_mut().enumerate() {
+            (cluster.active, cluster.width) = (true, width.number());
+            for segment in 0..width.segments() {
+                let base = (local * width.segments() + segment) * size;
+                cluster.segments[segment] = Segment::present(base as u16, size as u16);
+            }
+        }
+        assert!(store.is_sound(MEMORY_BYTES));
+        assert_eq!(
+            (store.place(2, 1), store.place(1, NODE_BYTES)),
+            (None, Some(0))
+        );
+        for (local, segment) in [(0, 0), (3, 2), (7, width.segments() - 1)] {
+            let mut longer = store.clone();
+            let place = &mut longer.clusters[2][local].segments[segment].place;
+            let Place::Present { length, .. } = place else {
+                panic!("it is present");
+            };
+            *length += 1;
+            assert!(!longer.is_sound(MEMORY_BYTES));
+        }
+    }
+}
+
+/// What call 1 and those after it leave is sound at each width; so is what call 2 leaves.
+#[test]
+fn what_calls_leave() {
+    for width in Width::ALL {
+        let mut store = Store::starting();
+        let mut memory = vec![0; MEMORY_BYTES];
+        let mut ask = |call| {
+            let reply = run(&mut store, &mut memory, &mut [], &call);
+            assert_eq!(reply.number, 0, "{call:?}");
+            assert!(store.is_sound(MEMORY_BYTES));
         };
-        let reply = weaken(1);
-        assert_eq!((reply.number, reply.count), (0, 1));
-        assert_eq!(weaken(0), Reply::refused(EMPTY));
+        let (read, write, node) = (READ, WRITE, 1);
+        let (local, segments) = (3, width.segments());
+        ask(Call::NewCluster {
+            node,
+            local,
+            width: segments,
+            read,
+            write,
+        });
+        let handle = || Handle::primary(width, 1, 3, WRITE).into();
+        for segment in 0..segments as u32 {
+            ask(Call::NewSegment {
+                node,
+                segment,
+                size: 9,
+                handle: handle(),
+            });
+        }
+        ask(Call::DeleteCluster {
+            node,
+            handle: handle(),
+        });
+        assert_eq!(store, Store::starting());
     }
-}
-
-#[test]
-fn unsound_comes_before_everything() {
-    let nowhere = Call::Read {
-        segment: 99,
-        handle: Handle::primary(9, 9, READ),
-    };
-    let reply = run(&mut store(), &mut [0; 4], &mut [], &nowhere);
-    assert_eq!(reply, Reply::refused(UNSOUND));
 }

@@ -5,10 +5,12 @@ mod support;
 
 use model::call::{Call, Reply};
 use model::frozen::Watch;
-use model::handle::Handle;
-use model::list::{output, Record, CODE_AT, HANDLE_AT, NODE_AT, RECORD_BYTES, SEGMENT_AT};
+use model::handle::{Handle, Width};
+use model::list::{
+    output, Record, CODE_AT, HANDLE_AT, HANDLE_BYTES, NODE_AT, RECORD_BYTES, SEGMENT_AT,
+};
 use model::random::Random;
-use model::sizes::{HANDLE_BYTES, MEMORY_BYTES};
+use model::sizes::MEMORY_BYTES;
 use model::store::Segment;
 use std::collections::BTreeMap;
 use support::valid::valid_call;
@@ -17,15 +19,15 @@ use support::*;
 const ROWS: usize = 60;
 const ROW_CALLS: usize = 500;
 
-/// Counts the calls that came to 22, and those of them by a handle that opens both modes; gives how many segments were
-/// frozen.
+/// Counts the calls that came to 22, those of them by a handle that opens both modes, and those by handles of each width;
+/// gives how many segments were frozen.
 fn row(random: &mut Random, refused: &mut BTreeMap<&'static str, usize>) -> usize {
     let (mut bench, mut watch) = (Bench::starting(), Watch::default());
     for _ in 0..ROW_CALLS {
         let call = valid_call(random, &bench);
         let equal = bench.store.clusters[0].map(|cluster| cluster.has_equal_passwords());
         let mut buffer: [u8; 40] = random.bytes();
-        let reply = bench.ask(call, &mut buffer);
+        let reply = bench.ask(&call, &mut buffer);
         assert_eq!(watch.see(&bench.store, &bench.memory), Ok(()), "{call:?}");
         assert!(bench.store.is_sound(MEMORY_BYTES));
         let name = match call {
@@ -39,6 +41,12 @@ fn row(random: &mut Random, refused: &mut BTreeMap<&'static str, usize>) -> usiz
             .handle()
             .is_some_and(|handle| equal[usize::from(handle.local)]);
         *refused.entry("by both").or_default() += usize::from(reply.number == 22 && by_both);
+        let by = match call.handle().map(|handle| handle.width()) {
+            Some(Width::Four) => "by one of width 4",
+            Some(Width::Sixteen) => "by one of width 16",
+            _ => "by another",
+        };
+        *refused.entry(by).or_default() += usize::from(reply.number == 22);
     }
     watch.met()
 }
@@ -50,7 +58,7 @@ fn long_rows_by_handles_that_open_the_cluster() {
     let met: usize = (0..ROWS).map(|_| row(random, &mut refused)).sum();
     assert!(met > 2 * ROWS, "{met}");
     assert_eq!(refused.remove("another call"), Some(0));
-    assert_eq!(refused.len(), 4);
+    assert_eq!(refused.len(), 7);
     assert!(refused.values().all(|&count| count > ROWS), "{refused:?}");
 }
 
@@ -62,7 +70,7 @@ fn a_freeze_between_all_other_calls() {
     let before = bench.clone();
     let delete = Call::DeleteCluster {
         node: 0,
-        handle: writer(),
+        handle: writer().into(),
     };
     for call in [
         delete,
@@ -146,7 +154,7 @@ fn freezes(unused: u8) -> Vec<Record> {
         by(4, 5, writer()),
         by(0, 8, writer()),
         by(1, 5, writer()),
-        by(0, 5, Handle::primary(0, 3, [0; 16])),
+        by(0, 5, Handle::primary(Width::Eight, 0, 3, [0; 16])),
         by(0, 5, reader()),
         by(0, 5, writer().weaken(0x20).unwrap()),
         by(0, 6, writer()),

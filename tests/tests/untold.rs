@@ -4,12 +4,12 @@
 mod support;
 
 use model::call::Call;
-use model::handle::{Handle, Password, Selector};
+use model::handle::{Handle, Password, Selector, Width};
 use model::list::{output, Record, RECORD_BYTES};
 use model::random::Random;
 use model::store::Mode;
 use std::collections::BTreeMap;
-use support::naive::selectors;
+use support::naive::sets;
 use support::*;
 
 const NEAR: Password = [1, 1, 1, 1, 1, 1, 1, 1, 1, 1, 1, 1, 1, 1, 1, 0];
@@ -17,8 +17,8 @@ const NEAR: Password = [1, 1, 1, 1, 1, 1, 1, 1, 1, 1, 1, 1, 1, 1, 1, 0];
 const FEW: [Password; 5] = [[0; 16], [1; 16], NEAR, [2; 16], [3; 16]];
 
 /// Cluster 2 of node 0 with a segment, and with these passwords for `mode` and for the other one.
-fn state(mode: Mode, own: Password, other: Password) -> Bench {
-    let mut state = Bench::with_segment();
+fn state(width: Width, mode: Mode, own: Password, other: Password) -> Bench {
+    let mut state = Bench::with_segment_of(width);
     let cluster = &mut state.store.clusters[0][2];
     (
         *cluster.primary_mut(mode),
@@ -29,9 +29,9 @@ fn state(mode: Mode, own: Password, other: Password) -> Bench {
 
 /// The number that both give; their replies are equal. Afterwards each has the other mode's password that it had, and
 /// but for these nothing differs.
-fn number(mode: Mode, own: Password, others: [Password; 2], call: Call) -> u8 {
-    let mut states = others.map(|other| state(mode, own, other));
-    let [one, two] = states.each_mut().map(|state| state.reply(call));
+fn number(width: Width, mode: Mode, own: Password, others: [Password; 2], call: Call) -> u8 {
+    let mut states = others.map(|other| state(width, mode, own, other));
+    let [one, two] = states.each_mut().map(|state| state.reply(&call));
     assert_eq!(one, two, "{own:?} {others:?} {call:?}");
     let left = states.each_mut().map(|state| {
         let cluster = &mut state.store.clusters[0][2];
@@ -46,17 +46,19 @@ fn number(mode: Mode, own: Password, others: [Password; 2], call: Call) -> u8 {
 /// that of the mode, primary and not, or one made from the other mode's password in either store.
 #[test]
 fn whatever_the_four_passwords_are() {
-    let weaker = Selector([0x7e, 255, 255, 255]);
     let mut numbers: BTreeMap<u8, usize> = BTreeMap::new();
     for at in 0..2 * FEW.len().pow(4) {
         let mode = Mode::ALL[at % 2];
         let [own, one, two, password] =
             [0, 1, 2, 3].map(|place| FEW[at / 2 / 5_usize.pow(place) % 5]);
+        let width = Width::ALL[at % 3];
+        let flat = width.flat();
+        let weaker = Selector::new(width, [flat - 9, flat, flat, flat]);
         for made_from in [own, one, two] {
-            for selector in [Selector::PRIMARY, weaker] {
+            for selector in [Selector::primary(width), weaker] {
                 let handle = Handle::converted(0, 2, &made_from, selector);
                 let call = renew(mode.number(), handle, password);
-                let number = number(mode, own, [one, two], call);
+                let number = number(width, mode, own, [one, two], call);
                 *numbers.entry(number).or_default() += 1;
             }
         }
@@ -65,30 +67,37 @@ fn whatever_the_four_passwords_are() {
     assert_eq!(met, [0, 9, 10, 12], "{numbers:?}");
 }
 
-/// Handles with every set of segments, right and wrong ones, and passwords by chance.
+/// Handles with every set of segments, right and wrong ones, some of another width than the cluster's, and passwords by
+/// chance.
 #[test]
 fn whatever_the_handle_is() {
     let random = &mut Random::from_seed(1);
-    let selectors = selectors()
-        .chain([[255; 4]; 400])
-        .chain([[255, 0, 255, 255]; 9]);
-    let mut numbers: BTreeMap<u8, usize> = BTreeMap::new();
-    for selector in selectors {
-        let passwords: [Password; 4] = std::array::from_fn(|_| random.bytes());
-        let [own, one, two, third] = passwords;
-        let mode = Mode::ALL[random.below(2) as usize];
-        let made_from = *random.pick(&[own, own, own, one, two, third]).unwrap();
-        let handle = Handle::converted(0, 2, &made_from, Selector(selector));
-        // Either store may have equal passwords, or neither.
-        let others = *random.pick(&[[one, two], [own, two], [one, own]]).unwrap();
-        for password in passwords {
-            let call = renew(mode.number(), handle, password);
-            let number = number(mode, own, others, call);
-            *numbers.entry(number).or_default() += 1;
+    for width in Width::ALL {
+        let flat = width.flat();
+        let selectors = sets(width)
+            .into_iter()
+            .chain([[flat; 4]; 400])
+            .chain([[flat, 0, flat, flat]; 9]);
+        let selectors = selectors.map(|parts| Selector::new(width, parts));
+        let wide = others(width).flat_map(|other| [Selector::primary(other); 40]);
+        let mut numbers: BTreeMap<u8, usize> = BTreeMap::new();
+        for selector in selectors.chain(wide) {
+            let passwords: [Password; 4] = std::array::from_fn(|_| random.bytes());
+            let [own, one, two, third] = passwords;
+            let mode = Mode::ALL[random.below(2) as usize];
+            let made_from = *random.pick(&[own, own, own, one, two, third]).unwrap();
+            let handle = Handle::converted(0, 2, &made_from, selector);
+            // Either store may have equal passwords, or neither.
+            let others = *random.pick(&[[one, two], [own, two], [one, own]]).unwrap();
+            for password in passwords {
+                let call = renew(mode.number(), handle, password);
+                let number = number(width, mode, own, others, call);
+                *numbers.entry(number).or_default() += 1;
+            }
         }
+        let met: Vec<u8> = numbers.keys().copied().collect();
+        assert_eq!(met, [0, 4, 9, 10, 12, 25], "{numbers:?}");
     }
-    let met: Vec<u8> = numbers.keys().copied().collect();
-    assert_eq!(met, [0, 4, 9, 10, 12], "{numbers:?}");
 }
 
 /// A list of two records: a cluster is made, and one mode's password replaced.
@@ -103,7 +112,7 @@ fn list(mode: Mode, own: Password, other: Password, password: Password) -> Vec<u
     new_cluster[48..].copy_from_slice(&write);
     let mut renewed: Record = [0; RECORD_BYTES];
     (renewed[1], renewed[3]) = (9, mode.number() as u8);
-    renewed[8..31].copy_from_slice(&Handle::primary(0, 2, own).to_bytes());
+    renewed[8..31].copy_from_slice(&Handle::primary(Width::Eight, 0, 2, own).to_bytes());
     renewed[32..48].copy_from_slice(&password);
     [new_cluster, renewed].concat()
 }

@@ -1,7 +1,11 @@
 //! The published handles are those of the model, and are what the calls give.
 
-use model::handle::{Handle, HandleBytes, Password};
+use model::call::Call;
+use model::handle::{Handle, Password, Width};
 use model::hexadecimal::decode;
+use model::model::run;
+use model::sizes::{CLUSTERS, MEMORY_BYTES, NODES};
+use model::store::{Cluster, Store};
 use model::vectors::text;
 use std::collections::HashMap;
 
@@ -20,19 +24,23 @@ fn read(line: &str) -> (&str, HashMap<&str, &str>) {
 }
 
 fn handle(text: &str) -> Handle {
-    let bytes: HandleBytes = decode(text).unwrap().try_into().unwrap();
-    Handle::from_bytes(&bytes)
+    Handle::from_bytes(&decode(text).unwrap()).unwrap()
+}
+
+fn segments(width: Width) -> std::ops::Range<usize> {
+    0..width.segments()
 }
 
 /// What a line about a weakening has to say: counted segment by segment.
-fn weakening(old: &Handle, mask: u8) -> (&'static str, Option<&'static str>) {
-    let segments = || (0..8).filter(|&segment| old.selector.references(segment));
+fn weakening(old: &Handle, mask: u16) -> (&'static str, Option<&'static str>) {
+    let referenced = || segments(old.width()).filter(|&segment| old.selector.references(segment));
     let kept = |segment: &usize| mask >> segment & 1 == 1;
-    let left = segments().filter(kept).count();
+    let left = referenced().filter(kept).count();
+    let flat = old.width().flat();
     match left {
         0 => ("empty", Some("21")),
-        _ if left == segments().count() => ("weakened", None),
-        _ if old.selector.0.contains(&255) => ("weakened", None),
+        _ if left == referenced().count() => ("weakened", None),
+        _ if old.selector.subselectors.contains(&flat) => ("weakened", None),
         _ => ("spent", Some("17")),
     }
 }
@@ -41,15 +49,16 @@ fn weakening(old: &Handle, mask: u8) -> (&'static str, Option<&'static str>) {
 fn either(one: &Handle, two: &Handle) -> Vec<usize> {
     let references =
         |&segment: &usize| one.selector.references(segment) || two.selector.references(segment);
-    (0..8).filter(references).collect()
+    segments(one.width()).filter(references).collect()
 }
 
 /// What a line about a join has to say; both handles have to validate where they are.
 fn joining(one: &Handle, two: &Handle, primary: &Password) -> (&'static str, Option<&'static str>) {
-    assert!(one.validates(primary) && two.validates(primary));
+    assert!(one.is_made_from(primary) && two.is_made_from(primary));
+    assert_eq!(one.width(), two.width());
     match (one.node, one.local) == (two.node, two.local) {
         false => ("apart", Some("24")),
-        true if either(one, two).len() == 8 => ("whole", Some("23")),
+        true if either(one, two).len() == one.width().segments() => ("whole", Some("23")),
         true => ("joined", None),
     }
 }
@@ -61,8 +70,10 @@ fn joined_in_the_form_of_a_reduced_handle() {
     for (_, values) in lines.map(read) {
         let [one, two, new] = ["one", "two", "new"].map(|key| handle(values[key]));
         assert_eq!((new.node, new.local), (one.node, one.local));
-        assert_eq!(new.selector.0[1..], [255; 3]);
-        assert_ne!(new.selector.0[0], 255);
+        let flat = new.width().flat();
+        assert_eq!(new.width(), one.width());
+        assert_eq!(new.selector.subselectors[1..], [flat; 3]);
+        assert_ne!(new.selector.subselectors[0], flat);
         assert_eq!(either(&new, &new), either(&one, &two));
         if one == two {
             let reduced = format!("old={} new={} ", values["one"], values["new"]);
@@ -70,7 +81,7 @@ fn joined_in_the_form_of_a_reduced_handle() {
             with_itself += 1;
         }
     }
-    assert_eq!(with_itself, 8);
+    assert_eq!(with_itself, 12);
 }
 
 #[test]
@@ -83,13 +94,16 @@ fn every_handle_validates_and_every_count_is_right() {
         *kinds.entry(kind).or_default() += 1;
         if let (Some(new), Some(primary)) = (values.get("new"), values.get("primary")) {
             let new = handle(new);
-            assert!(new.validates(&decode(primary).unwrap().try_into().unwrap()));
+            assert!(new.is_made_from(&decode(primary).unwrap().try_into().unwrap()));
             assert_eq!(new.selector.count().to_string(), values["count"]);
             assert_ne!(values["count"], "0");
             assert!(!new.selector.is_gapped());
         }
+        if kind == "length" {
+            continue;
+        }
         if let (Some(old), Some(mask)) = (values.get("old"), values.get("mask")) {
-            let mask = u8::from_str_radix(mask, 16).unwrap();
+            let mask = u16::from_str_radix(mask, 16).unwrap();
             let number = values.get("number").copied();
             assert_eq!((kind, number), weakening(&handle(old), mask));
         }
@@ -101,16 +115,86 @@ fn every_handle_validates_and_every_count_is_right() {
         }
     }
     let expected = [
-        ("conversion", 32),
-        ("primary", 8),
-        ("weakened", 160),
-        ("reduced", 160),
-        ("joined", 72),
-        ("whole", 40),
-        ("apart", 6),
-        ("empty", 24),
-        ("spent", 8),
-        ("validation", 24),
+        ("conversion", 48),
+        ("primary", 12),
+        ("weakened", 230),
+        ("reduced", 230),
+        ("joined", 102),
+        ("whole", 60),
+        ("apart", 18),
+        ("empty", 48),
+        ("spent", 18),
+        ("length", 63),
+        ("validation", 117),
     ];
     assert_eq!(kinds, HashMap::from(expected));
+}
+
+/// A cluster with the line's primary password in its mode, and with its width, or that of the handle's length.
+fn cluster(values: &HashMap<&str, &str>, handle: &[u8]) -> Cluster {
+    let primary: Password = decode(values["primary"]).unwrap().try_into().unwrap();
+    let told = Width::of_handle_bytes(handle.len()).map(Width::number);
+    let other = primary.map(|byte| !byte);
+    let (read, write) = match values["mode"] {
+        "read" => (primary, other),
+        _ => (other, primary),
+    };
+    Cluster {
+        active: true,
+        width: match values.get("width") {
+            Some(width) => width.parse().unwrap(),
+            None => told.unwrap(),
+        },
+        read,
+        write,
+        ..Cluster::INACTIVE
+    }
+}
+
+/// The number of a call where this cluster stands at node 0 to 3, local number 0 to 7.
+fn number(cluster: Cluster, call: Call) -> u8 {
+    let mut store = Store::starting();
+    store.clusters = [[cluster; CLUSTERS]; NODES];
+    run(&mut store, &mut [0; MEMORY_BYTES], &mut [], &call).number
+}
+
+/// What validations say, and what is refused by a length.
+#[test]
+fn numbers_are_those_of_calls() {
+    let lines = PUBLISHED.lines();
+    let lines = lines.filter(|line| line.starts_with("length ") || line.starts_with("validation "));
+    let mut other_widths = 0;
+    for line in lines {
+        let (kind, values) = read(line);
+        let bytes = |key: &str| values.get(key).map(|text| decode(text).unwrap());
+        let mode = match values.get("mode") {
+            Some(&"write") => 2,
+            _ => 1,
+        };
+        let number = match (bytes("handle"), bytes("old"), bytes("one"), bytes("two")) {
+            (Some(handle), ..) => {
+                number(cluster(&values, &handle), Call::Validate { mode, handle })
+            }
+            (_, Some(handle), ..) => {
+                let mask = u16::from_str_radix(values["mask"], 16).unwrap();
+                number(Cluster::INACTIVE, Call::Weaken { mask, handle })
+            }
+            (_, _, Some(handle), Some(other)) => {
+                let cluster = cluster(&values, &handle);
+                number(
+                    cluster,
+                    Call::Join {
+                        mode,
+                        handle,
+                        other,
+                    },
+                )
+            }
+            _ => panic!("{line}"),
+        };
+        assert_eq!(values["number"], number.to_string(), "{line}");
+        assert!(kind != "length" || number == 25);
+        other_widths += usize::from(values.contains_key("width") && number == 25);
+    }
+    assert!(other_widths > 80, "{other_widths}");
 }

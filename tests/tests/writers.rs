@@ -4,13 +4,12 @@
 
 mod support;
 
-use model::call::{Call, Reply};
-use model::handle::{derive, Handle};
+use model::call::Call;
+use model::handle::{derive, Handle, Width};
 use model::random::Random;
 use model::store::{Cluster, Mode, Segment};
 use std::collections::BTreeMap;
-use std::ops::Range;
-use support::valid::valid_call;
+use support::valid::{answer, any_width, parts, valid_call};
 use support::*;
 
 const LISTS: usize = 400;
@@ -21,19 +20,21 @@ const BUFFER_BYTES: usize = 40;
 const APART: usize = 0;
 const BESIDE: usize = 1;
 
-/// Each cluster has two segments; between them is memory of none.
+/// Each cluster has a width by chance and two segments, the first and the last; between them is memory of none.
 fn pair(random: &mut Random) -> [Bench; 2] {
     let mut start = Bench::starting();
     start.memory.fill_with(|| random.byte());
     for local in [APART, BESIDE] {
+        let width = any_width(random);
         let mut cluster = Cluster {
             active: true,
+            width: width.number(),
             read: random.bytes(),
             write: random.bytes(),
             ..Cluster::INACTIVE
         };
-        for segment in 0..2 {
-            let base = (2 * segment + local) * BUFFER_BYTES;
+        for (at, segment) in [0, width.segments() - 1].into_iter().enumerate() {
+            let base = (2 * at + local) * BUFFER_BYTES;
             let length = 1 + random.below(BUFFER_BYTES as u64);
             cluster.segments[segment] = Segment::present(base as u16, length as u16);
         }
@@ -48,22 +49,18 @@ fn pair(random: &mut Random) -> [Bench; 2] {
     [start, other]
 }
 
-/// Where the segments of a cluster of node 0 are.
-fn parts(state: &Bench, local: usize) -> Vec<Range<usize>> {
-    let segments = state.store.clusters[0][local].segments.iter();
-    let extents = segments.filter_map(Segment::extent);
-    extents.map(|extent| extent.in_memory(0)).collect()
-}
-
 /// Whether no handle of the cluster reads by this call, in either state.
 fn is_free(states: &[Bench; 2], call: &Call) -> bool {
-    let reads = |&handle: &Handle| {
+    let reads = |handle: Handle| {
         let mode = READ_MODE;
-        let validation = Call::Validate { mode, handle };
+        let validation = Call::Validate {
+            mode,
+            handle: handle.into(),
+        };
         let mut states = states.iter();
-        states.any(|state| state.clone().number(validation) == 0)
+        states.any(|state| state.clone().number(&validation) == 0)
     };
-    let of_cluster = |handle: &&Handle| handle.name() == (0, APART as u8);
+    let of_cluster = |handle: &Handle| handle.name() == (0, APART as u8);
     let mut own = call.presented().filter(of_cluster);
     call.needed_mode() != Some(Mode::Read) || !own.any(reads)
 }
@@ -76,26 +73,21 @@ fn free_call(random: &mut Random, states: &[Bench; 2]) -> Call {
         let mut call = valid_call(random, state);
         let cluster = &state.store.clusters[0][APART];
         if let Call::Read { handle, .. } | Call::Look { handle, .. } = &mut call {
-            if usize::from(handle.local) == APART {
-                handle.password = derive(&cluster.write, &handle.selector);
+            let mut read_by = Handle::from_bytes(handle).expect("it has a width");
+            if usize::from(read_by.local) == APART {
+                read_by.password = derive(&cluster.write, &read_by.selector);
+                *handle = read_by.into();
             }
         }
         if let (Call::Weaken { handle, .. }, true) = (&mut call, random.one_in(2)) {
-            *handle = Handle::primary(0, APART as u8, cluster.read);
+            let width = cluster.known_width().unwrap_or(Width::Eight);
+            *handle = Handle::primary(width, 0, APART as u8, cluster.read).into();
         }
         let deletes = matches!(call, Call::DeleteCluster { .. });
         if is_free(states, &call) && (!deletes || random.one_in(8)) {
             return call;
         }
     }
-}
-
-/// The reply, the buffer afterwards, and the bytes that a look shows.
-fn answer(state: &mut Bench, call: Call, data: &[u8]) -> (Reply, Vec<u8>, Vec<u8>) {
-    let mut buffer = data.to_vec();
-    let reply = state.ask(call, &mut buffer);
-    let shown = reply.shown.of(&state.memory).expect("a part of it");
-    (reply, buffer, shown.to_vec())
 }
 
 /// Equal are the records but for the cluster's read password, and the bytes of the other's segments.
@@ -112,14 +104,14 @@ fn agree(states: &[Bench; 2]) -> bool {
     one == two
 }
 
-/// Counts the calls of each name and number, those about the cluster and those about the other one. Tells whether the
-/// states differ to the end in what they may.
-fn list(random: &mut Random, met: &mut BTreeMap<(usize, String, u8), usize>) -> bool {
+/// Counts the calls of each name and number, those about the cluster and those about the other one. Gives the cluster's
+/// width where the states differ to the end in what they may.
+fn list(random: &mut Random, met: &mut BTreeMap<(usize, String, u8), usize>) -> Option<u8> {
     let mut states = pair(random);
     for _ in 0..LIST_CALLS {
         let call = free_call(random, &states);
         let data: [u8; BUFFER_BYTES] = random.bytes();
-        let [one, two] = states.each_mut().map(|state| answer(state, call, &data));
+        let [one, two] = states.each_mut().map(|state| answer(state, &call, &data));
         assert_eq!(one, two, "{call:?}");
         assert!(agree(&states), "{call:?}");
         let local = match call {
@@ -132,17 +124,20 @@ fn list(random: &mut Random, met: &mut BTreeMap<(usize, String, u8), usize>) -> 
     }
     let [one, two] = &states;
     let mut own = parts(one, APART).into_iter();
-    own.any(|part| one.memory[part.clone()] != two.memory[part])
-        && one.store.clusters[0][APART].read != two.store.clusters[0][APART].read
+    let bytes_differ = own.any(|part| one.memory[part.clone()] != two.memory[part]);
+    let [one, two] = [one, two].map(|state| state.store.clusters[0][APART]);
+    (bytes_differ && one.read != two.read).then_some(one.width)
 }
 
 #[test]
 fn whoever_writes_gets_the_same() {
     let random = &mut Random::from_seed(1);
     let mut met = BTreeMap::new();
-    let lists = (0..LISTS).filter(|_| list(random, &mut met));
-    let differing = lists.count();
-    assert!(differing > LISTS / 10, "{differing}");
+    let differing: Vec<u8> = (0..LISTS).filter_map(|_| list(random, &mut met)).collect();
+    for width in [4, 8, 16] {
+        let lists = differing.iter().filter(|of| **of == width);
+        assert!(lists.count() > LISTS / 30, "{differing:?}");
+    }
     let due = [
         (APART, "NewCluster", 0),
         (APART, "DeleteCluster", 0),
@@ -151,6 +146,9 @@ fn whoever_writes_gets_the_same() {
         (APART, "Write", 0),
         (APART, "Write", 8),
         (APART, "Write", 22),
+        (APART, "Write", 25),
+        (APART, "NewSegment", 25),
+        (BESIDE, "Write", 25),
         (APART, "Weaken", 0),
         (APART, "Reduce", 0),
         (APART, "NewPassword", 0),
@@ -186,8 +184,11 @@ fn whoever_reads_does_not() {
         let [one, two] = states
             .each_ref()
             .map(|state| state.store.clusters[0][APART]);
-        let reader = Handle::primary(0, APART as u8, one.read);
-        let read = |states: &mut [Bench; 2]| states.each_mut().map(|state| state.read(1, reader));
+        let width = one.known_width().expect("it is active");
+        let reader = Handle::primary(width, 0, APART as u8, one.read);
+        let last = u32::from(width.number()) - 1;
+        let read =
+            |states: &mut [Bench; 2]| states.each_mut().map(|state| state.read(last, reader));
         let there = states.each_ref().map(|state| {
             let part = parts(state, APART).swap_remove(1);
             state.memory[part].to_vec()

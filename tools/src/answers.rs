@@ -1,8 +1,8 @@
 //! The text that `benchrun` prints, read back.
 
 use crate::tokens::Mistake;
+use crate::values::HandleBytes;
 use model::call;
-use model::handle::HandleBytes;
 use model::hexadecimal;
 use model::table::DONE;
 

@@ -5,11 +5,10 @@ use crate::entry::Entry;
 use crate::made::Made;
 use crate::text::Text;
 use crate::tokens::Mistake;
-use crate::values::HandleText;
+use crate::values::{HandleBytes, HandleText};
 use model::call::Reply;
-use model::handle::{Handle, HandleBytes};
-use model::list::{Record, Session, NEXT_AT};
-use model::sizes::HANDLE_BYTES;
+use model::handle::Handle;
+use model::list::{Record, Session, HANDLE_BYTES, NEXT_AT};
 use model::table::word;
 use std::collections::HashMap;
 
@@ -96,16 +95,16 @@ impl<'a> Builder<'a> {
 
     fn find_made(&self, made: &Made) -> Option<HandleBytes> {
         let base = match made.base() {
-            Some(base) => Handle::from_bytes(&self.find(base)?),
+            Some(base) => Handle::from_bytes(&self.find(base)?)?,
             None => Made::nothing(),
         };
-        Some(made.apply(base).to_bytes())
+        made.apply(base).to_bytes().try_into().ok()
     }
 
     fn name_given(&mut self, at: usize, reply: &Reply) {
         let names = self.text.entries[at].gives.iter();
-        for (name, handle) in names.zip([reply.first, reply.second]) {
-            if let Some(name) = name {
+        for (name, handle) in names.zip([&reply.first, &reply.second]) {
+            if let (Some(name), Ok(handle)) = (name, handle.as_slice().try_into()) {
                 self.given.insert(name, handle);
             }
         }

@@ -3,6 +3,7 @@
 use crate::tokens::{Mistake, Tokens};
 use crate::values::{self, HandleText};
 use model::handle::{Handle, Password, Selector};
+use model::list::WIDTH;
 use model::sizes::{PASSWORD_BYTES, SUBSELECTORS};
 
 #[derive(Clone, Debug, Default)]
@@ -52,16 +53,17 @@ impl Made {
 
     /// The handle, `base` being what the line starts from.
     pub fn apply(&self, base: Handle) -> Handle {
+        let selector = |bytes: [u8; SUBSELECTORS]| Selector::new(WIDTH, bytes.map(u16::from));
         Handle {
             node: self.node.unwrap_or(base.node),
             local: self.local.unwrap_or(base.local),
             password: self.password.unwrap_or(base.password),
-            selector: self.selector.map_or(base.selector, Selector),
+            selector: self.selector.map_or(base.selector, selector),
         }
     }
 
     /// What a line starts from that names no other handle.
     pub fn nothing() -> Handle {
-        Handle::primary(0, 0, [0; PASSWORD_BYTES])
+        Handle::primary(WIDTH, 0, 0, [0; PASSWORD_BYTES])
     }
 }

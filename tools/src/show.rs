@@ -2,8 +2,8 @@
 
 use crate::answers::{Answer, Answers, Given};
 use crate::tokens::Mistake;
+use crate::values::HandleBytes;
 use model::call::Call;
-use model::handle::{Handle, HandleBytes};
 use model::hexadecimal;
 use model::list::{records, request, Record, Request, CODE_AT, DATA_LENGTH_AT};
 use model::table::{word, LIST_LENGTH};
@@ -110,10 +110,10 @@ impl Known {
         self.0.entry(*handle).or_insert(words);
     }
 
-    fn words(&self, handle: &Handle) -> String {
-        let bytes = handle.to_bytes();
-        let unknown = || format!("handle {}", hexadecimal::encode(&bytes));
-        self.0.get(&bytes).cloned().unwrap_or_else(unknown)
+    fn words(&self, handle: &[u8]) -> String {
+        let unknown = || format!("handle {}", hexadecimal::encode(handle));
+        let known = self.0.get(handle);
+        known.cloned().unwrap_or_else(unknown)
     }
 }
 
@@ -128,7 +128,7 @@ fn asks(record: &Record, known: &Known) -> String {
 
 fn call_in_words(call: &Call, data_length: u8, known: &Known) -> String {
     let with = call
-        .handle()
+        .handle_bytes()
         .map_or(String::new(), |handle| known.words(handle));
     let from_node = |what: &str, node: u32, segment: u32| {
         format!("{what} segment {segment} from node {node} with {with}")
@@ -159,8 +159,10 @@ fn call_in_words(call: &Call, data_length: u8, known: &Known) -> String {
         Call::Reduce { mode, .. } => format!("reduce {with} {}", for_mode(mode)),
         Call::NewPassword { mode, .. } => format!("new password {} with {with}", for_mode(mode)),
         Call::Freeze { node, segment, .. } => from_node("freeze", node, segment),
-        Call::Join { mode, other, .. } => {
-            format!("join {with} and {} {}", known.words(&other), for_mode(mode))
+        Call::Join {
+            mode, ref other, ..
+        } => {
+            format!("join {with} and {} {}", known.words(other), for_mode(mode))
         }
         // No list has these two: they have no code.
         Call::Look { node, segment, .. } => from_node("look at", node, segment),

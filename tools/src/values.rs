@@ -1,13 +1,15 @@
 //! Numbers, bytes, modes and handles as a text writes them.
 
 use crate::tokens::{Mistake, Tokens};
-use model::handle::HandleBytes;
 use model::hexadecimal;
-use model::sizes::HANDLE_BYTES;
+use model::list::HANDLE_BYTES;
 
 /// The most bytes that one value may stand for; far above any list.
 const MOST_BYTES: usize = 1 << 20;
 const BYTES_EXPECTED: &str = "bytes such as 0a0b, 11*16 or \"text\"";
+
+/// A handle as a record carries it. Lists have clusters of eight segments alone, so this is the one length.
+pub type HandleBytes = [u8; HANDLE_BYTES];
 
 /// A handle as a text writes it.
 #[derive(Clone, Debug, PartialEq, Eq)]

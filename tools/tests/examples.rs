@@ -130,6 +130,15 @@ fn refused_joins_in_words() {
     assert!(line("78 ").contains(" for mode 3 "), "{}", line("78 "));
 }
 
+/// What `benchrun` never prints is still shown by its word.
+#[test]
+fn a_wrong_length_in_words() {
+    let shown = shown("sample.list", "2 5 25\nend 1\n");
+    let line = shown.lines().next().unwrap();
+    assert!(line.starts_with("2  read segment 5 with handle 000002"));
+    assert!(line.ends_with("  25 length"), "{line}");
+}
+
 #[test]
 fn answers_that_do_not_belong() {
     assert_eq!(shown("sample.list", "list 19\n"), "list refused: 19 link\n");

@@ -159,6 +159,40 @@ fn numbers_that_calls_come_to() {
     );
 }
 
+/// A record has room for 23 bytes, so a list has no handle of another length and comes to no 25.
+#[test]
+fn handles_of_eight_segments_alone() {
+    for bytes in [0, 20, 21, 22, 24, 27, 28] {
+        let digits = "0".repeat(2 * bytes);
+        let found = mistake(&format!("read segment 5 handle {digits}"));
+        assert!(
+            found.starts_with("1: expected a handle's name or 46 hexadecimal digits after"),
+            "{found}"
+        );
+    }
+    assert_eq!(
+        mistake("let small = selector ffff"),
+        "1: expected 4 bytes after 'selector', found 2"
+    );
+    assert_eq!(
+        mistake("let large = selector ff*8"),
+        "1: expected 4 bytes after 'selector', found 8"
+    );
+    assert_eq!(
+        mistake("new-cluster node 0 local 2 width 16"),
+        "1: expected one of node, local, read, write, next, fill, expect, ->, found 'width'"
+    );
+    assert_eq!(
+        mistake("let a = node 0\nweaken handle a mask 256"),
+        "2: expected a number from 0 to 255 after 'mask', found '256'"
+    );
+    let expected = format!("{CLUSTER} expect 25");
+    assert_eq!(
+        mistake(&expected),
+        "1: expected 25 (length), found 0 (done)"
+    );
+}
+
 #[test]
 fn records() {
     let many = "repeat 200 code 0\nrepeat 56 code 0\n";

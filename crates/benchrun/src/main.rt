@@ -73,7 +73,7 @@ fn run_large(list: &[u8]) -> bool {
 }
 
 // Room for the text of a list with no read.
-fn blank_brief() -> [u8; 35235]
+fn blank_brief() -> [u8; 39315]
     ensures { λ r. ⌜ length r ≡ briefText ⌝ }
 {
     [0; BRIEF_TEXT]

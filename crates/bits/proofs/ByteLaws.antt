@@ -6,7 +6,7 @@ use native.Mathlib.Omega.{arith}
 use native.Mathlib.Numerals.{add-one}
 use mathlib.Core.Path.{_≡_, refl, sym, ap, ap₂, _∙_}
 use mathlib.Core.List.{List, [], _∷_, _++_, append-nil, append-assoc}
-use lib.ListN.{length, getD, length-append}
+use lib.ListN.{length, getD, replicate, length-append}
 use Rattle.bits.specs.Bytes.{bytes, wordFrom, word}
 
 pub length-bytes : (k n : ℕ) → length (bytes k n) ≡ k
@@ -57,3 +57,32 @@ bytes-word bs h = ap (λ (n : ℕ). bytes n (word bs)) (sym (add-zero (length bs
 pub word-two : (high low : ℕ) → high * 256 + low ≡ word (high ∷ low ∷ [])
 unfolding word wordFrom
 word-two high low = omega arith
+
+-- zero has zero bytes, and a number below 256 one after them
+pub bytes-zero : (k : ℕ) → bytes k 0 ≡ replicate k 0
+unfolding bytes
+bytes-zero zero = refl
+bytes-zero (suc k) = ap (λ (l : List ℕ). l ++ (0 ∷ [])) (bytes-zero k) ∙ replicate-snoc k
+  where
+    replicate-snoc : (n : ℕ) → _++_ {A = ℕ} (replicate n 0) (0 ∷ []) ≡ replicate (suc n) 0
+    replicate-snoc zero = refl
+    replicate-snoc (suc n) = ap (λ (l : List ℕ). 0 ∷ l) (replicate-snoc n)
+
+pub bytes-small : (k n : ℕ) → n < 256 → bytes (suc k) n ≡ replicate k 0 ++ (n ∷ [])
+unfolding bytes
+bytes-small k n h = ap₂ (λ (q r : ℕ). bytes k q ++ (r ∷ [])) high low ∙ ap (λ (l : List ℕ). l ++ (n ∷ [])) (bytes-zero k)
+  where
+    high : n / 256 ≡ 0
+    high = omega arith
+
+    low : n % 256 ≡ n
+    low = omega arith
+
+-- a number below 65536 has two bytes after the zeros
+pub bytes-word16 : (k n : ℕ) → n < 65536
+    → bytes (suc (suc k)) n ≡ (replicate k 0 ++ (n / 256 % 256 ∷ [])) ++ (n % 256 ∷ [])
+unfolding bytes
+bytes-word16 k n h = ap (λ (l : List ℕ). (l ++ (n / 256 % 256 ∷ [])) ++ (n % 256 ∷ [])) (ap (bytes k) high ∙ bytes-zero k)
+  where
+    high : n / 256 / 256 ≡ 0
+    high = omega arith

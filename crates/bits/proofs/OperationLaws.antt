@@ -139,14 +139,15 @@ and-has w p m =
     has-and i (setOf w p) m ∙ ap (λ (x : Bool). x && has i m) (has-setOf w p i l)
     ∙ sym (has-setOf w (λ i. p i && has i m) i l))
 
--- `s & !m`, of a set s, has what s has and m has not
-pub and-not : (w : ℕ) (p : ℕ → Bool) (m : ℕ) → m < 2 ^ w
-    → bitAnd (setOf w p) (full w - m) ≡ setOf w (λ i. p i && not (has i m))
-and-not w p m h =
-    same-bits w (bitAnd (setOf w p) (full w - m)) (setOf w (λ i. p i && not (has i m)))
-    (lt-of-le-of-lt (and-le-l (setOf w p) (full w - m)) (setOf-lt w p)) (setOf-lt w (λ i. p i && not (has i m)))
+-- `s & !m`, of a set s of w bits in a word of v, has what s has and m has not
+pub and-not : (w v : ℕ) → w ≤ v → (p : ℕ → Bool) (m : ℕ) → m < 2 ^ v
+    → bitAnd (setOf w p) (full v - m) ≡ setOf w (λ i. p i && not (has i m))
+and-not w v n p m h =
+    same-bits w (bitAnd (setOf w p) (full v - m)) (setOf w (λ i. p i && not (has i m)))
+    (lt-of-le-of-lt (and-le-l (setOf w p) (full v - m)) (setOf-lt w p)) (setOf-lt w (λ i. p i && not (has i m)))
     (λ i l.
-    has-and i (setOf w p) (full w - m) ∙ ap₂ (λ (x y : Bool). x && y) (has-setOf w p i l) (has-not w i m l h)
+    has-and i (setOf w p) (full v - m)
+    ∙ ap₂ (λ (x y : Bool). x && y) (has-setOf w p i l) (has-not v i m (lt-of-lt-of-le l n) h)
     ∙ sym (has-setOf w (λ i. p i && not (has i m)) i l))
 
 -- `s & (1 << i) != 0` tests for i

@@ -14,23 +14,33 @@ use Rattle.calls.specs.Numbers.{tests}
 use Rattle.calls.specs.Cases.{added, Case, calls, named}
 use Rattle.calls.specs.Bounds.{bare, edge, sealed, free, empty, full, frozen, BoundsDone}
 use Rattle.calls.proofs.CaseLaws.{numbers-below}
-use Rattle.calls.proofs.Computing.{computing, sounding}
+use Rattle.store.proofs.QuickLaws.{quick, quickly, sound-quick}
+use Rattle.calls.proofs.Computing.{computing}
 use Rattle.calls.proofs.StepLaws.{numberBelow}
 
 abbrev below : Store → List Case → List ℕ
 below s cs = map (λ (x : Call). numberBelow added x s memory) (calls cs)
 
+bare-quick : quick bare memory ≡ true
+unfolding quickly
+bare-quick = refl
+
 bare-sound : sound bare memory ≡ true
-unfolding sounding
-bare-sound = refl
+bare-sound = sound-quick bare memory ∙ bare-quick
+
+edge-quick : quick edge memory ≡ true
+unfolding quickly
+edge-quick = refl
 
 pub edge-sound : sound edge memory ≡ true
-unfolding sounding
-edge-sound = refl
+edge-sound = sound-quick edge memory ∙ edge-quick
+
+sealed-quick : quick sealed memory ≡ true
+unfolding quickly
+sealed-quick = refl
 
 sealed-sound : sound sealed memory ≡ true
-unfolding sounding
-sealed-sound = refl
+sealed-sound = sound-quick sealed memory ∙ sealed-quick
 
 free-below : below startingStore free ≡ named free
 unfolding tests computing

@@ -12,7 +12,7 @@ use borrow.Author.Tests.{leb-false, eqb-true, not-false}
 use Rattle.sizes.specs.Sizes.{nodes, clusters}
 use Rattle.handle.specs.declared.Handle.{Handle}
 use Rattle.handle.specs.Selectors.{gapped}
-use Rattle.handle.specs.Handles.{Name, nodeOf, widthOf, noSuchPlace}
+use Rattle.handle.specs.Handles.{Name, nodeOf, widthOf, noWidth, noSuchPlace}
 use Rattle.store.specs.declared.Store.{Store}
 use Rattle.store.specs.Records.{Tables, recordOf, readMode, writeMode}
 use Rattle.calls.specs.Calls.{Call, call, Arguments, Kind, newCluster, deleteCluster, newSegment, deleteSegment}
@@ -20,8 +20,8 @@ use Rattle.calls.specs.Calls.{read, write, weaken, reduce, newPassword, 
 use Rattle.calls.specs.Calls.{uses, needed, handleOf, presented, anyOf, nodeFor, localFor}
 use Rattle.calls.specs.Calls.{recordFor}
 use Rattle.calls.specs.Calls.{recordNamed}
-use Rattle.calls.specs.Numbers.{noPlace, badMode, badSegment, badSize, badField, gappedHandle, inactiveCluster}
-use Rattle.calls.specs.Numbers.{valid, violated}
+use Rattle.calls.specs.Numbers.{noPlace, badMode, badSegment, badSize, badWidth, badField, gappedHandle}
+use Rattle.calls.specs.Numbers.{badLength, inactiveCluster, otherWidth, valid, violated}
 
 pub or-left : (a b : Bool) → (a || b) ≡ false → a ≡ false
 or-left true b e = e
@@ -125,7 +125,8 @@ pub mode-known : (x : Call) → badField x ≡ false → (needed x ≡ readMode)
 unfolding badField badMode
 mode-known x e =
     go (uses (x .kind) .mode) (among (5 ∷ []) (x .kind))
-    (or-left (badMode x) (badSegment x) (or-left (badMode x || badSegment x) (badSize x) e))
+    (or-left (badMode x) (badSegment x)
+    (or-left (badMode x || badSegment x) (badSize x) (or-left (badMode x || badSegment x || badSize x) (badWidth x) e)))
   where
     m : ℕ
     m = x .args .mode
@@ -153,6 +154,10 @@ pub record-is : (x : Call) → opens (x .kind) ≡ true → recordFor x ≡ reco
 record-is x o = let r = opened x o in λ t. recordOf (r .node t) (r .local t)
 
 module _ (x : Call) (h : Handle) (i : Presents x h) where
+  pub known-is : badLength x ≡ false → noWidth h ≡ false
+  unfolding badLength
+  known-is e = none-of noWidth (presented x) e h i
+
   pub ungapped-is : gappedHandle x ≡ false → gapped (widthOf h) (h .selector) ≡ false
   unfolding gappedHandle
   ungapped-is e = none-of (λ h. gapped (widthOf h) (h .selector)) (presented x) e h i
@@ -163,6 +168,14 @@ module _ (x : Call) (h : Handle) (i : Presents x h) where
     active-is ts e =
         not-false (ts (recordNamed h) .active)
         (none-of (λ h. not (ts (recordNamed h) .active)) (presented x) (guarded (opens (x .kind)) _ o e) h i)
+
+    pub wide-is : (ts : Tables) → otherWidth x ts ≡ false → widthOf h ≡ ts (recordNamed h) .width
+    unfolding otherWidth
+    wide-is ts e =
+        eqb-true (widthOf h) (ts (recordNamed h) .width)
+        (not-false (eqb (widthOf h) (ts (recordNamed h) .width))
+        (none-of (λ h. not (eqb (widthOf h) (ts (recordNamed h) .width))) (presented x)
+        (guarded (opens (x .kind)) _ o e) h i))
 
     pub valid-is : (f : Name → List ℕ → ℕ → List ℕ) (s : Store) → violated f x s ≡ false → valid f (needed x) h s ≡ true
     unfolding violated

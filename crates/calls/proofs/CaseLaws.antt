@@ -8,6 +8,7 @@ use mathlib.Core.List.{List, [], _∷_, map}
 use Rattle.bits.specs.Sets.{has, setOf, count}
 use Rattle.bits.specs.Bytes.{bytes, wordFrom, word}
 use Rattle.sizes.specs.Sizes.{memory}
+use Rattle.handle.specs.Widths.{packed, unpacked}
 use Rattle.handle.specs.Handles.{encoded, decoded}
 use Rattle.store.specs.declared.Store.{Store}
 use Rattle.store.specs.Sound.{sound}
@@ -17,16 +18,23 @@ use Rattle.calls.specs.Cases.{added, sample, marked, Case, calls, named,
 use Rattle.calls.specs.NearCases.{nears, NearGiven}
 use Rattle.calls.specs.JoinCases.{joins, joinsApart, JoinsGiven}
 use Rattle.calls.specs.Orders as order
-use Rattle.calls.proofs.Computing.{computing, sounding}
+use Rattle.store.proofs.QuickLaws.{quick, quickly, sound-quick}
+use Rattle.calls.proofs.Computing.{computing}
 use Rattle.calls.proofs.StepLaws.{numberBelow, number-below}
 
+sample-quick : quick sample memory ≡ true
+unfolding quickly
+sample-quick = refl
+
 pub sample-sound : sound sample memory ≡ true
-unfolding sounding
-sample-sound = refl
+sample-sound = sound-quick sample memory ∙ sample-quick
+
+marked-quick : quick marked memory ≡ true
+unfolding quickly
+marked-quick = refl
 
 marked-sound : sound marked memory ≡ true
-unfolding sounding
-marked-sound = refl
+marked-sound = sound-quick marked memory ∙ marked-quick
 
 -- the numbers of calls on a sound store are those below the first row
 module _ (s : Store) (e : sound s memory ≡ true) where
@@ -87,7 +95,7 @@ frozen-orders-meet = refl
 
 damaged-told : map (λ (c : Case). number added (c .call) sample (memory - 1)) damaged
     ≡ map (λ (c : Case). c .number) damaged
-unfolding number sound has setOf count bytes word wordFrom encoded decoded tests
+unfolding number sound has setOf count bytes word wordFrom packed unpacked encoded decoded tests
 damaged-told = refl
 
 pub numbers-given : NumbersGiven

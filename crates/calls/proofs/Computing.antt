@@ -4,17 +4,18 @@ use Rattle.bits.specs.Sets.{has, setOf, count}
 use Rattle.bits.specs.Bytes.{bytes, wordFrom, word}
 use Rattle.loops.specs.Below.{every}
 use Rattle.loops.specs.Search.{leastFrom, least}
+use Rattle.handle.specs.Widths.{packed, unpacked}
 use Rattle.handle.specs.Handles.{encoded, decoded, samePassword, validates, weakened, reduced, joined}
 use Rattle.store.specs.Sound.{inRanges, endsInside, inside, soundMark, soundSegment, apart, nodeApart, zeroBytes, idle, settled}
-use Rattle.store.specs.Sound.{sound}
+use Rattle.store.specs.Sound.{below, sized, sound}
 use Rattle.store.specs.Records.{noneFrozen}
 use Rattle.store.specs.Placement.{clear, fits, newBase, placement}
 
 unfoldable pub computing : Unit {0}
-unfolding has setOf count bytes word wordFrom every least leastFrom encoded decoded samePassword validates weakened reduced joined
+unfolding has setOf count bytes word wordFrom every least leastFrom packed unpacked encoded decoded samePassword validates weakened reduced joined
     placement newBase fits clear apart inside inRanges endsInside noneFrozen
 computing = tt
 
 unfoldable pub sounding : Unit {0}
-unfolding sound every soundSegment soundMark nodeApart settled idle zeroBytes apart inside inRanges endsInside
+unfolding sound every soundSegment soundMark nodeApart settled sized below idle zeroBytes apart inside inRanges endsInside
 sounding = tt

@@ -13,22 +13,22 @@ use lib.ListN.{length}
 use borrow.Author.Tests.{ltb-false}
 use Rattle.handle.specs.Selectors.{gapped}
 use Rattle.handle.specs.declared.Handle.{Handle}
-use Rattle.handle.specs.Handles.{Name, nodeOf, widthOf}
+use Rattle.handle.specs.Handles.{Name, nodeOf, widthOf, noWidth}
 use Rattle.store.specs.declared.Store.{Store}
 use Rattle.store.specs.Records.{tableAt, readMode, writeMode, lengthOf}
 use Rattle.numbers.specs.Numbers.{noRoomNumber}
 use Rattle.store.specs.Placement.{placedAt, newBase, placement}
 use Rattle.calls.specs.Calls.{Call, call, Arguments, newCluster, newSegment, write, opens}
 use Rattle.calls.specs.Calls.{needed, handleOf, nodeFor, localFor, recordFor, recordNamed, placeFor}
-use Rattle.calls.specs.Numbers.{unsound, noPlace, badMode, badSegment, badSize, badField, gappedHandle, joinApart, elsewhere}
-use Rattle.calls.specs.Numbers.{inUse, twins, inactiveCluster, valid, violated, joinWhole, notPrimary, notReferenced, at}
+use Rattle.calls.specs.Numbers.{badLength, unsound, noPlace, badMode, badSegment, badSize, badWidth, badField, gappedHandle, joinApart, elsewhere}
+use Rattle.calls.specs.Numbers.{inUse, twins, inactiveCluster, otherWidth, valid, violated, joinWhole, notPrimary, notReferenced, at}
 use Rattle.calls.specs.Numbers.{clusterFrozen, oldPassword}
 use Rattle.calls.specs.Numbers.{segmentPresent, segmentAbsent, segmentFrozen, short, fullNode, emptyHandle, spentHandle, rows, number}
 use Rattle.calls.specs.Steps.{newBaseFor}
 use Rattle.calls.specs.Clear.{Clear}
 use Rattle.calls.proofs.FirstLaws.{first-clear}
 use Rattle.calls.proofs.CallLaws.{or-left, or-right, Presents, opened, InRange, in-range, handle-range, mode-known}
-use Rattle.calls.proofs.CallLaws.{record-is, ungapped-is, active-is, valid-is}
+use Rattle.calls.proofs.CallLaws.{record-is, known-is, ungapped-is, active-is, wide-is, valid-is}
 
 -- what placement tells, where it does not tell that there is no room
 placed : (o : Option ℕ) → eqb (placedAt o .number) noRoomNumber ≡ false → o ≡ some (placedAt o .base)
@@ -38,6 +38,7 @@ placed (some b) e = refl
 module _ (f : Name → List ℕ → ℕ → List ℕ) where
   -- no row of the table applies, row by row
   pub record NoRow (x : Call) (s : Store) (size : ℕ) : Type 0 where
+    pub badLength : badLength x ≡ false
     pub unsound : unsound size x s ≡ false
     pub noPlace : noPlace x ≡ false
     pub badField : badField x ≡ false
@@ -47,6 +48,7 @@ module _ (f : Name → List ℕ → ℕ → List ℕ) where
     pub inUse : inUse x (tableAt s) ≡ false
     pub twins : twins x ≡ false
     pub inactiveCluster : inactiveCluster x (tableAt s) ≡ false
+    pub otherWidth : otherWidth x (tableAt s) ≡ false
     pub violated : violated f x s ≡ false
     pub joinWhole : joinWhole x ≡ false
     pub notPrimary : notPrimary x ≡ false
@@ -65,6 +67,7 @@ module _ (f : Name → List ℕ → ℕ → List ℕ) where
     from-clear : Clear (at x s (rows f size)) → NoRow x s size
     from-clear r =
         record {
+          badLength = search;
           unsound = search;
           noPlace = search;
           badField = search;
@@ -74,6 +77,7 @@ module _ (f : Name → List ℕ → ℕ → List ℕ) where
           inUse = search;
           twins = search;
           inactiveCluster = search;
+          otherWidth = search;
           violated = search;
           joinWhole = search;
           notPrimary = search;
@@ -105,10 +109,20 @@ module _ (f : Name → List ℕ → ℕ → List ℕ) where
 
     pub done-segment : badSegment x ≡ false
     unfolding badField
-    done-segment = or-right (badMode x) (badSegment x) (or-left (badMode x || badSegment x) (badSize x) (r .badField))
+    done-segment =
+        or-right (badMode x) (badSegment x)
+        (or-left (badMode x || badSegment x) (badSize x)
+        (or-left (badMode x || badSegment x || badSize x) (badWidth x) (r .badField)))
+
+    pub done-width : badWidth x ≡ false
+    unfolding badField
+    done-width = or-right (badMode x || badSegment x || badSize x) (badWidth x) (r .badField)
 
     -- of each handle that it presents
     module _ (h : Handle) (i : Presents x h) where
+      pub each-known : noWidth h ≡ false
+      each-known = known-is x h i (r .badLength)
+
       pub each-range : InRange (nodeOf h) (h .local)
       each-range = handle-range x h i (r .noPlace)
 
@@ -117,6 +131,9 @@ module _ (f : Name → List ℕ → ℕ → List ℕ) where
 
       pub each-active : opens (x .kind) ≡ true → tableAt s (recordNamed h) .active ≡ true
       each-active o = active-is x h i o (tableAt s) (r .inactiveCluster)
+
+      pub each-wide : opens (x .kind) ≡ true → widthOf h ≡ tableAt s (recordNamed h) .width
+      each-wide o = wide-is x h i o (tableAt s) (r .otherWidth)
 
       pub each-valid : opens (x .kind) ≡ true → valid f (needed x) h s ≡ true
       each-valid o = valid-is x h i o f s (r .violated)
@@ -128,6 +145,11 @@ module _ (f : Name → List ℕ → ℕ → List ℕ) where
       pub done-active : tableAt s (recordFor x) .active ≡ true
       done-active =
           ap (λ (n : ℕ). tableAt s n .active) (record-is x o) ∙ each-active (handleOf x) (opened x o .presents) o
+
+      -- the handle has the width of its cluster
+      pub done-wide : widthOf (handleOf x) ≡ tableAt s (recordFor x) .width
+      done-wide =
+          each-wide (handleOf x) (opened x o .presents) o ∙ ap (λ (n : ℕ). tableAt s n .width) (sym (record-is x o))
 
       pub done-valid : valid f (needed x) (handleOf x) s ≡ true
       done-valid = each-valid (handleOf x) (opened x o .presents) o

@@ -49,6 +49,7 @@ module _ (f : Name → List ℕ → ℕ → List ℕ) where
     marked =
         record {
           active = words .others .active;
+          width = words .others .width;
           read = words .others .read;
           write = words .others .write;
           places = λ n i. go n i (ℕ-discrete n (recordFor y)) (ℕ-discrete i (g .segment));

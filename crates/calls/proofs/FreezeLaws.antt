@@ -87,6 +87,7 @@ module _ (f : Name → List ℕ → ℕ → List ℕ) (g : Arguments) (c : Copy)
     same =
         record {
           active = λ m. common (λ d. d .active) m (λ q. refl);
+          width = λ m. common (λ d. d .width) m (λ q. refl);
           read = λ m. common (λ d. d .read) m (λ q. refl);
           write = λ m. common (λ d. d .write) m (λ q. refl);
           segments = λ m j d. common (λ d. segmentOf (tableOf d) j) m (λ q. apart m j d q);

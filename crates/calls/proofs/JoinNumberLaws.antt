@@ -3,15 +3,16 @@
 -- Assumes nothing.
 use mathlib.Core.Path.{_≡_, refl, sym, ap, _∙_}
 use Prim.Native.Nat.{ℕ, _+_, _*_}
+use native.Mathlib.Decide.{ℕ-discrete}
 use native.Mathlib.Omega.{arith}
 use mathlib.Core.Bool.{Bool, true, false, not, _&&_, _||_, or-false, false≢true}
-use mathlib.Core.List.{List, [], _∷_}
+use mathlib.Core.List.{List, [], _∷_, _++_}
 use lib.Dec.{eqb}
 use borrow.Author.Tests.{eqb-true, eq-eqb, not-false}
 use Rattle.loops.proofs.BelowLaws.{and-left, and-right, and-both, test-off}
 use Rattle.handle.specs.declared.Handle.{Handle}
 use Rattle.handle.specs.Selectors.{gapped, wholeUnion, flat}
-use Rattle.handle.specs.Handles.{Name, nameOf, nodeOf, sameName, widthOf, noSuchPlace, decoded, Row, firstOf}
+use Rattle.handle.specs.Handles.{Name, nameOf, nodeOf, sameName, widthOf, noWidth, noSuchPlace, decoded, Row, firstOf}
 use Rattle.handle.specs.Handles.{validates}
 use Rattle.handle.proofs.JoinLaws.{or-swapped, joins}
 use Rattle.store.specs.declared.Store.{Store}
@@ -20,7 +21,7 @@ use Rattle.store.specs.Sound.{sound}
 use Rattle.calls.specs.Calls.{joining, reducing, validating, recordNamed}
 use Rattle.calls.specs.Numbers.{number, tests}
 use Rattle.calls.specs.Clear.{Clear}
-use Rattle.calls.proofs.FirstLaws.{Numbered, first-clear}
+use Rattle.calls.proofs.FirstLaws.{Numbered, first-clear, first-above}
 use Rattle.calls.proofs.StepLaws.{number-validate}
 use Rattle.calls.proofs.CallLaws.{or-left, or-right}
 
@@ -55,31 +56,44 @@ module _ (f : Name → List ℕ → ℕ → List ℕ) (s : Store) (size m : ℕ)
   abbrev pub idle : Handle → Bool
   idle h = not (clusterAt s (recordNamed h) .active)
 
+  abbrev pub other : Handle → Bool
+  other h = not (eqb (widthOf h) (clusterAt s (recordNamed h) .width))
+
   abbrev pub shut : Handle → Bool
-  shut h = not (validates (widthOf h) (f (nameOf h)) (primaryOf (clusterAt s (recordNamed h)) m) h)
+  shut h =
+      not
+      (eqb (widthOf h) (clusterAt s (recordNamed h) .width)
+      && validates (widthOf h) (f (nameOf h)) (primaryOf (clusterAt s (recordNamed h)) m) h)
 
   abbrev pub gap : Handle → Bool
   gap h = gapped (widthOf h) (h .selector)
 
-  abbrev pub eachRows : Handle → Handle → List Row
-  eachRows h k =
-      row 1 (not (sound s size))
+  -- the rows above the last
+  abbrev upperRows : Handle → Handle → List Row
+  upperRows h k =
+      row 25 (noWidth h || noWidth k)
+      ∷ row 1 (not (sound s size))
       ∷ row 2 (noSuchPlace h || noSuchPlace k)
       ∷ row 3 (noMode m)
       ∷ row 4 (gap h || gap k)
       ∷ row 24 (not (sameName h k))
       ∷ row 8 (idle h || idle k)
+      ∷ row 25 (other h || other k)
       ∷ row 9 (shut h || shut k)
-      ∷ row 23 (wholeUnion (widthOf h) (h .selector) (k .selector))
       ∷ []
+
+  abbrev pub eachRows : Handle → Handle → List Row
+  eachRows h k = upperRows h k ++ (row 23 (wholeUnion (widthOf h) (h .selector) (k .selector)) ∷ [])
 
   abbrev pub oneRows : Handle → List Row
   oneRows h =
-      row 1 (not (sound s size))
+      row 25 (noWidth h)
+      ∷ row 1 (not (sound s size))
       ∷ row 2 (noSuchPlace h)
       ∷ row 3 (noMode m)
       ∷ row 4 (gap h)
       ∷ row 8 (idle h)
+      ∷ row 25 (other h)
       ∷ row 9 (shut h)
       ∷ []
 
@@ -100,40 +114,73 @@ module _ (f : Name → List ℕ → ℕ → List ℕ) (s : Store) (size m : ℕ)
   pub valid-one : (a : List ℕ) → number f (validating m a) s size ≡ firstOf (oneRows (decoded a))
   valid-one a = number-validate f (reducing m a .args) s size ∙ number-one a
 
-  -- the rows are the same either way round
-  pub number-swapped : (a b : List ℕ) → number f (joining m a b) s size ≡ number f (joining m b a) s size
-  number-swapped a b = number-each a b ∙ turned (decoded a) (decoded b) ∙ sym (number-each b a)
-    where
-      eq-swapped : (n k : ℕ) → eqb n k ≡ eqb k n
-      eq-swapped n k = go (eqb n k) refl
-        where
-          go : (t : Bool) → eqb n k ≡ t → eqb n k ≡ eqb k n
-          go true e = e ∙ sym (eq-eqb k n (sym (eqb-true n k e)))
-          go false e =
-              e ∙ sym (test-off (eqb k n) (λ q. false≢true (sym e ∙ eq-eqb n k (sym (eqb-true k n q)))))
+  -- the rows are the same either way round: where the last one differs, the widths do, and a row above it applies
+  module _ (h k : Handle) where
+    eq-swapped : (n k : ℕ) → eqb n k ≡ eqb k n
+    eq-swapped n k = go (eqb n k) refl
+      where
+        go : (t : Bool) → eqb n k ≡ t → eqb n k ≡ eqb k n
+        go true e = e ∙ sym (eq-eqb k n (sym (eqb-true n k e)))
+        go false e = e ∙ sym (test-off (eqb k n) (λ q. false≢true (sym e ∙ eq-eqb n k (sym (eqb-true k n q)))))
 
-      turned : (h k : Handle) → firstOf (eachRows h k) ≡ firstOf (eachRows k h)
-      turned h k =
-          λ j.
-          firstOf
-          (row 1 (not (sound s size))
-          ∷ row 2 (or-swapped (noSuchPlace h) (noSuchPlace k) j)
-          ∷ row 3 (noMode m)
-          ∷ row 4 (or-swapped (gap h) (gap k) j)
-          ∷ row 24 (not (eq-swapped (nodeOf h) (nodeOf k) j && eq-swapped (h .local) (k .local) j))
-          ∷ row 8 (or-swapped (idle h) (idle k) j)
-          ∷ row 9 (or-swapped (shut h) (shut k) j)
-          ∷ row 23 (flat 8 (joins 8 (f (nameOf h)) [] h k .union j))
-          ∷ [])
+    upper-turned : upperRows h k ≡ upperRows k h
+    upper-turned =
+        λ j.
+        row 25 (or-swapped (noWidth h) (noWidth k) j)
+        ∷ row 1 (not (sound s size))
+        ∷ row 2 (or-swapped (noSuchPlace h) (noSuchPlace k) j)
+        ∷ row 3 (noMode m)
+        ∷ row 4 (or-swapped (gap h) (gap k) j)
+        ∷ row 24 (not (eq-swapped (nodeOf h) (nodeOf k) j && eq-swapped (h .local) (k .local) j))
+        ∷ row 8 (or-swapped (idle h) (idle k) j)
+        ∷ row 25 (or-swapped (other h) (other k) j)
+        ∷ row 9 (or-swapped (shut h) (shut k) j)
+        ∷ []
+
+    -- two handles of one cluster that both have its width
+    pub widths-same : sameName h k ≡ true → other h || other k ≡ false → widthOf h ≡ widthOf k
+    widths-same n e =
+        eqb-true (widthOf h) (clusterAt s (recordNamed h) .width)
+        (not-false (eqb (widthOf h) (clusterAt s (recordNamed h) .width)) (or-left (other h) (other k) e))
+        ∙ ap (λ (i : ℕ). clusterAt s i .width) (record-same h k n)
+        ∙ sym
+        (eqb-true (widthOf k) (clusterAt s (recordNamed k) .width)
+        (not-false (eqb (widthOf k) (clusterAt s (recordNamed k) .width)) (or-right (other h) (other k) e)))
+
+    upper-numbered : Numbered (upperRows h k)
+    upper-numbered = omega arith
+
+    turned : Dec (widthOf h ≡ widthOf k) → firstOf (eachRows h k) ≡ firstOf (eachRows k h)
+    turned (yes e) =
+        λ j. firstOf (upper-turned j ++ (row 23 (flat (e j) (joins (e j) (f (nameOf h)) [] h k .union j)) ∷ []))
+    turned (no n) =
+        first-above (upperRows h k) (row 23 (wholeUnion (widthOf h) (h .selector) (k .selector)) ∷ []) some
+        ∙ ap firstOf upper-turned
+        ∙ sym
+        (first-above (upperRows k h) (row 23 (wholeUnion (widthOf k) (k .selector) (h .selector)) ∷ [])
+        (λ e. some (ap firstOf upper-turned ∙ e)))
+      where
+        some : firstOf (upperRows h k) ≡ 0 → ⊥
+        some e =
+            let c = first-clear (upperRows h k) upper-numbered e in
+            n (widths-same (not-false (sameName h k) (c .1 .1 .1 .1 .1 .0)) (c .1 .1 .1 .1 .1 .1 .1 .0))
+
+  pub number-swapped : (a b : List ℕ) → number f (joining m a b) s size ≡ number f (joining m b a) s size
+  number-swapped a b =
+      number-each a b
+      ∙ turned (decoded a) (decoded b) (ℕ-discrete (widthOf (decoded a)) (widthOf (decoded b)))
+      ∙ sym (number-each b a)
 
   -- what a join done has shown
   pub record Cleared (h k : Handle) : Type 0 where
+    pub known : noWidth h || noWidth k ≡ false
     pub sound : not (sound s size) ≡ false
     pub place : noSuchPlace h || noSuchPlace k ≡ false
     pub mode : noMode m ≡ false
     pub even : gap h || gap k ≡ false
     pub together : sameName h k ≡ true
     pub active : idle h || idle k ≡ false
+    pub wide : other h || other k ≡ false
     pub valid : shut h || shut k ≡ false
     pub some : wholeUnion (widthOf h) (h .selector) (k .selector) ≡ false
 
@@ -143,35 +190,41 @@ module _ (f : Name → List ℕ → ℕ → List ℕ) (s : Store) (size m : ℕ)
       from : Clear (eachRows h k) → Cleared h k
       from r =
           record {
-            sound = r .0;
-            place = r .1 .0;
-            mode = r .1 .1 .0;
-            even = r .1 .1 .1 .0;
-            together = not-false (sameName h k) (r .1 .1 .1 .1 .0);
-            active = r .1 .1 .1 .1 .1 .0;
-            valid = r .1 .1 .1 .1 .1 .1 .0;
-            some = r .1 .1 .1 .1 .1 .1 .1 .0;
+            known = r .0;
+            sound = r .1 .0;
+            place = r .1 .1 .0;
+            mode = r .1 .1 .1 .0;
+            even = r .1 .1 .1 .1 .0;
+            together = not-false (sameName h k) (r .1 .1 .1 .1 .1 .0);
+            active = r .1 .1 .1 .1 .1 .1 .0;
+            wide = r .1 .1 .1 .1 .1 .1 .1 .0;
+            valid = r .1 .1 .1 .1 .1 .1 .1 .1 .0;
+            some = r .1 .1 .1 .1 .1 .1 .1 .1 .1 .0;
           }
 
   -- so its first handle, and its second, could be reduced
   pub cleared-first : (h k : Handle) → Cleared h k → firstOf (oneRows h) ≡ 0
   cleared-first h k c =
       simp (
+        or-left (noWidth h) (noWidth k) (c .known),
         c .sound,
         or-left (noSuchPlace h) (noSuchPlace k) (c .place),
         c .mode,
         or-left (gap h) (gap k) (c .even),
         or-left (idle h) (idle k) (c .active),
+        or-left (other h) (other k) (c .wide),
         or-left (shut h) (shut k) (c .valid),
       )
 
   pub cleared-second : (h k : Handle) → Cleared h k → firstOf (oneRows k) ≡ 0
   cleared-second h k c =
       simp (
+        or-right (noWidth h) (noWidth k) (c .known),
         c .sound,
         or-right (noSuchPlace h) (noSuchPlace k) (c .place),
         c .mode,
         or-right (gap h) (gap k) (c .even),
         or-right (idle h) (idle k) (c .active),
+        or-right (other h) (other k) (c .wide),
         or-right (shut h) (shut k) (c .valid),
       )

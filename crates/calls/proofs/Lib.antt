@@ -7,9 +7,13 @@ pub mod CallLaws
 pub mod DoneLaws
 pub mod ExampleLaws
 pub mod CaseLaws
+pub mod WidthCaseLaws
+pub mod WidthReplyLaws
+pub mod WidthOrderLaws
 pub mod TestLaws
 pub mod KindLaws
 pub mod SelectorWords
+pub mod HandleWords
 pub mod PresentedWords
 pub mod WordLaws
 pub mod ValidWords
@@ -30,3 +34,6 @@ pub mod MarkWordLaws
 pub mod FreezeAgainLaws
 pub mod WrittenLaws
 pub mod EmptyWordLaws
+pub mod LengthWordLaws
+pub mod MaskLaws
+pub mod GivenLengthLaws

@@ -15,7 +15,7 @@ use Rattle.store.specs.declared.Store.{Store}
 use Rattle.store.specs.Records.{tableAt, lengthOf}
 use Rattle.calls.specs.Calls.{Copy, Call, Arguments, call, look, looking, reading}
 use Rattle.calls.specs.Numbers as N
-use Rattle.calls.specs.Numbers.{tests, unsound, badField, gappedHandle, inactiveCluster, violated}
+use Rattle.calls.specs.Numbers.{tests, badLength, unsound, badField, gappedHandle, inactiveCluster, otherWidth, violated}
 use Rattle.calls.specs.Numbers.{notReferenced, segmentAbsent}
 use Rattle.calls.specs.Words.{place}
 use Rattle.calls.specs.Steps.{readReply, outcome, step, effects}
@@ -39,14 +39,16 @@ module _ (f : Name → List ℕ → ℕ → List ℕ) (i : ℕ) (h b : List ℕ)
   -- the rows that both have, from the second row's test, the fifth's and the fifteenth's
   rows : Bool → Bool → Bool → ℕ
   rows far away short =
-      cond (unsound size y s) 1
+      cond (badLength y) 25
+      (cond (unsound size y s) 1
       (cond far 2
       (cond (badField y) 3
       (cond (gappedHandle y) 4
       (cond away 5
       (cond (inactiveCluster y (tableAt s)) 8
+      (cond (otherWidth y (tableAt s)) 25
       (cond (violated f y s) 9
-      (cond (notReferenced y) 11 (cond (segmentAbsent y (tableAt s)) 14 (cond short 15 0)))))))))
+      (cond (notReferenced y) 11 (cond (segmentAbsent y (tableAt s)) 14 (cond short 15 0)))))))))))
 
   look-rows : (v : ℕ) → N.number f (looking v i h) s size
       ≡ rows ((noSuchPlace (decoded h) || false) || leb nodes v || false) (not (eqb v node)) false

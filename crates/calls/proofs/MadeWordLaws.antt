@@ -11,7 +11,8 @@ use mathlib.Core.Option.{Option}
 use lib.ListN.{length, getD, replicate, length-replicate, getD-replicate, List·getD-eq-default}
 use lib.Seq.{getD-set-same}
 use borrow.Author.Tests.{leb-false, not-false}
-use Rattle.handle.specs.Handles.{Name, nodeOf}
+use Rattle.handle.specs.Handles.{Name, nodeOf, widthOf}
+use Rattle.handle.proofs.WidthLaws.{bits-le}
 use Rattle.store.specs.declared.Segment.{Segment}
 use Rattle.store.specs.declared.Cluster.{Cluster}
 use Rattle.store.specs.declared.Store.{Store}
@@ -29,7 +30,7 @@ use Rattle.calls.specs.Calls.{Copy, Call, Arguments, call, newSegment, h
 use Rattle.calls.specs.Numbers.{unsound, badSegment, number}
 use Rattle.calls.specs.Words.{place, clusterOf}
 use Rattle.calls.specs.Steps.{Outcome, about, newBaseFor, newPlace, segmentMade, left, given, step}
-use Rattle.calls.specs.MadeWords.{Eight, MadeInWords}
+use Rattle.calls.specs.MadeWords.{Sixteen, MadeInWords}
 use Rattle.calls.proofs.DoneLaws.{NoRow, no-row, done-range, done-segment, done-active, new-base}
 use Rattle.calls.proofs.MemoryLaws.{length-overwritten, overwritten-inside, overwritten-out}
 use Rattle.calls.proofs.StepLaws.{step-done}
@@ -86,9 +87,9 @@ module _ (f : Name → List ℕ → ℕ → List ℕ) (g : Arguments) (c : Copy)
     unfolding left
     step-made = step-done f x c e
 
-    pub made-in-words : Eight x c → MadeInWords f g c
+    pub made-in-words : Sixteen x c → MadeInWords f g c
     unfolding given segmentMade badSegment
-    made-in-words eight =
+    made-in-words whole =
         record {
           base = base;
           number = ap (λ (o : Outcome). o .reply .number) step-made;
@@ -120,8 +121,8 @@ module _ (f : Name → List ℕ → ℕ → List ℕ) (g : Arguments) (c : Copy)
 
         low : g .segment < length (about x c .segments)
         low =
-            let i = leb-false 8 (g .segment) (done-segment f x (c .store) (length (c .memory)) e) in
-            omega (arith, eight)
+            let i = leb-false (widthOf (handleOf x)) (g .segment) (done-segment f x (c .store) (length (c .memory)) e) in
+            omega (arith, whole, bits-le (handleOf x .width))
 
         found : segmentOf (tableOf (clusterAt (segmentMade x c .store) (recordFor x))) (g .segment)
             ≡ segmentAt (newPlace x (tableAt (c .store)))

@@ -26,10 +26,10 @@ use Rattle.calls.specs.Calls.{Call, Kind, newCluster, deleteCluster, new
 use Rattle.calls.specs.Calls.{read, write, weaken, reduce, newPassword, freeze, join, validate, look, among, isLook}
 use Rattle.calls.specs.Calls.{opens, needed, handleOf, otherOf, presented, anyOf, buffer, nodeFor, recordFor, recordNamed}
 use Rattle.calls.specs.Calls.{placeFor, frozenFor}
-use Rattle.calls.specs.Numbers.{unsound, inUse, inactiveCluster, valid, violated, clusterFrozen, oldPassword}
+use Rattle.calls.specs.Numbers.{unsound, inUse, inactiveCluster, otherWidth, valid, violated, clusterFrozen, oldPassword}
 use Rattle.calls.specs.Numbers.{segmentPresent, segmentAbsent, segmentFrozen, short, fullNode, rows, number}
 use Rattle.calls.specs.Words.{Named}
-use Rattle.calls.specs.Steps.{readReply, lookReply, handles, zeroHandle, segmentRead, segmentShown, given}
+use Rattle.calls.specs.Steps.{readReply, lookReply, handles, noBytes, segmentRead, segmentShown, given}
 use Rattle.calls.specs.Steps.{within, outcome, step}
 use Rattle.calls.specs.Answers.{copyOf}
 use Rattle.calls.specs.MarkWords.{SameButMarks, OwnMarks, MarksAside}
@@ -67,13 +67,19 @@ module _ (f : Name → List ℕ → ℕ → List ℕ) (x : Call) (a b : Store) (
   unfolding inactiveCluster
   eight = λ j. opens (x .kind) && anyOf (λ h. not (same .active (recordNamed h) j)) (presented x)
 
+  other : otherWidth x (tableAt a) ≡ otherWidth x (tableAt b)
+  unfolding otherWidth
+  other = λ j. opens (x .kind) && anyOf (λ h. not (eqb (widthOf h) (same .width (recordNamed h) j))) (presented x)
+
   nine : violated f x a ≡ violated f x b
   unfolding violated valid
   nine =
       λ j.
       opens (x .kind)
       && anyOf
-      (λ h. not (validates (widthOf h) (f (nameOf h)) (password a b same (recordNamed h) (needed x) j) h))
+      (λ h. not
+      (eqb (widthOf h) (same .width (recordNamed h) j)
+      && validates (widthOf h) (f (nameOf h)) (password a b same (recordNamed h) (needed x) j) h))
       (presented x)
 
   frozen-cluster : clusterFrozen x (tableAt a) ≡ clusterFrozen x (tableAt b)
@@ -134,6 +140,7 @@ module _ (f : Name → List ℕ → ℕ → List ℕ) (x : Call) (a b : Store) (
 
   same-rows : Agree x a b (rows f size)
   same-rows =
+      refl ▸ λ e25.
       ap (told 1) one ▸ λ e1.
       refl ▸ λ e2.
       refl ▸ λ e3.
@@ -143,6 +150,7 @@ module _ (f : Name → List ℕ → ℕ → List ℕ) (x : Call) (a b : Store) (
       ap (told 6) six ▸ λ e6.
       refl ▸ λ e7.
       ap (told 8) eight ▸ λ e8.
+      ap (told 25) other ▸ λ q25.
       ap (told 9) nine ▸ λ e9.
       refl ▸ λ e23.
       refl ▸ λ e10.
@@ -185,14 +193,14 @@ module _ (f : Name → List ℕ → ℕ → List ℕ) (x : Call) (a b : Store) (
   same-given write = refl
   same-given weaken = refl
   same-given reduce =
-      ap (λ (p : List ℕ). handles (encoded (reduced (widthOf (handleOf x)) (f (nameOf (handleOf x))) (handleOf x) p)) zeroHandle 0)
+      ap (λ (p : List ℕ). handles (encoded (reduced (widthOf (handleOf x)) (f (nameOf (handleOf x))) (handleOf x) p)) noBytes 0)
       own
   same-given newPassword = refl
   same-given freeze = refl
   same-given join =
       ap
       (λ (p : List ℕ).
-      handles (encoded (joined (widthOf (handleOf x)) (f (nameOf (handleOf x))) (handleOf x) (otherOf x) p)) zeroHandle 0)
+      handles (encoded (joined (widthOf (handleOf x)) (f (nameOf (handleOf x))) (handleOf x) (otherOf x) p)) noBytes 0)
       own
   same-given validate = refl
   same-given look =

@@ -6,14 +6,14 @@ use mathlib.Core.Logic.{_≢_, _↔_}
 use Prim.Native.Nat.{ℕ}
 use native.Mathlib.Decide.{ℕ-discrete}
 use native.Mathlib.Omega.{arith}
-use mathlib.Core.Bool.{Bool, true, false, not, cond, or-false, false≢true}
+use mathlib.Core.Bool.{Bool, true, false, not, _&&_, cond, or-false, false≢true}
 use mathlib.Core.List.{List, [], _∷_, _++_}
-use lib.ListN.{length}
+use lib.Dec.{eqb}
 use borrow.Author.Tests.{not-false}
-use Rattle.loops.proofs.BelowLaws.{and-left}
+use Rattle.loops.proofs.BelowLaws.{and-left, and-right}
 use Rattle.handle.specs.declared.Handle.{Handle}
 use Rattle.handle.specs.Selectors.{allFlat}
-use Rattle.handle.specs.Handles.{Name, nameOf, samePassword, decoded, Row, firstOf, validates}
+use Rattle.handle.specs.Handles.{Name, nameOf, widthOf, samePassword, decoded, Row, firstOf, validates}
 use Rattle.handle.proofs.HandleLaws.{through-flat}
 use Rattle.store.specs.declared.Cluster.{Cluster}
 use Rattle.store.specs.declared.Store.{Store}
@@ -69,7 +69,7 @@ module _ (f : Name → List ℕ → ℕ → List ℕ) (m : ℕ) (a : List ℕ) (
   old = samePassword p (primaryOf c m)
 
   abbrev lower : List Row
-  lower = row 10 (not (allFlat 8 (h .selector))) ∷ row 12 old ∷ []
+  lower = row 10 (not (allFlat (widthOf h) (h .selector))) ∷ row 12 old ∷ []
 
   abbrev told : ℕ
   told = renewed f m a s size p
@@ -90,10 +90,20 @@ module _ (f : Name → List ℕ → ℕ → List ℕ) (m : ℕ) (a : List ℕ) (
   clear : valid ≡ 0 → Clear upper
   clear v = first-clear upper (one-numbered f s size m h) (sym valid-is ∙ v)
 
-  below : valid ≡ 0 → told ≡ two (allFlat 8 (h .selector)) old
+  below : valid ≡ 0 → told ≡ two (allFlat (widthOf h) (h .selector)) old
   below v =
       let r = clear v in
-      told-is ∙ simp (r .0, r .1 .0, r .1 .1 .0, r .1 .1 .1 .0, r .1 .1 .1 .1 .0, r .1 .1 .1 .1 .1 .0)
+      told-is
+      ∙ simp (
+        r .0,
+        r .1 .0,
+        r .1 .1 .0,
+        r .1 .1 .1 .0,
+        r .1 .1 .1 .1 .0,
+        r .1 .1 .1 .1 .1 .0,
+        r .1 .1 .1 .1 .1 .1 .0,
+        r .1 .1 .1 .1 .1 .1 .1 .0,
+      )
 
   -- validation is never refused with 12
   other-number : valid ≢ 12
@@ -103,52 +113,53 @@ module _ (f : Name → List ℕ → ℕ → List ℕ) (m : ℕ) (a : List ℕ) (
   old-is e = current-is m c p (done-mode f (validating m a) s size e)
 
   -- a call 9 that is done has shown that the handle validates, is primary, and brings another password
-  pub renew-done : told ≡ 0 → (valid ≡ 0) × (allFlat 8 (h .selector) ≡ true) × (old ≡ false)
+  pub renew-done : told ≡ 0 → (valid ≡ 0) × (allFlat (widthOf h) (h .selector) ≡ true) × (old ≡ false)
   renew-done e = go (ℕ-discrete valid 0)
     where
-      go : Dec (valid ≡ 0) → (valid ≡ 0) × (allFlat 8 (h .selector) ≡ true) × (old ≡ false)
-      go (yes v) = let r = two-done (allFlat 8 (h .selector)) old (sym (below v) ∙ e) in (v, r .0, r .1)
+      go : Dec (valid ≡ 0) → (valid ≡ 0) × (allFlat (widthOf h) (h .selector) ≡ true) × (old ≡ false)
+      go (yes v) = let r = two-done (allFlat (widthOf h) (h .selector)) old (sym (below v) ∙ e) in (v, r .0, r .1)
       go (no v) = absurd (v (sym (above v) ∙ e))
 
   -- where it validates and is primary, its password is that of the mode
-  pub in-hand : valid ≡ 0 → allFlat 8 (h .selector) ≡ true → SamePassword (primaryOf c m) (h .password)
+  pub in-hand : valid ≡ 0 → allFlat (widthOf h) (h .selector) ≡ true → SamePassword (primaryOf c m) (h .password)
   unfolding validates
   in-hand v t =
       password-is (primaryOf c m) (h .password) .out
       (ap (λ (r : List ℕ). samePassword r (h .password))
-      (sym (through-flat 8 (f (nameOf h)) (h .selector) (primaryOf c m) t))
-      ∙ not-false (validates 8 (f (nameOf h)) (primaryOf c m) h) (clear v .1 .1 .1 .1 .1 .0))
+      (sym (through-flat (widthOf h) (f (nameOf h)) (h .selector) (primaryOf c m) t))
+      ∙ and-right (eqb (widthOf h) (c .width)) (validates (widthOf h) (f (nameOf h)) (primaryOf c m) h)
+      (not-false (eqb (widthOf h) (c .width) && validates (widthOf h) (f (nameOf h)) (primaryOf c m) h)
+      (clear v .1 .1 .1 .1 .1 .1 .1 .0)))
 
-  module _ (long : length a ≡ 23) where
-    flat-is : Is (allFlat 8 (h .selector)) (Primary h)
-    flat-is = primary-is h (four a long)
+  flat-is : Is (allFlat (widthOf h) (h .selector)) (Primary h)
+  flat-is = primary-is h (four a)
 
-    pub renew-in-words : RenewInWords f m a s size p
-    renew-in-words =
-        record {
-          above = above;
-          weak = λ v n. below v ∙ ap (λ (t : Bool). two t old) (off-is flat-is n);
-          old = (out-old (ℕ-discrete valid 0), λ r. given (r .0) (old-is (r .0 .0) .into (r .1)));
-          done = (out-done, λ r. given (r .0) (off-is (old-is (r .0 .0)) (r .1)));
-          own = λ r. own (r .0) (in-hand (r .0) (flat-is .into (r .1)));
-        }
-      where
-        given : {t : Bool} → Holder f m a s size → old ≡ t → told ≡ cond t 12 0
-        given r e = below (r .0) ∙ (λ j. two (flat-is .into (r .1) j) (e j))
+  pub renew-in-words : RenewInWords f m a s size p
+  renew-in-words =
+      record {
+        above = above;
+        weak = λ v n. below v ∙ ap (λ (t : Bool). two t old) (off-is flat-is n);
+        old = (out-old (ℕ-discrete valid 0), λ r. given (r .0) (old-is (r .0 .0) .into (r .1)));
+        done = (out-done, λ r. given (r .0) (off-is (old-is (r .0 .0)) (r .1)));
+        own = λ r. own (r .0) (in-hand (r .0) (flat-is .into (r .1)));
+      }
+    where
+      given : {t : Bool} → Holder f m a s size → old ≡ t → told ≡ cond t 12 0
+      given r e = below (r .0) ∙ (λ j. two (flat-is .into (r .1) j) (e j))
 
-        out-old : Dec (valid ≡ 0) → told ≡ 12 → Holder f m a s size × Current m c p
-        out-old (yes v) e =
-            let r = two-old (allFlat 8 (h .selector)) old (sym (below v) ∙ e) in
-            ((v, flat-is .out (r .0)), old-is v .out (r .1))
-        out-old (no v) e = absurd (other-number (sym (above v) ∙ e))
+      out-old : Dec (valid ≡ 0) → told ≡ 12 → Holder f m a s size × Current m c p
+      out-old (yes v) e =
+          let r = two-old (allFlat (widthOf h) (h .selector)) old (sym (below v) ∙ e) in
+          ((v, flat-is .out (r .0)), old-is v .out (r .1))
+      out-old (no v) e = absurd (other-number (sym (above v) ∙ e))
 
-        out-done : told ≡ 0 → Holder f m a s size × ¬ Current m c p
-        out-done e =
-            let r = renew-done e in
-            ((r .0, flat-is .out (r .1)), λ w. false≢true (sym (r .2) ∙ old-is (r .0) .into w))
+      out-done : told ≡ 0 → Holder f m a s size × ¬ Current m c p
+      out-done e =
+          let r = renew-done e in
+          ((r .0, flat-is .out (r .1)), λ w. false≢true (sym (r .2) ∙ old-is (r .0) .into w))
 
-        own : valid ≡ 0 → SamePassword (primaryOf c m) (h .password) → Current m c p ↔ SamePassword p (h .password)
-        own v g = (
-          λ w k l. password-is p (primaryOf c m) .out (old-is v .into w) k l ∙ g k l,
-          λ w. old-is v .out (password-is p (primaryOf c m) .into (λ k l. w k l ∙ sym (g k l))),
-        )
+      own : valid ≡ 0 → SamePassword (primaryOf c m) (h .password) → Current m c p ↔ SamePassword p (h .password)
+      own v g = (
+        λ w k l. password-is p (primaryOf c m) .out (old-is v .into w) k l ∙ g k l,
+        λ w. old-is v .out (password-is p (primaryOf c m) .into (λ k l. w k l ∙ sym (g k l))),
+      )

@@ -13,7 +13,7 @@ use Rattle.store.specs.Sound.{sound}
 use Rattle.calls.specs.Calls.{Copy, Call, Arguments, call, deleteCluster, deleteSegment, reduce}
 use Rattle.calls.specs.Calls.{validate}
 use Rattle.calls.specs.Calls.{among, buffer}
-use Rattle.calls.specs.Numbers.{unsound, tests, Line, at}
+use Rattle.calls.specs.Numbers.{badLength, unsound, tests, Line, at}
 use Rattle.calls.specs.Numbers.{rows}
 use Rattle.calls.specs.Numbers.{number}
 use Rattle.calls.specs.Looks.{lookedBy, looked}
@@ -56,7 +56,14 @@ number-validate f g s size = refl
 
 abbrev below : List Line → List Line
 below [] = []
-below (l ∷ ls) = ls
+below (l ∷ []) = l ∷ []
+below (l ∷ m ∷ ls) = l ∷ ls
+
+-- and those below both
+abbrev rest : List Line → List Line
+rest [] = []
+rest (l ∷ []) = []
+rest (l ∷ m ∷ ls) = ls
 
 module _ (f : Name → List ℕ → ℕ → List ℕ) where
   abbrev pub numberBelow : Call → Store → ℕ → ℕ
@@ -65,7 +72,7 @@ module _ (f : Name → List ℕ → ℕ → List ℕ) where
   pub number-below : (x : Call) (s : Store) (size : ℕ) → sound s size ≡ true → number f x s size ≡ numberBelow x s size
   unfolding number unsound
   number-below x s size e =
-      ap (λ (t : Bool). cond t 1 (numberBelow x s size))
+      ap (λ (t : Bool). cond (badLength x) 25 (cond t 1 (firstOf (at x s (rest (rows f size))))))
       (and-off (not (among (7 ∷ []) (x .kind))) (not (sound s size)) (ap not e))
 
   -- and so is what a look tells

@@ -11,10 +11,10 @@ use Rattle.handle.specs.Handles.{Name, Row, firstOf}
 use Rattle.store.specs.declared.Store.{Store}
 use Rattle.calls.specs.Calls.{Call}
 use Rattle.calls.specs.Numbers.{at, rows, number}
-use Rattle.calls.specs.Words.{Taken, Entry, Nothing, Told, table, TableInWords}
+use Rattle.calls.specs.Words.{Entry, Nothing, Told, table, TableInWords}
 use Rattle.calls.proofs.FirstLaws.{Numbered}
 use Rattle.calls.proofs.TestLaws.{Is}
-use Rattle.calls.proofs.WordLaws.{unsound-is, noPlace-is, badField-is, gapped-row, apart-is, elsewhere-is, inUse-is, twins-is}
+use Rattle.calls.proofs.WordLaws.{badLength-is, otherWidth-is, unsound-is, noPlace-is, badField-is, gapped-row, apart-is, elsewhere-is, inUse-is, twins-is}
 use Rattle.calls.proofs.WordLaws.{whole-row, inactive-is, notPrimary-is, clusterFrozen-is, notReferenced-is, oldPassword-is, present-is}
 use Rattle.calls.proofs.WordLaws.{absent-is, segmentFrozen-is, short-is, fullNode-is, empty-row, spent-row}
 use Rattle.calls.proofs.ValidWords.{violated-is}
@@ -59,31 +59,33 @@ nothing-first rs es d (next {n = m} {b = b} {W = W} {rs = rs′} {es = es′} t 
         away : ¬ W
         away w = false≢true (t .into w)
 
-module _ (f : Name → List ℕ → ℕ → List ℕ) (x : Call) (s : Store) (size : ℕ) (t : Taken x) where
+module _ (f : Name → List ℕ → ℕ → List ℕ) (x : Call) (s : Store) (size : ℕ) where
   agree : Agree (at x s (rows f size)) (table f x s size)
   agree =
+      next (badLength-is x) λ r25.
       next (unsound-is x s size) λ a.
       next (noPlace-is x) λ b.
       next (badField-is x) λ c.
-      next (gapped-row x t) λ r4.
+      next (gapped-row x) λ r4.
       next (apart-is x) λ r24.
       next (elsewhere-is x) λ r5.
       next (inUse-is x s) λ r6.
       next (twins-is x) λ r7.
       next (inactive-is x s) λ r8.
-      next (violated-is f x s t c) λ r9.
-      next (whole-row x t) λ r23.
-      next (notPrimary-is x t) λ r10.
+      next (otherWidth-is x s) λ q25.
+      next (violated-is f x s c) λ r9.
+      next (whole-row x) λ r23.
+      next (notPrimary-is x) λ r10.
       next (clusterFrozen-is x s) λ r22.
-      next (notReferenced-is x t) λ r11.
+      next (notReferenced-is x) λ r11.
       next (oldPassword-is x s c) λ r12.
       next (present-is x s) λ r13.
       next (absent-is x s) λ r14.
       next (segmentFrozen-is x s) λ q22.
       next (short-is x s) λ r15.
       next (fullNode-is x s size a b c) λ r16.
-      next (empty-row x t) λ r21.
-      next (spent-row x t) λ r17. last
+      next (empty-row x) λ r21.
+      next (spent-row x) λ r17. last
 
   pub table-in-words : TableInWords f x s size
   unfolding number

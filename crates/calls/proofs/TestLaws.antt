@@ -66,6 +66,21 @@ three-is {A = A} {B = B} {C = C} h k l = map-is to from (or-is (or-is h k) l)
     from (inr (inl b)) = inl (inr b)
     from (inr (inr c)) = inr c
 
+pub four-is : {a b c d : Bool} {A B C D : Type 0} → Is a A → Is b B → Is c C → Is d D → Is (a || b || c || d) (A ⊎ B ⊎ C ⊎ D)
+four-is {A = A} {B = B} {C = C} {D = D} h k l m = map-is to from (or-is (three-is h k l) m)
+  where
+    to : (A ⊎ B ⊎ C) ⊎ D → A ⊎ B ⊎ C ⊎ D
+    to (inl (inl a)) = inl a
+    to (inl (inr (inl b))) = inr (inl b)
+    to (inl (inr (inr c))) = inr (inr (inl c))
+    to (inr d) = inr (inr (inr d))
+
+    from : A ⊎ B ⊎ C ⊎ D → (A ⊎ B ⊎ C) ⊎ D
+    from (inl a) = inl (inl a)
+    from (inr (inl b)) = inl (inr (inl b))
+    from (inr (inr (inl c))) = inl (inr (inr c))
+    from (inr (inr (inr d))) = inr d
+
 pub holds-is : (b : Bool) → Is b (b ≡ true)
 holds-is b = record { out = λ e. e; into = λ e. e }
 

@@ -9,21 +9,20 @@ use mathlib.Core.Bool.{Bool, true, false, not, _&&_, _||_, and-false}
 use mathlib.Core.List.{List, [], _∷_}
 use lib.Dec.{eqb}
 use borrow.Author.Tests.{eqb-true}
-use Rattle.sizes.specs.Sizes.{segments}
 use lib.ListN.{length}
 use Rattle.handle.specs.declared.Handle.{Handle}
-use Rattle.handle.specs.Handles.{Name, nameOf, validates}
+use Rattle.handle.specs.Handles.{Name, nameOf, widthOf, validates}
 use Rattle.store.specs.declared.Store.{Store}
 use Rattle.store.specs.Records.{primaryOf}
 use Rattle.calls.specs.Calls.{Call, among, opens, uses, needed, handleOf, otherOf}
 use Rattle.calls.specs.Numbers.{valid, violated}
-use Rattle.calls.specs.Words.{Taken, Opening, ReadMode, WriteMode, Chain, Valid, Field, Violated, clusterOf}
+use Rattle.calls.specs.Words.{Opening, ReadMode, WriteMode, Chain, Valid, Field, Violated, clusterOf}
 use Rattle.calls.proofs.TestLaws.{Is, map-is, same-is, off-is, not-is, then-is, and-is, or-is, eq-is}
 use Rattle.calls.proofs.KindLaws.{kind-is}
 use Rattle.calls.proofs.CallLaws.{mode-known}
-use Rattle.calls.proofs.SelectorWords.{chain-is}
+use Rattle.calls.proofs.SelectorWords.{chain-is, four}
 use Rattle.calls.proofs.PresentedWords.{opens-is, presented-is}
-use Rattle.calls.proofs.WordLaws.{first, second, badField-is}
+use Rattle.calls.proofs.WordLaws.{badField-is}
 
 -- ---- the mode needed
 
@@ -56,37 +55,47 @@ module _ (x : Call) where
       go w false true e = ap (λ (t : Bool). t || false) (sym (and-false w))
       go w false false e = ap (λ (t : Bool). t && true || false) (sym e)
 
-module _ (f : Name → List ℕ → ℕ → List ℕ) (x : Call) (s : Store) (t : Taken x) (c : ¬ Field x) where
+module _ (f : Name → List ℕ → ℕ → List ℕ) (x : Call) (s : Store) (c : ¬ Field x) where
   module _ (h : Handle) (four : length (h .selector) ≡ 4) (o : Opening x) where
     from : ℕ → Bool
-    from mode = validates segments (f (nameOf h)) (primaryOf (clusterOf h s) mode) h
+    from mode = validates (widthOf h) (f (nameOf h)) (primaryOf (clusterOf h s) mode) h
 
-    valid-is : Is (valid f (needed x) h s) (Valid f x h s)
-    unfolding valid from
-    valid-is = go (mode-known x (off-is (badField-is x) c))
+    abbrev Moded : Type 0
+    Moded =
+        (ReadMode x × Chain (f (nameOf h)) (clusterOf h s .read) h)
+        ⊎ (WriteMode x × Chain (f (nameOf h)) (clusterOf h s .write) h)
+
+    moded-is : Is (from (needed x)) Moded
+    unfolding from
+    moded-is = go (mode-known x (off-is (badField-is x) c))
       where
-        chain : (p : List ℕ) → Is (validates segments (f (nameOf h)) p h) (Chain (f (nameOf h)) p h)
+        chain : (p : List ℕ) → Is (validates (widthOf h) (f (nameOf h)) p h) (Chain (f (nameOf h)) p h)
         chain p = chain-is h four (f (nameOf h)) p
 
-        go : (needed x ≡ 1) ⊎ (needed x ≡ 2) → Is (valid f (needed x) h s) (Valid f x h s)
+        go : (needed x ≡ 1) ⊎ (needed x ≡ 2) → Is (from (needed x)) Moded
         go (inl e) =
             same-is (ap from e)
             (map-is (λ w. inl (read-is x .out (ap (λ (n : ℕ). eqb n 1) e), w)) back (chain (clusterOf h s .read)))
           where
-            back : Valid f x h s → Chain (f (nameOf h)) (clusterOf h s .read) h
+            back : Moded → Chain (f (nameOf h)) (clusterOf h s .read) h
             back (inl (r, w)) = w
             back (inr (r, w)) = absurd (omega (arith, e, eqb-true (needed x) 2 (write-is x o .into r)))
         go (inr e) =
             same-is (ap from e)
             (map-is (λ w. inr (write-is x o .out (ap (λ (n : ℕ). eqb n 2) e), w)) back (chain (clusterOf h s .write)))
           where
-            back : Valid f x h s → Chain (f (nameOf h)) (clusterOf h s .write) h
+            back : Moded → Chain (f (nameOf h)) (clusterOf h s .write) h
             back (inl (r, w)) = absurd (omega (arith, e, eqb-true (needed x) 1 (read-is x .into r)))
             back (inr (r, w)) = w
+
+    valid-is : Is (valid f (needed x) h s) (Valid f x h s)
+    unfolding valid from
+    valid-is = and-is (map-is sym sym (eq-is (widthOf h) (clusterOf h s .width))) moded-is
 
   pub violated-is : Is (violated f x s) (Violated f x s)
   unfolding violated
   violated-is =
       then-is (opens-is x) (λ o.
       presented-is x (λ h. not (valid f (needed x) h s)) (λ h. ¬ Valid f x h s)
-      (λ q. not-is (valid-is (handleOf x) (first x t q) o)) (λ q. not-is (valid-is (otherOf x) (second x t q) o)))
+      (λ q. not-is (valid-is (handleOf x) (four (x .args .handle)) o))
+      (λ q. not-is (valid-is (otherOf x) (four (x .args .other)) o)))

@@ -7,12 +7,12 @@ use Prim.Native.Nat.{ℕ, zero, suc}
 use lib.ListN.{length}
 use Rattle.handle.specs.declared.Handle.{Handle}
 use Rattle.handle.specs.Selectors.{referenced}
-use Rattle.handle.specs.Handles.{Name, nameOf, widthOf, weakenNumber, reply, weakened, weakening}
-use Rattle.handle.proofs.CodecLaws.{encoded-none}
+use Rattle.handle.specs.Handles.{Name, nameOf, widthOf, laid, written, weakenNumber, reply, weakened, weakening}
+use Rattle.handle.proofs.TripLaws.{encoded-none}
 use Rattle.store.specs.declared.Store.{Store}
 use Rattle.calls.specs.Calls.{Copy, Call, Arguments, call, weaken, handleOf}
 use Rattle.calls.specs.Numbers.{number, tests}
-use Rattle.calls.specs.Steps.{Reply, zeroHandle, weakenReply, left, given, outcome, step}
+use Rattle.calls.specs.Steps.{Reply, noBytes, weakenReply, left, given, outcome, step}
 
 module _ (f : Name → List ℕ → ℕ → List ℕ) (g : Arguments) where
   abbrev x : Call
@@ -27,7 +27,7 @@ module _ (f : Name → List ℕ → ℕ → List ℕ) (g : Arguments) where
 
   pub step-weaken : (c : Copy)
       → step f x c ≡ record { copy = c; reply = weakenReply (weakening (widthOf h) (f (nameOf h)) h (g .mask)) }
-  unfolding step weakening left given
+  unfolding step weakening left given written
   step-weaken c =
       ap (λ (n : ℕ). outcome f n x c) (number-weaken (c .store) (length (c .memory)))
       ∙ go (weakenNumber (widthOf h) h (g .mask))
@@ -36,7 +36,7 @@ module _ (f : Name → List ℕ → ℕ → List ℕ) (g : Arguments) where
       w = weakened (widthOf h) (f (nameOf h)) h (g .mask)
 
       bare : ℕ → List ℕ → Reply
-      bare n b = record { number = n; first = b; second = zeroHandle; count = 0; length = 0; buffer = []; shown = [] }
+      bare n b = record { number = n; first = laid b; second = laid noBytes; count = 0; length = 0; buffer = []; shown = [] }
 
       go : (n : ℕ) → outcome f n x c
           ≡ record { copy = c; reply = weakenReply (reply n w (referenced (widthOf h) (w .selector))) }

@@ -14,7 +14,7 @@ use lib.ListN.{length}
 use borrow.Author.Tests.{ltb-true, lt-ltb}
 use Rattle.handle.specs.declared.Handle.{Handle}
 use Rattle.handle.specs.Selectors.{allFlat, gapped}
-use Rattle.handle.specs.Handles.{nodeOf, widthOf, samePassword, noSuchPlace}
+use Rattle.handle.specs.Handles.{nodeOf, widthOf, noWidth, decoded, samePassword, noSuchPlace}
 use Rattle.store.specs.declared.Place.{Place}
 use Rattle.store.specs.declared.Place.the-variants.{Absent, Present}
 use Rattle.store.specs.declared.Cluster.{Cluster}
@@ -29,19 +29,20 @@ use Rattle.store.proofs.PlacementWordLaws.{placement-in-words}
 use Rattle.calls.specs.Calls.{Call, Kind, call, newSegment, read, write, weaken, newPassword}
 use Rattle.calls.specs.Calls.{among, isLook, uses, needed, handleOf, otherOf}
 use Rattle.calls.specs.Calls.{buffer, recordNamed}
-use Rattle.calls.specs.Numbers.{unsound, noPlace, badMode, badSegment, badSize, badField, gappedHandle, joinApart, elsewhere}
-use Rattle.calls.specs.Numbers.{inUse, twins, inactiveCluster, joinWhole, notPrimary, clusterFrozen, notReferenced, oldPassword}
+use Rattle.calls.specs.Numbers.{badLength, unsound, noPlace, badMode, badSegment, badSize, badWidth, badField, gappedHandle, joinApart, elsewhere}
+use Rattle.calls.specs.Numbers.{inUse, twins, inactiveCluster, otherWidth, joinWhole, notPrimary, clusterFrozen, notReferenced, oldPassword}
 use Rattle.calls.specs.Numbers.{segmentPresent, segmentAbsent, segmentFrozen, short, fullNode, emptyHandle, spentHandle}
-use Rattle.calls.specs.Words.{Named, Handled, Joining, Taken, GappedHandle, SamePassword, clusterOf, Current, place, Unsound, NoSuchPlace, Field}
-use Rattle.calls.specs.Words.{Gapped, Apart, Whole, Elsewhere, InUse, Twins, Inactive, NotPrimary, NotReferenced, OldPassword}
+use Rattle.calls.specs.Words.{Named, NoLength, GappedHandle, SamePassword, clusterOf, Current, place, BadLength, Unsound, NoSuchPlace, Field}
+use Rattle.calls.specs.Words.{Gapped, Apart, Whole, Elsewhere, InUse, Twins, Inactive, OtherWidth, NotPrimary, NotReferenced, OldPassword}
 use Rattle.calls.specs.Words.{ClusterFrozen, SegmentPresent, SegmentAbsent, SegmentFrozen, Short, NoRoom, Empty, Spent}
-use Rattle.calls.proofs.TestLaws.{Is, map-is, same-is, off-is, not-is, then-is, and-is, or-is, three-is, holds-is}
+use Rattle.calls.proofs.TestLaws.{Is, map-is, same-is, off-is, not-is, then-is, and-is, or-is, three-is, four-is, holds-is}
 use Rattle.calls.proofs.TestLaws.{fails-is, eq-is, le-is, lt-is, some-is}
 use Rattle.calls.proofs.KindLaws.{kind-is, only-kind, but-is, other-kind}
 use Rattle.calls.proofs.CallLaws.{mode-known}
 use Rattle.calls.proofs.SelectorWords.{references-is, other-is, gapped-is, empty-is, spent-is, whole-is, password-is, four}
 use Rattle.calls.proofs.PresentedWords.{local-is, opens-is, own-record, handle-record, handle-node, handle-place}
-use Rattle.calls.proofs.PresentedWords.{presented-is, alone-is}
+use Rattle.calls.proofs.PresentedWords.{handled-is, join-is, each-handle, presented-is, alone-is}
+use Rattle.calls.proofs.HandleWords.{handle-in-words, none-length}
 
 -- the password of one mode or of the other
 pub current-is : (m : ℕ) (c : Cluster) (p : List ℕ) → (m ≡ 1) ⊎ (m ≡ 2) → Is (samePassword p (primaryOf c m)) (Current m c p)
@@ -72,16 +73,35 @@ module _ (x : Call) where
       place-is : (h : Handle) → Is (noSuchPlace h) ((3 < nodeOf h) ⊎ (7 < h .local))
       place-is h = or-is (le-is 4 (nodeOf h)) (le-is 8 (h .local))
 
+  pub badLength-is : Is (badLength x) (BadLength x)
+  unfolding badLength
+  badLength-is =
+      same-is (each-handle x noWidth)
+      (or-is (and-is (handled-is x) (length-is (x .args .handle))) (and-is (join-is x) (length-is (x .args .other))))
+    where
+      length-is : (b : List ℕ) → Is (noWidth (decoded b)) (NoLength b)
+      length-is b = map-is (none-length b) (λ n. handle-in-words b .other n) (eq-is (widthOf (decoded b)) 0)
+
   pub badField-is : Is (badField x) (Field x)
-  unfolding badField badMode badSegment badSize
+  unfolding badField badMode badSegment badSize badWidth
   badField-is =
-      three-is
+      four-is
       (map-is (λ r. (r .0, λ e. r .1 (inl e), λ e. r .1 (inr e))) (λ r. (r .0, neither (r .1) (r .2)))
       (and-is (kind-is (λ k. uses k .mode) _ refl x) (not-is (or-is (eq-is (x .args .mode) 1) (eq-is (x .args .mode) 2)))))
-      (and-is (kind-is (λ k. uses k .segment) _ refl x) (le-is 8 (x .args .segment)))
+      (and-is (kind-is (λ k. uses k .segment) _ refl x) (le-is (widthOf (handleOf x)) (x .args .segment)))
       (and-is (kind-is (λ k. uses k .size) _ refl x)
       (or-is (eq-is (x .args .size) 0) (lt-is 4096 (x .args .size))))
+      (map-is (λ r. (r .0, λ e. r .1 (inl e), λ e. r .1 (inr (inl e)), λ e. r .1 (inr (inr e))))
+      (λ r. (r .0, none (r .1) (r .2) (r .3)))
+      (and-is (kind-is (λ k. uses k .width) _ refl x)
+      (not-is (or-is (eq-is (x .args .width) 4) (or-is (eq-is (x .args .width) 8) (eq-is (x .args .width) 16))))))
     where
+      none : x .args .width ≢ 4 → x .args .width ≢ 8 → x .args .width ≢ 16
+          → ¬ ((x .args .width ≡ 4) ⊎ (x .args .width ≡ 8) ⊎ (x .args .width ≡ 16))
+      none a b c (inl e) = a e
+      none a b c (inr (inl e)) = b e
+      none a b c (inr (inr e)) = c e
+
       neither : x .args .mode ≢ 1 → x .args .mode ≢ 2 → ¬ ((x .args .mode ≡ 1) ⊎ (x .args .mode ≡ 2))
       neither m n (inl e) = m e
       neither m n (inr e) = n e
@@ -120,49 +140,42 @@ module _ (x : Call) where
 
   -- ---- the rows of a selector
 
-  module _ (t : Taken x) where
-    pub first : Handled x → length (handleOf x .selector) ≡ 4
-    first h = four (x .args .handle) (t .first h)
+  pub gapped-row : Is (gappedHandle x) (Gapped x)
+  unfolding gappedHandle
+  gapped-row =
+      presented-is x (λ h. gapped (widthOf h) (h .selector)) GappedHandle (λ h. gapped-is (handleOf x) (four (x .args .handle)))
+      (λ h. gapped-is (otherOf x) (four (x .args .other)))
 
-    pub second : Joining x → length (otherOf x .selector) ≡ 4
-    second h = four (x .args .other) (t .second h)
+  pub notPrimary-is : Is (notPrimary x) (NotPrimary x)
+  unfolding notPrimary
+  notPrimary-is =
+      alone-is x _ (kind-is (among (2 ∷ 3 ∷ 4 ∷ 9 ∷ 10 ∷ [])) _ refl x) refl refl
+      (λ h. not (allFlat (widthOf h) (h .selector))) (λ n. other-is (handleOf x) (four (x .args .handle)))
 
-    pub gapped-row : Is (gappedHandle x) (Gapped x)
-    unfolding gappedHandle
-    gapped-row =
-        presented-is x (λ h. gapped (widthOf h) (h .selector)) GappedHandle (λ h. gapped-is (handleOf x) (first h))
-        (λ h. gapped-is (otherOf x) (second h))
+  pub whole-row : Is (joinWhole x) (Whole x)
+  unfolding joinWhole
+  whole-row =
+      then-is (kind-is (among (11 ∷ [])) _ refl x) (λ n.
+      whole-is (widthOf (handleOf x)) (handleOf x) (otherOf x) (four (x .args .handle)) (four (x .args .other)))
 
-    pub notPrimary-is : Is (notPrimary x) (NotPrimary x)
-    unfolding notPrimary
-    notPrimary-is =
-        alone-is x _ (kind-is (among (2 ∷ 3 ∷ 4 ∷ 9 ∷ 10 ∷ [])) _ refl x) refl refl
-        (λ h. not (allFlat (widthOf h) (h .selector))) (λ n. other-is (handleOf x) (first (other-kind _ refl x n)))
+  pub notReferenced-is : Is (notReferenced x) (NotReferenced x)
+  unfolding notReferenced
+  notReferenced-is =
+      then-is (kind-is (among (5 ∷ 6 ∷ [])) _ refl x) (λ n.
+      not-is (references-is (handleOf x) (four (x .args .handle)) (x .args .segment)))
 
-    pub whole-row : Is (joinWhole x) (Whole x)
-    unfolding joinWhole
-    whole-row =
-        then-is (kind-is (among (11 ∷ [])) _ refl x) (λ n.
-        whole-is (handleOf x) (otherOf x) (first (other-kind _ refl x n)) (second n))
+  pub empty-row : Is (emptyHandle x) (Empty x)
+  unfolding emptyHandle
+  empty-row =
+      then-is (kind-is (among (7 ∷ [])) _ refl x) (λ n.
+      empty-is (handleOf x) (four (x .args .handle)) (x .args .mask))
 
-    pub notReferenced-is : Is (notReferenced x) (NotReferenced x)
-    unfolding notReferenced
-    notReferenced-is =
-        then-is (kind-is (among (5 ∷ 6 ∷ [])) _ refl x) (λ n.
-        not-is (references-is (handleOf x) (first (other-kind _ refl x n)) (x .args .segment)))
-
-    pub empty-row : Is (emptyHandle x) (Empty x)
-    unfolding emptyHandle
-    empty-row =
-        then-is (kind-is (among (7 ∷ [])) _ refl x) (λ n.
-        empty-is (handleOf x) (first (other-kind _ refl x n)) (x .args .mask))
-
-    pub spent-row : Is (spentHandle x) (Spent x)
-    unfolding spentHandle
-    spent-row =
-        map-is (λ r. (r .0, r .1 .0, r .1 .1)) (λ r. (r .0, (r .1, r .2)))
-        (then-is (kind-is (among (7 ∷ [])) _ refl x) (λ n.
-        spent-is (handleOf x) (first (other-kind _ refl x n)) (x .args .mask)))
+  pub spent-row : Is (spentHandle x) (Spent x)
+  unfolding spentHandle
+  spent-row =
+      map-is (λ r. (r .0, r .1 .0, r .1 .1)) (λ r. (r .0, (r .1, r .2)))
+      (then-is (kind-is (among (7 ∷ [])) _ refl x) (λ n.
+      spent-is (handleOf x) (four (x .args .handle)) (x .args .mask)))
 
   -- ---- the rows of the store
 
@@ -191,6 +204,18 @@ module _ (x : Call) where
         and-is (opens-is x)
         (presented-is x (λ h. not (tableAt s (recordNamed h) .active)) (λ h. clusterOf h s .active ≡ false)
         (λ h. fails-is (clusterOf (handleOf x) s .active)) (λ h. fails-is (clusterOf (otherOf x) s .active)))
+
+    pub otherWidth-is : Is (otherWidth x (tableAt s)) (OtherWidth x s)
+    unfolding otherWidth
+    otherWidth-is =
+        and-is (opens-is x)
+        (presented-is x (λ h. not (eqb (widthOf h) (tableAt s (recordNamed h) .width))) (λ h. clusterOf h s .width ≢ widthOf h)
+        (λ h. width-is (handleOf x)) (λ h. width-is (otherOf x)))
+      where
+        width-is : (h : Handle)
+            → Is (not (eqb (widthOf h) (tableAt s (recordNamed h) .width))) (clusterOf h s .width ≢ widthOf h)
+        width-is h =
+            map-is (λ n e. n (sym e)) (λ n e. n (sym e)) (not-is (eq-is (widthOf h) (clusterOf h s .width)))
 
     pub oldPassword-is : ¬ Field x → Is (oldPassword x s) (OldPassword x s)
     unfolding oldPassword
@@ -226,7 +251,7 @@ module _ (x : Call) where
     clusterFrozen-is =
         then-is (kind-is (among (2 ∷ [])) _ refl x) (λ n.
         same-is (ap (λ (k : ℕ). not (noneFrozen (tableAt s k))) (handle-record x (other-kind _ refl x n)))
-        (some-is 8 (frozenOf (tableOf (clusterOf (handleOf x) s)))))
+        (some-is 16 (frozenOf (tableOf (clusterOf (handleOf x) s)))))
 
     pub segmentFrozen-is : Is (segmentFrozen x (tableAt s)) (SegmentFrozen x s)
     unfolding segmentFrozen
@@ -279,7 +304,7 @@ module _ (x : Call) where
             ((base : ℕ) → ¬ Room s (nodeOf (handleOf x)) (x .args .size) base)
         placed n =
             let node : ¬ (3 < nodeOf (handleOf x)) = λ h. b (inl (inl (other-kind _ refl x n, inl h))) in
-            let some : ¬ (x .args .size ≡ 0) = λ h. c (inr (inr (n, inl h))) in
+            let some : ¬ (x .args .size ≡ 0) = λ h. c (inr (inr (inl (n, inl h)))) in
             let w = whole (other-kind _ refl x n) (sound s size) refl in
             let p = placement-in-words s size w (nodeOf (handleOf x)) (x .args .size) (omega arith) (omega arith) in
             map-is (p .nowhere .0) (p .nowhere .1) (eq-is _ 16)

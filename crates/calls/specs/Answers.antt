@@ -11,6 +11,8 @@
 -- Assumes nothing.
 use Prim.Native.Nat.{ℕ}
 use mathlib.Core.List.{List, []}
+use Rattle.handle.specs.declared.HandleBytes.{HandleBytes}
+use Rattle.handle.specs.Handles.{laid}
 use Rattle.store.specs.declared.Cluster.{Cluster}
 use Rattle.store.specs.declared.Store.{Store}
 use Rattle.calls.specs.declared.Answer.{Answer}
@@ -18,7 +20,7 @@ use Rattle.calls.specs.declared.Left.{Left}
 use Rattle.calls.specs.declared.RecordLeft.{RecordLeft}
 use Rattle.calls.specs.declared.Looked.{Looked}
 use Rattle.calls.specs.Calls.{Copy}
-use Rattle.calls.specs.Steps.{Reply, Outcome, zeroHandle}
+use Rattle.calls.specs.Steps.{Reply, Outcome, noBytes}
 use Rattle.calls.specs.Looks.{nowhere}
 
 abbrev pub copyOf : Store → List ℕ → Copy
@@ -40,13 +42,13 @@ abbrev pub ended : Store → List ℕ → Answer → List ℕ → Outcome
 ended s m a b = record { copy = copyOf s m; reply = replied a b }
 
 abbrev pub numberAlone : ℕ → Answer
-numberAlone n = record { number = n; first = zeroHandle; second = zeroHandle; count = 0; length = 0 }
+numberAlone n = record { number = n; first = laid noBytes; second = laid noBytes; count = 0; length = 0 }
 
-abbrev pub handlesAlone : List ℕ → List ℕ → Answer
+abbrev pub handlesAlone : HandleBytes → HandleBytes → Answer
 handlesAlone a b = record { number = 0; first = a; second = b; count = 0; length = 0 }
 
 abbrev pub lengthAlone : ℕ → Answer
-lengthAlone n = record { number = 0; first = zeroHandle; second = zeroHandle; count = 0; length = n }
+lengthAlone n = record { number = 0; first = laid noBytes; second = laid noBytes; count = 0; length = n }
 
 abbrev pub hiddenWith : ℕ → Looked
 hiddenWith n = record { number = n; part = nowhere }

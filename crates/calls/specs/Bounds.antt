@@ -13,7 +13,7 @@
 use mathlib.Core.Path.{_≡_}
 use Prim.Native.Nat.{ℕ, _+_}
 use mathlib.Core.List.{List, [], _∷_}
-use Rattle.sizes.specs.Sizes.{segments, memory}
+use Rattle.sizes.specs.Sizes.{memory}
 use Rattle.handle.specs.Selectors.{flats, inFirst}
 use Rattle.store.specs.declared.Place.the-variants.{Present}
 use Rattle.store.specs.declared.Cluster.{Cluster}
@@ -24,13 +24,13 @@ use Rattle.calls.specs.Calls.{writing, weakeningBy, reducing, renewing, 
 use Rattle.calls.specs.Cases.{sixteen, shown, room, Case, gives, toldOn, named}
 
 abbrev corner : ℕ → List ℕ
-corner b = shown 3 7 b (flats segments)
+corner b = shown 3 7 b (flats 8)
 
 abbrev part : ℕ → ℕ → List ℕ
-part b s = shown 3 7 (b + s) (inFirst segments s)
+part b s = shown 3 7 (b + s) (inFirst 8 s)
 
 abbrev owned : Cluster
-owned = started (sixteen 3) (sixteen 4)
+owned = started 8 (sixteen 3) (sixteen 4)
 
 abbrev pub bare : Store
 bare = putRecord startingStore 31 owned
@@ -42,7 +42,7 @@ abbrev pub sealed : Store
 sealed = putRecord startingStore 31 (withMark (withPlace owned 7 (Present 4093 3)) 7)
 
 abbrev pub free : List Case
-free = gives 0 (makingCluster 3 7 (sixteen 1) (sixteen 2)) ∷ []
+free = gives 0 (makingCluster 3 7 8 (sixteen 1) (sixteen 2)) ∷ []
 
 abbrev pub empty : List Case
 empty =

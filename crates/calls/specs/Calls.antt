@@ -1,10 +1,11 @@
 -- Document 01, "The calls" and the first sentences of "Two copies", with the look of document 02, §2, its §3, call 10, and
--- its §5, call 11: what a call carries and what it looks at.
+-- its §5, call 11, and its §8, widths: what a call carries and what it looks at.
 --     Copy                    the records of all clusters and the bytes of the slice
 --     start                   the starting store, with a memory of zeros
 --     Kind                    the eleven calls, validation and the look
---     Arguments               what a call may carry: handles as 23 bytes, passwords as sixteen; `other` is the second
---                             handle of a join, `bytes` are a read's buffer or a write's data
+--     Arguments               what a call may carry: handles as bytes of any length, passwords as sixteen; `width` is that
+--                             of a new cluster, `other` the second handle of a join, `bytes` are a read's buffer or a
+--                             write's data
 --     Call, call              a kind and its arguments
 --     makingCluster .. looking    each call by name, with what it uses; its other arguments are zero or empty
 --     code                    the code by which the tables name a kind; validation has the rows of call 8, a look those of
@@ -56,6 +57,7 @@ pub data Kind : Type 0 where
 pub record Arguments : Type 0 where
   pub current : ℕ
   pub local : ℕ
+  pub width : ℕ
   pub mode : ℕ
   pub segment : ℕ
   pub size : ℕ
@@ -74,11 +76,12 @@ abbrev pub call : Kind → Arguments → Call
 call k g = record { kind = k; args = g }
 
 -- the fields in the order of the record
-abbrev arguments : ℕ → ℕ → ℕ → ℕ → ℕ → ℕ → List ℕ → List ℕ → List ℕ → List ℕ → List ℕ → Arguments
-arguments current local mode segment size mask handle other first second bytes =
+abbrev arguments : ℕ → ℕ → ℕ → ℕ → ℕ → ℕ → ℕ → List ℕ → List ℕ → List ℕ → List ℕ → List ℕ → Arguments
+arguments current local width mode segment size mask handle other first second bytes =
     record {
       current = current;
       local = local;
+      width = width;
       mode = mode;
       segment = segment;
       size = size;
@@ -90,44 +93,45 @@ arguments current local mode segment size mask handle other first second bytes =
       bytes = bytes;
     }
 
-abbrev pub makingCluster : ℕ → ℕ → List ℕ → List ℕ → Call
-makingCluster current local first second = call newCluster (arguments current local 0 0 0 0 [] [] first second [])
+abbrev pub makingCluster : ℕ → ℕ → ℕ → List ℕ → List ℕ → Call
+makingCluster current local width first second =
+    call newCluster (arguments current local width 0 0 0 0 [] [] first second [])
 
 abbrev pub deletingCluster : ℕ → List ℕ → Call
-deletingCluster current handle = call deleteCluster (arguments current 0 0 0 0 0 handle [] [] [] [])
+deletingCluster current handle = call deleteCluster (arguments current 0 0 0 0 0 0 handle [] [] [] [])
 
 abbrev pub makingSegment : ℕ → ℕ → ℕ → List ℕ → Call
-makingSegment current segment size handle = call newSegment (arguments current 0 0 segment size 0 handle [] [] [] [])
+makingSegment current segment size handle = call newSegment (arguments current 0 0 0 segment size 0 handle [] [] [] [])
 
 abbrev pub deletingSegment : ℕ → ℕ → List ℕ → Call
-deletingSegment current segment handle = call deleteSegment (arguments current 0 0 segment 0 0 handle [] [] [] [])
+deletingSegment current segment handle = call deleteSegment (arguments current 0 0 0 segment 0 0 handle [] [] [] [])
 
 abbrev pub reading : ℕ → List ℕ → List ℕ → Call
-reading segment handle buffer = call read (arguments 0 0 0 segment 0 0 handle [] [] [] buffer)
+reading segment handle buffer = call read (arguments 0 0 0 0 segment 0 0 handle [] [] [] buffer)
 
 abbrev pub writing : ℕ → List ℕ → List ℕ → Call
-writing segment handle written = call write (arguments 0 0 0 segment 0 0 handle [] [] [] written)
+writing segment handle written = call write (arguments 0 0 0 0 segment 0 0 handle [] [] [] written)
 
 abbrev pub weakeningBy : ℕ → List ℕ → Call
-weakeningBy mask handle = call weaken (arguments 0 0 0 0 0 mask handle [] [] [] [])
+weakeningBy mask handle = call weaken (arguments 0 0 0 0 0 0 mask handle [] [] [] [])
 
 abbrev pub reducing : ℕ → List ℕ → Call
-reducing mode handle = call reduce (arguments 0 0 mode 0 0 0 handle [] [] [] [])
+reducing mode handle = call reduce (arguments 0 0 0 mode 0 0 0 handle [] [] [] [])
 
 abbrev pub renewing : ℕ → List ℕ → List ℕ → Call
-renewing mode handle password = call newPassword (arguments 0 0 mode 0 0 0 handle [] password [] [])
+renewing mode handle password = call newPassword (arguments 0 0 0 mode 0 0 0 handle [] password [] [])
 
 abbrev pub freezing : ℕ → ℕ → List ℕ → Call
-freezing current segment handle = call freeze (arguments current 0 0 segment 0 0 handle [] [] [] [])
+freezing current segment handle = call freeze (arguments current 0 0 0 segment 0 0 handle [] [] [] [])
 
 abbrev pub joining : ℕ → List ℕ → List ℕ → Call
-joining mode handle other = call join (arguments 0 0 mode 0 0 0 handle other [] [] [])
+joining mode handle other = call join (arguments 0 0 0 mode 0 0 0 handle other [] [] [])
 
 abbrev pub validating : ℕ → List ℕ → Call
-validating mode handle = call validate (arguments 0 0 mode 0 0 0 handle [] [] [] [])
+validating mode handle = call validate (arguments 0 0 0 mode 0 0 0 handle [] [] [] [])
 
 abbrev pub looking : ℕ → ℕ → List ℕ → Call
-looking current segment handle = call look (arguments current 0 0 segment 0 0 handle [] [] [] [])
+looking current segment handle = call look (arguments current 0 0 0 segment 0 0 handle [] [] [] [])
 
 abbrev pub code : Kind → ℕ
 code newCluster = 1
@@ -171,6 +175,7 @@ opens k = among (2 ∷ 3 ∷ 4 ∷ 5 ∷ 6 ∷ 8 ∷ 9 ∷ 10 ∷ 11 ∷ []) k
 pub record Uses : Type 0 where
   pub current : Bool
   pub local : Bool
+  pub width : Bool
   pub mode : Bool
   pub segment : Bool
   pub size : Bool
@@ -181,11 +186,12 @@ pub record Uses : Type 0 where
   pub second : Bool
   pub bytes : Bool
 
-abbrev columns : Bool → Bool → Bool → Bool → Bool → Bool → Bool → Bool → Bool → Bool → Bool → Uses
-columns c l m s z k h t p q b =
+abbrev columns : Bool → Bool → Bool → Bool → Bool → Bool → Bool → Bool → Bool → Bool → Bool → Bool → Uses
+columns c l w m s z k h t p q b =
     record {
       current = c;
       local = l;
+      width = w;
       mode = m;
       segment = s;
       size = z;
@@ -204,21 +210,21 @@ x = true
 abbrev o : Bool
 o = false
 
--- the columns: current, local, mode, segment, size, mask, handle, other, first, second, bytes
+-- the columns: current, local, width, mode, segment, size, mask, handle, other, first, second, bytes
 abbrev pub uses : Kind → Uses
-uses newCluster = columns x x o o o o o o x x o
-uses deleteCluster = columns x o o o o o x o o o o
-uses newSegment = columns x o o x x o x o o o o
-uses deleteSegment = columns x o o x o o x o o o o
-uses read = columns o o o x o o x o o o x
-uses write = columns o o o x o o x o o o x
-uses weaken = columns o o o o o x x o o o o
-uses reduce = columns o o x o o o x o o o o
-uses newPassword = columns o o x o o o x o x o o
-uses freeze = columns x o o x o o x o o o o
-uses join = columns o o x o o o x x o o o
-uses validate = columns o o x o o o x o o o o
-uses look = columns x o o x o o x o o o o
+uses newCluster = columns x x x o o o o o o x x o
+uses deleteCluster = columns x o o o o o o x o o o o
+uses newSegment = columns x o o o x x o x o o o o
+uses deleteSegment = columns x o o o x o o x o o o o
+uses read = columns o o o o x o o x o o o x
+uses write = columns o o o o x o o x o o o x
+uses weaken = columns o o o o o o x x o o o o
+uses reduce = columns o o o x o o o x o o o o
+uses newPassword = columns o o o x o o o x o x o o
+uses freeze = columns x o o o x o o x o o o o
+uses join = columns o o o x o o o x x o o o
+uses validate = columns o o o x o o o x o o o o
+uses look = columns x o o o x o o x o o o o
 
 abbrev pub needed : Call → ℕ
 needed x =

@@ -2,7 +2,7 @@
 -- adds its parameter to the first byte, and gives sixteen such bytes.
 --     added                     that conversion
 --     sixteen b                 sixteen bytes b
---     shown v l b ss            the bytes of the handle of node v and local number l: sixteen bytes b, the selector ss
+--     shown v l b ss            the 23 bytes of the handle of node v and local number l: sixteen bytes b, the selector ss
 --     primary b, weak b         the primary handle of node 1 and local number 2; one that references segment 5 alone
 --     other b, gap, far, high, idle    handles that reference segment 6 alone, are gapped, name a node above 3, a local
 --                               number above 7, an inactive cluster
@@ -26,7 +26,8 @@ use mathlib.Core.Path.{_≡_}
 use Prim.Native.Nat.{ℕ, _+_, _-_}
 use mathlib.Core.List.{List, [], _∷_, map}
 use lib.ListN.{getD, replicate}
-use Rattle.sizes.specs.Sizes.{segments, memory, passwordBytes}
+use Rattle.sizes.specs.Sizes.{memory, passwordBytes}
+use Rattle.handle.specs.declared.Width.the-variants.{Eight}
 use Rattle.handle.specs.Selectors.{flats, inFirst}
 use Rattle.handle.specs.Handles.{Name, encoded}
 use Rattle.store.specs.declared.Place.the-variants.{Present}
@@ -45,33 +46,33 @@ abbrev pub sixteen : ℕ → List ℕ
 sixteen b = replicate passwordBytes b
 
 abbrev pub shown : ℕ → ℕ → ℕ → List ℕ → List ℕ
-shown v l b ss = encoded (record { node = v; local = l; password = sixteen b; selector = ss })
+shown v l b ss = encoded (record { node = v; local = l; password = sixteen b; width = Eight; selector = ss })
 
 -- ---- the numbers
 
 abbrev pub primary : ℕ → List ℕ
-primary b = shown 1 2 b (flats segments)
+primary b = shown 1 2 b (flats 8)
 
 -- its password is that of the primary handle and 32, the parameter that keeps segment 5
 abbrev pub weak : ℕ → List ℕ
-weak b = shown 1 2 (b + 32) (inFirst segments 32)
+weak b = shown 1 2 (b + 32) (inFirst 8 32)
 
 -- a handle that references segment 6 alone
 abbrev pub other : ℕ → List ℕ
-other b = shown 1 2 (b + 64) (inFirst segments 64)
+other b = shown 1 2 (b + 64) (inFirst 8 64)
 
 abbrev pub gap : List ℕ
 gap = shown 1 2 3 (255 ∷ 254 ∷ 255 ∷ 255 ∷ [])
 
 abbrev pub far : List ℕ
-far = shown 4 2 3 (flats segments)
+far = shown 4 2 3 (flats 8)
 
 abbrev pub high : List ℕ
-high = shown 1 8 3 (flats segments)
+high = shown 1 8 3 (flats 8)
 
 -- a cluster that is inactive: its passwords are zero
 abbrev pub idle : List ℕ
-idle = shown 1 3 0 (flats segments)
+idle = shown 1 3 0 (flats 8)
 
 -- a selector with no flat subselector
 abbrev pub spent : List ℕ
@@ -81,18 +82,18 @@ abbrev pub nothing : List ℕ
 nothing = 240 ∷ 15 ∷ 255 ∷ 255 ∷ []
 
 abbrev pub sample : Store
-sample = putRecord startingStore (recordOf 1 2) (withPlace (started (sixteen 3) (sixteen 4)) 5 (Present 0 3))
+sample = putRecord startingStore (recordOf 1 2) (withPlace (started 8 (sixteen 3) (sixteen 4)) 5 (Present 0 3))
 
 abbrev pub marked : Store
 marked =
     putRecord
     (putRecord startingStore (recordOf 1 2)
-    (withPlace (withMark (withPlace (started (sixteen 3) (sixteen 4)) 5 (Present 0 3)) 5) 4 (Present 3 2)))
+    (withPlace (withMark (withPlace (started 8 (sixteen 3) (sixteen 4)) 5 (Present 0 3)) 5) 4 (Present 3 2)))
     (recordOf 1 4)
-    (withPlace (started (sixteen 6) (sixteen 7)) 5 (Present 5 3))
+    (withPlace (started 8 (sixteen 6) (sixteen 7)) 5 (Present 5 3))
 
 abbrev pub beside : ℕ → List ℕ
-beside b = shown 1 4 b (flats segments)
+beside b = shown 1 4 b (flats 8)
 
 abbrev pub room : List ℕ
 room = 0 ∷ 0 ∷ 0 ∷ []
@@ -109,7 +110,7 @@ gives n x = record { number = n; call = x }
 
 abbrev pub damaged : List Case
 damaged =
-    gives 1 (makingCluster 1 3 (sixteen 1) (sixteen 2))
+    gives 1 (makingCluster 1 3 8 (sixteen 1) (sixteen 2))
     ∷ gives 1 (deletingCluster 1 (primary 4))
     ∷ gives 1 (makingSegment 1 6 2 (primary 4))
     ∷ gives 1 (deletingSegment 1 5 (primary 4))
@@ -124,7 +125,7 @@ damaged =
     ∷ gives 1 (validating 1 (primary 3))
     ∷ gives 1 (looking 1 5 (primary 3))
     -- 1 above 2, and above 3 and 9
-    ∷ gives 1 (makingCluster 4 3 (sixteen 1) (sixteen 1))
+    ∷ gives 1 (makingCluster 4 3 8 (sixteen 1) (sixteen 1))
     ∷ gives 1 (deletingCluster 1 far)
     ∷ gives 1 (makingSegment 4 6 2 (primary 4))
     ∷ gives 1 (deletingSegment 1 5 high)
@@ -142,8 +143,8 @@ damaged =
 
 abbrev pub refusals : List Case
 refusals =
-    gives 2 (makingCluster 4 3 (sixteen 1) (sixteen 2))
-    ∷ gives 2 (makingCluster 1 8 (sixteen 1) (sixteen 2))
+    gives 2 (makingCluster 4 3 8 (sixteen 1) (sixteen 2))
+    ∷ gives 2 (makingCluster 1 8 8 (sixteen 1) (sixteen 2))
     ∷ gives 2 (deletingCluster 4 (primary 4))
     ∷ gives 2 (deletingCluster 1 far)
     ∷ gives 2 (makingSegment 4 6 2 (primary 4))
@@ -191,8 +192,8 @@ refusals =
     ∷ gives 5 (deletingSegment 0 5 (primary 4))
     ∷ gives 5 (freezing 0 5 (primary 4))
     ∷ gives 5 (looking 0 5 (primary 3))
-    ∷ gives 6 (makingCluster 1 2 (sixteen 1) (sixteen 2))
-    ∷ gives 7 (makingCluster 1 3 (sixteen 1) (sixteen 1))
+    ∷ gives 6 (makingCluster 1 2 8 (sixteen 1) (sixteen 2))
+    ∷ gives 7 (makingCluster 1 3 8 (sixteen 1) (sixteen 1))
     ∷ gives 8 (deletingCluster 1 idle)
     ∷ gives 8 (makingSegment 1 6 2 idle)
     ∷ gives 8 (deletingSegment 1 5 idle)

@@ -13,8 +13,9 @@
 use Prim.Native.Nat.{ℕ}
 use mathlib.Core.List.{List, [], _∷_, _++_, map}
 use lib.ListN.{replicate}
-use Rattle.sizes.specs.Sizes.{segments, memory, passwordBytes}
+use Rattle.sizes.specs.Sizes.{memory, passwordBytes}
 use Rattle.handle.specs.Selectors.{flats}
+use Rattle.handle.specs.declared.Width.the-variants.{Eight}
 use Rattle.handle.specs.Handles.{Name, encoded}
 use Rattle.handle.specs.Examples as S
 use Rattle.store.specs.declared.Store.{Store}
@@ -41,13 +42,13 @@ abbrev asks : Question → Told → Example
 asks q a = record { asked = q; told = a }
 
 abbrev shown : List ℕ → List ℕ
-shown ss = encoded (record { node = 0; local = 2; password = replicate passwordBytes 0; selector = ss })
+shown ss = encoded (record { node = 0; local = 2; password = replicate passwordBytes 0; width = Eight; selector = ss })
 
 abbrev pub weakening : ℕ → List ℕ → Call
 weakening mask ss = weakeningBy mask (shown ss)
 
 abbrev pub making : ℕ → Call
-making size = makingSegment 0 0 size (shown (flats segments))
+making size = makingSegment 0 0 size (shown (flats 8))
 
 module _ (f : Name → List ℕ → ℕ → List ℕ) (password first : List ℕ) (mask : ℕ) (s : Store) (size : ℕ) where
   -- P1 to P9

@@ -34,6 +34,7 @@ pub record FreezeRefused (f : Name → List ℕ → ℕ → List ℕ) (g : Argum
 
 pub record SameRecords (n i : ℕ) (a b : Store) : Type 0 where
   pub active : (m : ℕ) → clusterAt a m .active ≡ clusterAt b m .active
+  pub width : (m : ℕ) → clusterAt a m .width ≡ clusterAt b m .width
   pub read : (m : ℕ) → clusterAt a m .read ≡ clusterAt b m .read
   pub write : (m : ℕ) → clusterAt a m .write ≡ clusterAt b m .write
   pub segments : (m j : ℕ) → (m ≢ n) ⊎ (j ≢ i)

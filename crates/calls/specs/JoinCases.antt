@@ -8,7 +8,7 @@
 use mathlib.Core.Path.{_≡_}
 use Prim.Native.Nat.{ℕ, _+_}
 use mathlib.Core.List.{List, [], _∷_}
-use Rattle.sizes.specs.Sizes.{segments, memory}
+use Rattle.sizes.specs.Sizes.{memory}
 use Rattle.handle.specs.Selectors.{flats, inFirst}
 use Rattle.calls.specs.Calls.{joining}
 use Rattle.calls.specs.Cases.{shown, primary, weak, other, gap, far, high, idle, sample, marked, beside, Case, gives}
@@ -16,13 +16,13 @@ use Rattle.calls.specs.Cases.{toldOn, named}
 
 -- handles that together reference all eight segments, and all but the last
 abbrev pub lower : ℕ → List ℕ
-lower b = shown 1 2 (b + 15) (inFirst segments 15)
+lower b = shown 1 2 (b + 15) (inFirst 8 15)
 
 abbrev pub upper : ℕ → List ℕ
-upper b = shown 1 2 (b + 240) (inFirst segments 240)
+upper b = shown 1 2 (b + 240) (inFirst 8 240)
 
 abbrev pub some : ℕ → List ℕ
-some b = shown 1 2 (b + 112) (inFirst segments 112)
+some b = shown 1 2 (b + 112) (inFirst 8 112)
 
 -- what is said of a handle, for the first of the two alone, and for the second alone
 abbrev pub joins : List Case
@@ -36,12 +36,12 @@ joins =
     ∷ gives 4 (joining 1 gap (weak 3))
     ∷ gives 4 (joining 1 (weak 3) gap)
     -- the node alone, the local number alone, both; both clusters inactive
-    ∷ gives 24 (joining 1 (weak 3) (shown 2 2 35 (inFirst segments 32)))
-    ∷ gives 24 (joining 1 (shown 2 2 35 (inFirst segments 32)) (weak 3))
-    ∷ gives 24 (joining 1 (weak 3) (shown 1 1 35 (inFirst segments 32)))
-    ∷ gives 24 (joining 1 (shown 1 1 35 (inFirst segments 32)) (weak 3))
-    ∷ gives 24 (joining 1 (weak 3) (shown 2 1 35 (inFirst segments 32)))
-    ∷ gives 24 (joining 1 idle (shown 1 5 0 (flats segments)))
+    ∷ gives 24 (joining 1 (weak 3) (shown 2 2 35 (inFirst 8 32)))
+    ∷ gives 24 (joining 1 (shown 2 2 35 (inFirst 8 32)) (weak 3))
+    ∷ gives 24 (joining 1 (weak 3) (shown 1 1 35 (inFirst 8 32)))
+    ∷ gives 24 (joining 1 (shown 1 1 35 (inFirst 8 32)) (weak 3))
+    ∷ gives 24 (joining 1 (weak 3) (shown 2 1 35 (inFirst 8 32)))
+    ∷ gives 24 (joining 1 idle (shown 1 5 0 (flats 8)))
     ∷ gives 8 (joining 1 idle idle)
     ∷ gives 9 (joining 1 (weak 4) (other 3))
     ∷ gives 9 (joining 1 (weak 3) (other 4))

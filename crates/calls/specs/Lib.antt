@@ -12,11 +12,15 @@ pub mod FreezeWords
 pub mod JoinWords
 pub mod RenewWords
 pub mod EmptyWords
+pub mod LengthWords
 pub mod Examples
 pub mod Cases
 pub mod JoinCases
 pub mod NearCases
 pub mod Orders
+pub mod WidthCases
+pub mod WidthReplies
+pub mod WidthOrders
 pub mod Bounds
 pub mod Written
 pub mod Answers

@@ -1,6 +1,6 @@
 -- Document 01, "The calls", row 3 of the table and the sentence on the base of a new segment, and document 02, §3: new
 -- ones are not frozen; in words: what a new segment that is done leaves.
---     Eight x c            the record that the call's handle names has its eight segments
+--     Sixteen x c          the record that the call's handle names has its sixteen segments
 --     MadeInWords f g c    of call 3 with the arguments g on the copy c: the segment that it names is present afterwards,
 --                          with the size asked for and a base that had room, and is not frozen; no smaller base had
 --                          room; in the memory left the segment's bytes, of its node's own 4,096, are zero, and all
@@ -17,8 +17,8 @@ use Rattle.calls.specs.Calls.{Copy, Call, Arguments, call, newSegment, h
 use Rattle.calls.specs.Words.{place, Frozen, clusterOf}
 use Rattle.calls.specs.Steps.{step}
 
-abbrev pub Eight : Call → Copy → Type 0
-Eight x c = length (clusterOf (handleOf x) (c .store) .segments) ≡ 8
+abbrev pub Sixteen : Call → Copy → Type 0
+Sixteen x c = length (clusterOf (handleOf x) (c .store) .segments) ≡ 16
 
 module _ (f : Name → List ℕ → ℕ → List ℕ) (g : Arguments) (c : Copy) where
   abbrev x : Call

@@ -1,7 +1,7 @@
 -- Document 02, §3, in words: what a call has to do with marks. A frozen segment can still be read, and everything but calls 2,
 -- 4 and 6 treats it as any other.
 --     SameButMarks a b    the two stores are the same but for marks: each cluster is active in both or in neither, its
---                         passwords are the same, and its segments lie in the same places
+--                         width and its passwords are the same, and its segments lie in the same places
 --     OwnMarks x a b      what of the marks a call may go by is the same too: for call 2 those of the cluster that it is about,
 --                         for calls 4 and 6 that of the segment that it names, for all others none
 --     MarksAside f        on two such sound stores with one memory a call gets the same reply, number and bytes
@@ -28,12 +28,13 @@ use Rattle.calls.specs.Answers.{copyOf}
 
 pub record SameButMarks (a b : Store) : Type 0 where
   pub active : (n : ℕ) → clusterAt a n .active ≡ clusterAt b n .active
+  pub width : (n : ℕ) → clusterAt a n .width ≡ clusterAt b n .width
   pub read : (n : ℕ) → clusterAt a n .read ≡ clusterAt b n .read
   pub write : (n : ℕ) → clusterAt a n .write ≡ clusterAt b n .write
   pub places : (n i : ℕ) → placeAt (tableAt a) n i ≡ placeAt (tableAt b) n i
 
 pub record OwnMarks (x : Call) (a b : Store) : Type 0 where
-  pub cluster : x .kind ≡ deleteCluster → (i : ℕ) → i < 8
+  pub cluster : x .kind ≡ deleteCluster → (i : ℕ) → i < 16
       → frozenOf (tableAt a (recordFor x)) i ≡ frozenOf (tableAt b (recordFor x)) i
   pub segment : (x .kind ≡ deleteSegment) ⊎ (x .kind ≡ write) → frozenFor x (tableAt a) ≡ frozenFor x (tableAt b)
 

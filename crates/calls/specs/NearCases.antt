@@ -10,8 +10,9 @@ use mathlib.Core.Path.{_≡_}
 use Prim.Native.Nat.{ℕ, _+_}
 use mathlib.Core.List.{List, [], _∷_, _++_, map}
 use lib.ListN.{set}
-use Rattle.sizes.specs.Sizes.{segments, memory}
+use Rattle.sizes.specs.Sizes.{memory}
 use Rattle.handle.specs.Selectors.{flats}
+use Rattle.handle.specs.declared.Width.the-variants.{Eight}
 use Rattle.handle.specs.Handles.{encoded}
 use Rattle.calls.specs.Calls.{makingCluster, renewing, validating}
 use Rattle.calls.specs.Cases.{sixteen, primary, sample, Case, gives, toldOn, named}
@@ -20,14 +21,14 @@ abbrev near : ℕ → ℕ → List ℕ
 near b k = set (sixteen b) k (b + 1)
 
 abbrev shown : List ℕ → List ℕ
-shown p = encoded (record { node = 1; local = 2; password = p; selector = flats segments })
+shown p = encoded (record { node = 1; local = 2; password = p; width = Eight; selector = flats 8 })
 
 abbrev places : List ℕ
 places = 0 ∷ 1 ∷ 2 ∷ 3 ∷ 4 ∷ 5 ∷ 6 ∷ 7 ∷ 8 ∷ 9 ∷ 10 ∷ 11 ∷ 12 ∷ 13 ∷ 14 ∷ 15 ∷ []
 
 abbrev pub nears : List Case
 nears =
-    map (λ (k : ℕ). gives 0 (makingCluster 1 3 (sixteen 1) (near 1 k))) places
+    map (λ (k : ℕ). gives 0 (makingCluster 1 3 8 (sixteen 1) (near 1 k))) places
     ++ (map (λ (k : ℕ). gives 9 (validating 1 (shown (near 3 k)))) places
     ++ (map (λ (k : ℕ). gives 0 (renewing 1 (primary 3) (near 3 k))) places
     ++ map (λ (k : ℕ). gives 0 (renewing 2 (primary 4) (near 4 k))) places))

@@ -15,7 +15,7 @@ use mathlib.Core.Path.{_≡_}
 use Prim.Native.Nat.{ℕ}
 use mathlib.Core.Bool.{Bool, true}
 use mathlib.Core.List.{List, [], _∷_, map}
-use Rattle.sizes.specs.Sizes.{segments, memory}
+use Rattle.sizes.specs.Sizes.{memory}
 use Rattle.handle.specs.Selectors.{flats}
 use Rattle.store.specs.declared.Store.{Store}
 use Rattle.calls.specs.Calls.{Call, makingCluster, deletingCluster, makingSegment, deletingSegment, reading}
@@ -33,7 +33,7 @@ abbrev idleGap : List ℕ
 idleGap = shown 1 3 0 (255 ∷ 254 ∷ 255 ∷ 255 ∷ [])
 
 abbrev idleWrong : List ℕ
-idleWrong = shown 1 3 7 (flats segments)
+idleWrong = shown 1 3 7 (flats 8)
 
 pub record Order : Type 0 where
   pub upper : ℕ
@@ -51,8 +51,8 @@ applies s n x = holding n (at x s (rows added memory))
 abbrev pub orders : List Order
 orders =
     -- 2 above 3, 4, 5, 6, 7, 17 and 21
-    over 2 6 (makingCluster 0 10 (sixteen 1) (sixteen 2))
-    ∷ over 2 7 (makingCluster 4 3 (sixteen 1) (sixteen 1))
+    over 2 6 (makingCluster 0 10 8 (sixteen 1) (sixteen 2))
+    ∷ over 2 7 (makingCluster 4 3 8 (sixteen 1) (sixteen 1))
     ∷ over 2 4 (deletingCluster 1 farGap)
     ∷ over 2 3 (makingSegment 1 8 2 far)
     ∷ over 2 3 (makingSegment 4 6 0 (primary 4))
@@ -105,7 +105,7 @@ orders =
     ∷ over 5 11 (looking 0 5 (other 3))
     ∷ over 5 14 (looking 0 6 (primary 3))
     -- 6 above 7
-    ∷ over 6 7 (makingCluster 1 2 (sixteen 1) (sixteen 1))
+    ∷ over 6 7 (makingCluster 1 2 8 (sixteen 1) (sixteen 1))
     -- 8 above 9
     ∷ over 8 9 (deletingCluster 1 idleWrong)
     ∷ over 8 9 (makingSegment 1 6 2 idleWrong)
@@ -168,7 +168,7 @@ joined =
     -- 24 above 8, 9 and 23
     ∷ over 24 8 (joining 1 (weak 3) idle)
     ∷ over 24 8 (joining 1 idle (weak 3))
-    ∷ over 24 8 (joining 1 idle (shown 1 5 0 (flats segments)))
+    ∷ over 24 8 (joining 1 idle (shown 1 5 0 (flats 8)))
     ∷ over 24 9 (joining 1 (weak 4) idle)
     ∷ over 24 9 (joining 1 (weak 3) idleWrong)
     ∷ over 24 23 (joining 1 (primary 3) idle)

@@ -2,8 +2,8 @@
 -- gives and leaves.
 --     ReadInWords f g c    of the read with the arguments g on the copy c: the segment that it names is present with a
 --                          base and a length; the first length bytes of the buffer are the segment's, of its node's own
---                          4,096 bytes of the memory, and those after them are as they were; the length is told, 23 zero
---                          bytes for each handle and a zero count; the copy is as it was
+--                          4,096 bytes of the memory, and those after them are as they were; the length is told, no handle,
+--                          that is 27 zero bytes and the length 0 for each, and a zero count; the copy is as it was
 -- Assumes nothing.
 use mathlib.Core.Path.{_≡_}
 use Prim.Native.Nat.{ℕ, _+_, _*_, _≤_, _<_}
@@ -32,7 +32,7 @@ module _ (f : Name → List ℕ → ℕ → List ℕ) (g : Arguments) (c : Copy)
         → getD (reply .buffer) k 0 ≡ getD (c .memory) (nodeOf (handleOf x) * 4096 + base + k) 0
     pub after : (k : ℕ) → size ≤ k → getD (reply .buffer) k 0 ≡ getD (g .bytes) k 0
     pub long : length (reply .buffer) ≡ length (g .bytes)
-    pub first : reply .first ≡ replicate 23 0
-    pub second : reply .second ≡ replicate 23 0
+    pub first : reply .first ≡ record { length = 0; bytes = replicate 27 0 }
+    pub second : reply .second ≡ record { length = 0; bytes = replicate 27 0 }
     pub count : reply .count ≡ 0
     pub copy : step f x c .copy ≡ c

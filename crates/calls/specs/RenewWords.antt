@@ -1,5 +1,5 @@
 -- Document 02, §6, "A refused password must not tell about the other mode", in words: the numbers of call 9. `renewing m a p`
--- is call 9 in the mode m with the handle a, of 23 bytes, and the new password p, as it is called; validation is asked
+-- is call 9 in the mode m with the handle a, of any width, and the new password p, as it is called; validation is asked
 -- for by itself. On every store, by every conversion:
 --     validated            the number that validation of the handle in the mode gets
 --     Holder               the handle validates in the mode, and is primary

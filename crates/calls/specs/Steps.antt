@@ -1,11 +1,11 @@
 -- Document 01, "The calls": what a call done gives and leaves; what a refusal gives; and "Two copies": a list of calls,
 -- each working on what the one before it left. With the look of document 02, §2, whose bytes shown are part of the reply,
--- its §3, call 10, and its §5, call 11.
---     Reply               the number, two handles as 23 bytes, a count, a length, the buffer afterwards, and the bytes
---                         shown; a handle that is not given is 23 zero bytes, a count or length that is not told is
+-- its §3, call 10, its §5, call 11, and its §8, widths.
+--     Reply               the number, two handles as bytes and their length, a count, a length, the buffer afterwards, and
+--                         the bytes shown; a handle that is not given has length 0, a count or length that is not told is
 --                         zero, and where nothing is shown there are no bytes
 --     Outcome, Ran        the copy that a call leaves, and its reply; the copy that a list leaves, and its replies
---     zeroHandle          23 zero bytes
+--     noBytes             the bytes of a handle that is not given
 --     plain n b           the reply with the number n and the buffer b alone
 --     handles a b n       the reply of a call done with the handles a and b and the count n
 --     readReply n b       the reply of a read done: the length n and the buffer b
@@ -18,7 +18,7 @@
 --     about               the record of the cluster that a call is about
 --     newBaseFor, newPlace, newStart    the base, the place and the start in the slice of the segment that call 3 makes
 -- What each call leaves, and the copy as it was for the others:
---     clusterMade         1: the cluster is active, with the two passwords
+--     clusterMade         1: the cluster is active, with its width and the two passwords
 --     clusterDeleted      2: the record is inactive, as in the starting store
 --     segmentMade         3: the segment is present at the base that placement gives, not frozen, and its bytes are zero
 --     segmentDeleted      4: the segment is absent; memory bytes stay
@@ -47,12 +47,12 @@
 use Prim.Native.Nat.{ℕ, zero, suc, _+_, _-_}
 use mathlib.Core.List.{List, [], _∷_, _++_}
 use lib.ListN.{length, take, drop, replicate}
-use Rattle.sizes.specs.Sizes.{segments}
 use Rattle.handle.specs.declared.Handle.{Handle}
+use Rattle.handle.specs.declared.HandleBytes.{HandleBytes}
 use Rattle.handle.specs.declared.Weakened.{Weakened}
-use Rattle.handle.specs.Sizes.{handleBytes}
+use Rattle.handle.specs.Widths.{widthFrom}
 use Rattle.handle.specs.Selectors.{referenced}
-use Rattle.handle.specs.Handles.{Name, nameOf, widthOf, encoded, weakened, reduced, joined}
+use Rattle.handle.specs.Handles.{Name, nameOf, widthOf, laid, written, encoded, weakened, reduced, joined}
 use Rattle.handle.specs.Conversion.{product}
 use Rattle.handle.specs.Opens.{primaryHandle}
 use Rattle.store.specs.declared.Place.{Place}
@@ -72,8 +72,8 @@ use Rattle.calls.specs.Numbers.{number}
 
 pub record Reply : Type 0 where
   pub number : ℕ
-  pub first : List ℕ
-  pub second : List ℕ
+  pub first : HandleBytes
+  pub second : HandleBytes
   pub count : ℕ
   pub length : ℕ
   pub buffer : List ℕ
@@ -94,27 +94,27 @@ abbrev pub runBy : (Call → Copy → Outcome) → List Call → Copy → Ran
 runBy p [] c = record { replies = []; copy = c }
 runBy p (x ∷ xs) c = followed (p x c .reply) (runBy p xs (p x c .copy))
 
-abbrev pub zeroHandle : List ℕ
-zeroHandle = replicate handleBytes 0
+abbrev pub noBytes : List ℕ
+noBytes = []
 
 abbrev pub plain : ℕ → List ℕ → Reply
-plain n b = record { number = n; first = zeroHandle; second = zeroHandle; count = 0; length = 0; buffer = b; shown = [] }
+plain n b = record { number = n; first = laid noBytes; second = laid noBytes; count = 0; length = 0; buffer = b; shown = [] }
 
 abbrev pub handles : List ℕ → List ℕ → ℕ → Reply
-handles a b n = record { number = 0; first = a; second = b; count = n; length = 0; buffer = []; shown = [] }
+handles a b n = record { number = 0; first = laid a; second = laid b; count = n; length = 0; buffer = []; shown = [] }
 
 abbrev pub readReply : ℕ → List ℕ → Reply
-readReply n b = record { number = 0; first = zeroHandle; second = zeroHandle; count = 0; length = n; buffer = b; shown = [] }
+readReply n b = record { number = 0; first = laid noBytes; second = laid noBytes; count = 0; length = n; buffer = b; shown = [] }
 
 abbrev pub lookReply : ℕ → List ℕ → Reply
-lookReply n bs = record { number = n; first = zeroHandle; second = zeroHandle; count = 0; length = 0; buffer = []; shown = bs }
+lookReply n bs = record { number = n; first = laid noBytes; second = laid noBytes; count = 0; length = 0; buffer = []; shown = bs }
 
 abbrev pub weakenReply : Weakened → Reply
 weakenReply w =
     record {
       number = w .number;
-      first = encoded (w .handle);
-      second = zeroHandle;
+      first = written (w .handle);
+      second = laid noBytes;
       count = w .count;
       length = 0;
       buffer = [];
@@ -148,7 +148,7 @@ abbrev pub newStart : Call → Tables → ℕ
 newStart x ts = address (nodeFor x) (newBaseFor x ts)
 
 unfoldable pub clusterMade : Call → Copy → Copy
-clusterMade x c = putCluster c (recordFor x) (started (x .args .first) (x .args .second))
+clusterMade x c = putCluster c (recordFor x) (started (x .args .width) (x .args .first) (x .args .second))
 
 unfoldable pub clusterDeleted : Call → Copy → Copy
 clusterDeleted x c = putCluster c (recordFor x) inactive
@@ -200,7 +200,8 @@ unfoldable pub segmentShown : Call → Copy → Reply
 segmentShown x c = lookReply 0 (within (partFor x (tableAt (c .store))) (c .memory))
 
 abbrev pub newPrimary : Call → List ℕ → List ℕ
-newPrimary x p = encoded (primaryHandle segments (record { node = nodeFor x; local = localFor x }) p)
+newPrimary x p =
+    encoded (primaryHandle (widthFrom (x .args .width)) (record { node = nodeFor x; local = localFor x }) p)
 
 module _ (f : Name → List ℕ → ℕ → List ℕ) where
   abbrev pub weaker : Call → Handle
@@ -222,12 +223,12 @@ module _ (f : Name → List ℕ → ℕ → List ℕ) where
   given read x c = segmentRead x c
   given write x c = plain 0 (buffer x)
   given weaken x c =
-      handles (encoded (weaker x)) zeroHandle (referenced (widthOf (handleOf x)) (weaker x .selector))
-  given reduce x c = handles (encoded (reducedFrom x c)) zeroHandle 0
+      handles (encoded (weaker x)) noBytes (referenced (widthOf (handleOf x)) (weaker x .selector))
+  given reduce x c = handles (encoded (reducedFrom x c)) noBytes 0
   given newPassword x c =
-      handles (encoded (primaryHandle (widthOf (handleOf x)) (nameOf (handleOf x)) (x .args .first))) zeroHandle 0
+      handles (encoded (primaryHandle (handleOf x .width) (nameOf (handleOf x)) (x .args .first))) noBytes 0
   given freeze x c = plain 0 []
-  given join x c = handles (encoded (joinedFrom x c)) zeroHandle 0
+  given join x c = handles (encoded (joinedFrom x c)) noBytes 0
   given validate x c = plain 0 []
   given look x c = segmentShown x c
 

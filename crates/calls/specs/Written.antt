@@ -33,7 +33,7 @@ tells x r = record { call = x; reply = r }
 
 abbrev pub answered : List Answered
 answered =
-    tells (makingCluster 1 3 (sixteen 5) (sixteen 6)) (told 0 (primary 1 3 5) (primary 1 3 6) 0 0 [])
+    tells (makingCluster 1 3 8 (sixteen 5) (sixteen 6)) (told 0 (primary 1 3 5) (primary 1 3 6) 0 0 [])
     ∷ tells (deletingCluster 1 (primary 1 2 4)) (told 0 none none 0 0 [])
     ∷ tells (makingSegment 1 6 2 (primary 1 2 4)) (told 0 none none 0 0 [])
     ∷ tells (deletingSegment 1 5 (primary 1 2 4)) (told 0 none none 0 0 [])

@@ -5,7 +5,8 @@ use handle::HandleBytes;
 use store::Cluster;
 use store::Store;
 ghost use mathlib.Core.Path.{_≡_};
-ghost use Rattle.calls.specs.Steps.{zeroHandle};
+ghost use Rattle.handle.specs.Handles.{laid};
+ghost use Rattle.calls.specs.Steps.{noBytes};
 ghost use Rattle.calls.specs.Answers as spec;
 
 // The codes of the calls.
@@ -31,7 +32,8 @@ pub const FREEZE: u8 = 10;
 
 pub const JOIN: u8 = 11;
 
-// What a call answers: its number; the handles, the count and the length that it gives, zero where it gives none.
+// What a call answers: its number; the handles, the count and the length that it gives; zero where it gives none, and of a
+// handle the length 0.
 pub struct Answer {
     pub number: u8,
     pub first: HandleBytes,
@@ -68,10 +70,14 @@ pub struct RecordLeft {
 pub fn number_alone(number: u8) -> Answer
     ensures { λ r. ⌜ r ≡ spec.numberAlone number ⌝ }
 {
+    let none = HandleBytes {
+        length: 0,
+        bytes: [0; HANDLE_BYTES],
+    };
     Answer {
         number,
-        first: [0; HANDLE_BYTES],
-        second: [0; HANDLE_BYTES],
+        first: none,
+        second: none,
         count: 0,
         length: 0,
     }
@@ -91,18 +97,26 @@ pub fn two_handles(first: HandleBytes, second: HandleBytes) -> Answer
 }
 
 pub fn one_handle(first: HandleBytes) -> Answer
-    ensures { λ r. ⌜ r ≡ spec.handlesAlone first zeroHandle ⌝ }
+    ensures { λ r. ⌜ r ≡ spec.handlesAlone first (laid noBytes) ⌝ }
 {
-    two_handles(first, [0; HANDLE_BYTES])
+    let none = HandleBytes {
+        length: 0,
+        bytes: [0; HANDLE_BYTES],
+    };
+    two_handles(first, none)
 }
 
 pub fn length_told(length: usize) -> Answer
     ensures { λ r. ⌜ r ≡ spec.lengthAlone length ⌝ }
 {
+    let none = HandleBytes {
+        length: 0,
+        bytes: [0; HANDLE_BYTES],
+    };
     Answer {
         number: 0,
-        first: [0; HANDLE_BYTES],
-        second: [0; HANDLE_BYTES],
+        first: none,
+        second: none,
         count: 0,
         length,
     }

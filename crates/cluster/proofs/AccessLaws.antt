@@ -5,14 +5,16 @@ use mathlib.Core.Path.{_≡_, refl, sym, ap, _∙_}
 use mathlib.Core.Bool.{Bool, true, false, not, cond}
 use mathlib.Core.List.{List, [], _∷_}
 use Prim.Native.Nat.{ℕ, _+_, _*_, _-_, _≤_, _<_}
+use native.Mathlib.Nat.{lt-of-lt-of-le}
 use native.Mathlib.Omega.{arith}
 use lib.Dec.{leb, ltb}
 use lib.ListN.{length}
 use borrow.Author.Tests.{not-false, leb-false, ltb-true, ltb-false, lt-ltb, le-ltb}
-use Rattle.sizes.specs.Sizes.{nodes, clusters, segments, records, nodeMemory, memory}
+use Rattle.sizes.specs.Sizes.{nodes, clusters, records, nodeMemory, memory}
 use Rattle.handle.specs.declared.Handle.{Handle}
 use Rattle.handle.specs.Selectors.{references}
-use Rattle.handle.specs.Handles.{nodeOf, firstOf}
+use Rattle.handle.specs.Handles.{nodeOf, widthOf, firstOf}
+use Rattle.handle.proofs.WidthLaws.{bits-le}
 use Rattle.store.specs.declared.Place.{Place}
 use Rattle.store.specs.declared.Place.the-variants.{Absent, Present}
 use Rattle.store.specs.declared.Cluster.{Cluster}
@@ -31,8 +33,12 @@ use Rattle.cluster.specs.inner.Access.{reachRows, reached, accessRows, a
 
 -- ---- the rows of the code, return by return
 
-module _ (sd : Bool) (h : Handle) (c : Cluster) (p : Place) (i : ℕ) (far away : Bool) (mode n : ℕ)
-    (en : n ≡ firstOf (sharedRows sd h c far (leb segments i) away mode)) where
+-- the test of the segment's number as the code has it
+module _ (sd : Bool) (h : Handle) (c : Cluster) (p : Place) (i : ℕ) (far away : Bool) (mode n : ℕ) (f : Bool)
+    (ef : f ≡ leb (widthOf h) i) (ef-told : n ≡ firstOf (sharedRows sd h c far f away mode)) where
+  en : n ≡ firstOf (sharedRows sd h c far (leb (widthOf h) i) away mode)
+  en = ef-told ∙ ap (λ (t : Bool). firstOf (sharedRows sd h c far t away mode)) ef
+
   pub reach-shared : (n ≡ 0 → ⊥) → n ≡ reached sd h c p i far away mode
   unfolding reached
   reach-shared t =
@@ -64,9 +70,9 @@ module _ (sd : Bool) (h : Handle) (c : Cluster) (p : Place) (i : ℕ) (kept : Bo
   below : accessed sd h c p i kept room mode ≡ after n (cond kept 22 (cond (ltb room (lengthOf p)) 15 0))
   unfolding accessed reached
   below =
-      ap (after (firstOf (sharedRows sd h c false (leb segments i) false mode)))
+      ap (after (firstOf (sharedRows sd h c false (leb (widthOf h) i) false mode)))
       (first-append (reachRows h p i) (row 22 kept ∷ row 15 (ltb room (lengthOf p)) ∷ []) (omega arith))
-      ∙ sym (after-after (firstOf (sharedRows sd h c false (leb segments i) false mode)) (firstOf (reachRows h p i)) _)
+      ∙ sym (after-after (firstOf (sharedRows sd h c false (leb (widthOf h) i) false mode)) (firstOf (reachRows h p i)) _)
       ∙ ap (λ (k : ℕ). after k (cond kept 22 (cond (ltb room (lengthOf p)) 15 0))) (sym en)
 
   pub access-reached : (n ≡ 0 → ⊥) → n ≡ accessed sd h c p i kept room mode
@@ -115,7 +121,7 @@ place-ends (Present base length) e = inside-out base length e .ends
 
 module _ (sd : Bool) (h : Handle) (c : Cluster) (p : Place) (i : ℕ) (kept : Bool) (room mode n : ℕ)
     (en : n ≡ accessed sd h c p i kept room mode) (z : n ≡ 0) where
-  both : (firstOf (sharedRows sd h c false (leb segments i) false mode) ≡ 0) × (firstOf (accessRows h p i kept room) ≡ 0)
+  both : (firstOf (sharedRows sd h c false (leb (widthOf h) i) false mode) ≡ 0) × (firstOf (accessRows h p i kept room) ≡ 0)
   unfolding accessed
   both = after-zero _ _ (sym en ∙ z)
 
@@ -136,11 +142,11 @@ module _ (s : Store) (m b : List ℕ) (i : ℕ) (kept : Bool) (room mode n : ℕ
   e = found s m b
 
   module _ (en : n ≡ accessed (judged s m b) k e (placeOf (tableOf e) i) i kept room mode) (z : n ≡ 0) where
-    opened : firstOf (sharedRows (judged s m b) k e false (leb segments i) false mode) ≡ 0
+    opened : firstOf (sharedRows (judged s m b) k e false (leb (widthOf k) i) false mode) ≡ 0
     opened = both (judged s m b) k e (placeOf (tableOf e) i) i kept room mode n en z .0
 
     passed : Passed (judged s m b) k
-    passed = shared-passed (judged s m b) k e false (leb segments i) false mode opened
+    passed = shared-passed (judged s m b) k e false (leb (widthOf k) i) false mode opened
 
     pub access-there : recordFound k ≡ recordNamed k
     access-there = found-is s m b (passed .place)
@@ -160,7 +166,8 @@ module _ (s : Store) (m b : List ℕ) (i : ℕ) (kept : Bool) (room mode n : ℕ
         (ap (λ (j : ℕ). inside (placeOf (tableAt s j) i)) access-there
         ∙ segment-inside (segmentOf (tableAt s (recordNamed k)) i)
         (settled .ranged (recordNamed k) i (low (nodeOf k) (k .local) node-low local-low)
-        (leb-false segments i (shared-field (judged s m b) k e false (leb segments i) false mode opened))))
+        (lt-of-lt-of-le (leb-false (widthOf k) i (shared-field (judged s m b) k e false (leb (widthOf k) i) false mode opened))
+        (bits-le (k .width)))))
       where
         low : (node local : ℕ) → node < nodes → local < clusters → node * clusters + local < records
         low node local a b = omega arith

@@ -8,9 +8,8 @@ use native.Mathlib.Omega.{arith}
 use lib.Dec.{leb, ltb}
 use borrow.Author.Tests.{ltb-true}
 use lib.ListN.{length, take, drop}
-use Rattle.sizes.specs.Sizes.{segments}
 use Rattle.handle.specs.declared.Handle.{Handle}
-use Rattle.handle.specs.Handles.{nodeOf, firstOf}
+use Rattle.handle.specs.Handles.{nodeOf, widthOf, firstOf}
 use Rattle.handle.specs.Conversion.{product}
 use Rattle.store.specs.declared.Place.{Place}
 use Rattle.store.specs.declared.Cluster.{Cluster}
@@ -50,13 +49,13 @@ module _ (s : Store) (m b : List ℕ) (i : ℕ) (d : List ℕ) (n : ℕ) where
 
     joined : (x : Call)
         → number product x s (length m)
-        ≡ firstOf (sharedRows (judged s m b) k e false (leb segments i) false mode ++ accessRows k q i (icy e) (length d))
+        ≡ firstOf (sharedRows (judged s m b) k e false (leb (widthOf k) i) false mode ++ accessRows k q i (icy e) (length d))
         → number product x s (length m) ≡ n
     unfolding accessed
     joined x t =
         t
-        ∙ first-append (sharedRows (judged s m b) k e false (leb segments i) false mode) (accessRows k q i (icy e) (length d))
-        (shared-numbered (judged s m b) k e false (leb segments i) false mode)
+        ∙ first-append (sharedRows (judged s m b) k e false (leb (widthOf k) i) false mode) (accessRows k q i (icy e) (length d))
+        (shared-numbered (judged s m b) k e false (leb (widthOf k) i) false mode)
         ∙ sym known
 
     module _ (z : n ≡ 0) (from size : ℕ) (ef : from ≡ address (nodeOf k) (baseOf p)) (el : size ≡ lengthOf p) where
@@ -121,7 +120,7 @@ module _ (s : Store) (m b : List ℕ) (i : ℕ) (d : List ℕ) (n : ℕ) where
   module _ (sd : Bool) (h : Handle) (c : Cluster) (g : Given sd h c s m b) where
     refused : (mode : ℕ) (icy : Cluster → Bool) (x : Call) → d ≡ buffer x
         → number product x s (length m)
-        ≡ firstOf (sharedRows (judged s m b) k e false (leb segments i) false mode ++ accessRows k q i (icy e) (length d))
+        ≡ firstOf (sharedRows (judged s m b) k e false (leb (widthOf k) i) false mode ++ accessRows k q i (icy e) (length d))
         → Refuses mode icy x sd h c
     refused mode icy x buf tells =
         by-given s m b (Refuses mode icy x) sd h c g

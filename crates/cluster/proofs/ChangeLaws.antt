@@ -9,9 +9,8 @@ use Prim.Native.Nat.{ℕ}
 use native.Mathlib.Omega.{arith}
 use lib.Dec.{leb}
 use lib.ListN.{length}
-use Rattle.sizes.specs.Sizes.{segments}
 use Rattle.handle.specs.declared.Handle.{Handle}
-use Rattle.handle.specs.Handles.{firstOf}
+use Rattle.handle.specs.Handles.{widthOf, firstOf}
 use Rattle.handle.specs.Conversion.{product}
 use Rattle.store.specs.declared.Place.{Place}
 use Rattle.store.specs.declared.Place.the-variants.{Absent}
@@ -36,7 +35,12 @@ use Rattle.cluster.proofs.CoreLaws.{above, endedAt, refused-record}
 
 -- ---- the rows that calls 4 and 10 begin with, return by return
 
-module _ (sd : Bool) (h : Handle) (c : Cluster) (current i n : ℕ) (en : n ≡ firstOf (ownerRows sd h c current (leb segments i))) where
+-- the test of the segment's number as the code has it
+module _ (sd : Bool) (h : Handle) (c : Cluster) (current i n : ℕ) (f : Bool) (ef : f ≡ leb (widthOf h) i)
+    (ef-told : n ≡ firstOf (ownerRows sd h c current f)) where
+  en : n ≡ firstOf (ownerRows sd h c current (leb (widthOf h) i))
+  en = ef-told ∙ ap (λ (t : Bool). firstOf (ownerRows sd h c current t)) ef
+
   pub own-refused : (n ≡ 0 → ⊥) → n ≡ ownSegment sd h c current i
   unfolding ownSegment
   own-refused t = sym (after-told n _ t) ∙ ap (λ (k : ℕ). after k (cond (isAbsent (placeOf (tableOf c) i)) 14 0)) en
@@ -160,17 +164,17 @@ module _ (s : Store) (m b : List ℕ) where
     first sd h c = ownSegment sd h c current segment
 
     -- the rows that they begin with are these
-    both : at (λ sd h c. firstOf (ownerRows sd h c current (leb segments segment) ++ absentRow s m b segment c)) ≡ at first
+    both : at (λ sd h c. firstOf (ownerRows sd h c current (leb (widthOf h) segment) ++ absentRow s m b segment c)) ≡ at first
     unfolding ownSegment
     both =
-        first-append (at (λ sd h c. ownerRows sd h c current (leb segments segment))) _
-        (owner-numbered (judged s m b) (shown s m b) (found s m b) current (leb segments segment))
+        first-append (at (λ sd h c. ownerRows sd h c current (leb (widthOf h) segment))) _
+        (owner-numbered (judged s m b) (shown s m b) (found s m b) current (leb (widthOf (shown s m b)) segment))
 
     there-first : at first ≡ 0 → recordFound (shown s m b) ≡ recordNamed (shown s m b)
     unfolding ownSegment
-    there-first z = owner-there current (leb segments segment) (after-zero _ _ z .0)
+    there-first z = owner-there current (leb (widthOf (shown s m b)) segment) (after-zero _ _ z .0)
 
-    numbered : Numbered (at (λ sd h c. ownerRows sd h c current (leb segments segment) ++ absentRow s m b segment c))
+    numbered : Numbered (at (λ sd h c. ownerRows sd h c current (leb (widthOf h) segment) ++ absentRow s m b segment c))
     unfolding ownerRows
     numbered = omega arith
 
@@ -180,7 +184,7 @@ module _ (s : Store) (m b : List ℕ) where
         record {
           told =
               number-delete-segment s m b current segment
-              ∙ first-append (at (λ sd h c. ownerRows sd h c current (leb segments segment) ++ absentRow s m b segment c)) _ numbered
+              ∙ first-append (at (λ sd h c. ownerRows sd h c current (leb (widthOf h) segment) ++ absentRow s m b segment c)) _ numbered
               ∙ ap (λ (k : ℕ). after k (cond (frozenOf (tableOf (found s m b)) segment) 22 0)) both;
           there = there-first;
           quiet = refl;

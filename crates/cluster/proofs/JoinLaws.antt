@@ -2,14 +2,16 @@
 -- cluster may be looked up before its place is judged, as for the other calls.
 -- Assumes nothing.
 use mathlib.Core.Path.{_≡_, refl, sym, ap, subst, _∙_}
-use mathlib.Core.Bool.{Bool, true, false, not, _||_, cond, or-self}
+use mathlib.Core.Bool.{Bool, true, false, not, _&&_, _||_, cond, or-self}
 use mathlib.Core.List.{List, []}
 use Prim.Native.Nat.{ℕ}
 use native.Mathlib.Omega.{arith}
+use lib.Dec.{eqb}
 use lib.ListN.{length}
 use Rattle.handle.specs.declared.Handle.{Handle}
+use Rattle.handle.specs.declared.HandleBytes.{HandleBytes}
 use Rattle.handle.specs.Selectors.{gapped, wholeUnion}
-use Rattle.handle.specs.Handles.{nameOf, sameName, widthOf, noSuchPlace, firstOf, encoded, decoded, validates, joined}
+use Rattle.handle.specs.Handles.{nameOf, sameName, widthOf, noWidth, noSuchPlace, firstOf, laid, written, decoded, validates, joined}
 use Rattle.handle.specs.Conversion.{product}
 use Rattle.store.specs.declared.Cluster.{Cluster}
 use Rattle.store.specs.declared.Store.{Store}
@@ -18,7 +20,7 @@ use Rattle.store.specs.Sound.{sound}
 use Rattle.calls.specs.declared.Answer.{Answer}
 use Rattle.calls.specs.Calls.{joining, recordNamed}
 use Rattle.calls.specs.Numbers.{number}
-use Rattle.calls.specs.Steps.{zeroHandle, handles, aesStep, left, given}
+use Rattle.calls.specs.Steps.{noBytes, aesStep, left, given}
 use Rattle.calls.specs.Answers.{copyOf, ended, numberAlone, handlesAlone}
 use Rattle.refusals.specs.Rows.{badModes, joinBelow, joinRows}
 use Rattle.calls.specs.Clear.{Clear}
@@ -44,36 +46,44 @@ module _ (s : Store) (size mode : ℕ) (a b : List ℕ) where
 
   -- whether a handle does not validate from a record
   abbrev closed : Handle → ℕ → Bool
-  closed g r = not (validates (widthOf g) (product (nameOf g)) (primaryOf (clusterAt s r) mode) g)
+  closed g r =
+      not
+      (eqb (widthOf g) (clusterAt s r .width)
+      && validates (widthOf g) (product (nameOf g)) (primaryOf (clusterAt s r) mode) g)
+
+  -- whether it is of another width than a record
+  abbrev unlike : Handle → ℕ → Bool
+  unlike g r = not (eqb (widthOf g) (clusterAt s r .width))
 
   abbrev upper : Bool → ℕ → ℕ
   upper n rest =
-      cond (not (sound s size)) 1
+      cond (noWidth h || noWidth k) 25
+      (cond (not (sound s size)) 1
       (cond (noSuchPlace h || noSuchPlace k) 2
       (cond (badModes mode) 3
-      (cond (gapped (widthOf h) (h .selector) || gapped (widthOf k) (k .selector)) 4 (cond (not n) 24 rest))))
+      (cond (gapped (widthOf h) (h .selector) || gapped (widthOf k) (k .selector)) 4 (cond (not n) 24 rest)))))
 
-  abbrev lower : Bool → Bool → ℕ
-  lower i v = cond i 8 (cond v 9 (cond (wholeUnion (widthOf h) (h .selector) (k .selector)) 23 0))
+  -- the rows below, where the second handle's record is r
+  abbrev lower : Bool → ℕ → ℕ
+  lower i r =
+      cond i 8
+      (cond (unlike h (recordNamed h) || unlike k r) 25
+      (cond (closed h (recordNamed h) || closed k r) 9
+      (cond (wholeUnion (widthOf h) (h .selector) (k .selector)) 23 0)))
 
   number-join : number product (joining mode a b) s size
       ≡ firstOf (joinRows (sound s size) h k (clusterAt s (recordNamed h)) mode)
   number-join = number-each product s size mode a b ∙ go (sameName h k) refl
     where
       go : (t : Bool) → sameName h k ≡ t
-          → upper (sameName h k) (lower (silent h || silent k) (closed h (recordNamed h) || closed k (recordNamed k)))
-          ≡ upper (sameName h k) (lower (silent h) (closed h (recordNamed h) || closed k (recordNamed h)))
+          → upper (sameName h k) (lower (silent h || silent k) (recordNamed k))
+          ≡ upper (sameName h k) (lower (silent h) (recordNamed h))
       go true e =
-          ap
-          (λ (r : ℕ).
-          upper (sameName h k) (lower (silent h || not (clusterAt s r .active)) (closed h (recordNamed h) || closed k r)))
-          (sym (record-same h k e))
-          ∙ ap (λ (i : Bool). upper (sameName h k) (lower i (closed h (recordNamed h) || closed k (recordNamed h))))
-          (or-self (silent h))
+          ap (λ (r : ℕ). upper (sameName h k) (lower (silent h || not (clusterAt s r .active)) r)) (sym (record-same h k e))
+          ∙ ap (λ (i : Bool). upper (sameName h k) (lower i (recordNamed h))) (or-self (silent h))
       go false e =
-          ap
-          (λ (n : Bool). upper n (lower (silent h || silent k) (closed h (recordNamed h) || closed k (recordNamed k)))) e
-          ∙ sym (ap (λ (n : Bool). upper n (lower (silent h) (closed h (recordNamed h) || closed k (recordNamed h)))) e)
+          ap (λ (n : Bool). upper n (lower (silent h || silent k) (recordNamed k))) e
+          ∙ sym (ap (λ (n : Bool). upper n (lower (silent h) (recordNamed h))) e)
 
 -- ---- the core
 
@@ -82,7 +92,7 @@ module _ (s : Store) (m a b : List ℕ) (mode : ℕ) where
       ≡ firstOf (joinRows (judged s m a) (shown s m a) (decoded b) (found s m a) mode)
   number-found =
       number-join s (length m) mode a b
-      ∙ either-record s m a (not (judged s m a)) (noSuchPlace (decoded b))
+      ∙ either-record s m a (noWidth (shown s m a) || noWidth (decoded b)) (not (judged s m a)) (noSuchPlace (decoded b))
       (λ c. firstOf (joinBelow (shown s m a) (decoded b) c mode))
 
   module _ (n : ℕ) where
@@ -108,17 +118,17 @@ module _ (s : Store) (m a b : List ℕ) (mode : ℕ) where
 
       abbrev Joined : Bool → Handle → Handle → Cluster → Type 0
       Joined sd h k c = Told sd h k c → n ≡ 0 → (p : List ℕ) → p ≡ primaryOf c mode → (r : Handle)
-          → r ≡ joined (widthOf h) (product (nameOf h)) h k p → (e : List ℕ) → e ≡ encoded r → (q : Answer)
-          → q ≡ handlesAlone e zeroHandle → ended s m q [] ≡ aesStep (joining mode a b) (copyOf s m)
+          → r ≡ joined (widthOf h) (product (nameOf h)) h k p → (e : HandleBytes) → e ≡ written r → (q : Answer)
+          → q ≡ handlesAlone e (laid noBytes) → ended s m q [] ≡ aesStep (joining mode a b) (copyOf s m)
 
       pub join-done : Joined sd h k c
-      unfolding left given
+      unfolding left given written
       join-done =
           given-both Joined
           (λ en z p ep r er e ee q qq.
           ap (λ (x : Answer). ended s m x []) qq
-          ∙ ap (λ (x : List ℕ). record { copy = copyOf s m; reply = handles x zeroHandle 0 })
-          (ee ∙ ap encoded (er ∙ ap (joined (widthOf u) (product (nameOf u)) u (decoded b)) (ep ∙ there en z)))
+          ∙ ap (λ (x : HandleBytes). ended s m (handlesAlone x (laid noBytes)) [])
+          (ee ∙ ap written (er ∙ ap (joined (widthOf u) (product (nameOf u)) u (decoded b)) (ep ∙ there en z)))
           ∙ sym (step-done product (joining mode a b) (copyOf s m) (told en ∙ z)))
         where
           u : Handle
@@ -128,7 +138,7 @@ module _ (s : Store) (m a b : List ℕ) (mode : ℕ) where
               → primaryOf (found s m a) mode ≡ primaryOf (named s m a) mode
           there en z =
               ap (λ (i : ℕ). primaryOf (clusterAt s i) mode)
-              (found-is s m a (or-left (noSuchPlace u) (noSuchPlace (decoded b)) (clear .1 .0)))
+              (found-is s m a (or-left (noSuchPlace u) (noSuchPlace (decoded b)) (clear .1 .1 .0)))
             where
               clear : Clear (joinRows (judged s m a) u (decoded b) (found s m a) mode)
               clear =

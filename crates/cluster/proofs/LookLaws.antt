@@ -6,9 +6,9 @@ use mathlib.Core.List.{List}
 use Prim.Native.Nat.{ℕ, zero, suc, _+_}
 use lib.Dec.{eqb, leb}
 use lib.ListN.{length}
-use Rattle.sizes.specs.Sizes.{nodes, segments}
+use Rattle.sizes.specs.Sizes.{nodes}
 use Rattle.handle.specs.declared.Handle.{Handle}
-use Rattle.handle.specs.Handles.{nodeOf, firstOf}
+use Rattle.handle.specs.Handles.{nodeOf, widthOf, firstOf}
 use Rattle.handle.specs.Conversion.{product}
 use Rattle.store.specs.declared.Place.{Place}
 use Rattle.store.specs.declared.Cluster.{Cluster}
@@ -44,7 +44,7 @@ module _ (s : Store) (m b : List ℕ) (current i n : ℕ) where
   abbrev shared : ℕ
   shared =
       firstOf
-      (sharedRows (judged s m b) k e (leb nodes current) (leb segments i) (not (eqb current (nodeOf k))) readMode)
+      (sharedRows (judged s m b) k e (leb nodes current) (leb (widthOf k) i) (not (eqb current (nodeOf k))) readMode)
 
   -- what a look tells whose number is t
   abbrev tells : ℕ → Looked
@@ -62,9 +62,9 @@ module _ (s : Store) (m b : List ℕ) (current i n : ℕ) where
     joined =
         number-look s m b current i
         ∙ first-append
-        (sharedRows (judged s m b) k e (leb nodes current) (leb segments i) (not (eqb current (nodeOf k))) readMode)
+        (sharedRows (judged s m b) k e (leb nodes current) (leb (widthOf k) i) (not (eqb current (nodeOf k))) readMode)
         (reachRows k (placeOf (tableOf e) i) i)
-        (shared-numbered (judged s m b) k e (leb nodes current) (leb segments i) (not (eqb current (nodeOf k))) readMode)
+        (shared-numbered (judged s m b) k e (leb nodes current) (leb (widthOf k) i) (not (eqb current (nodeOf k))) readMode)
         ∙ sym known
 
     told : aesLooked x s (length m) ≡ tells n
@@ -77,7 +77,7 @@ module _ (s : Store) (m b : List ℕ) (current i n : ℕ) where
         ap (partOf k) ep
         ∙ ap (λ (j : ℕ). partOf k (placeOf (tableAt s j) i))
         (found-is s m b
-        (shared-passed (judged s m b) k e (leb nodes current) (leb segments i) (not (eqb current (nodeOf k))) readMode
+        (shared-passed (judged s m b) k e (leb nodes current) (leb (widthOf k) i) (not (eqb current (nodeOf k))) readMode
         (after-zero shared _ (sym known ∙ z) .0) .place))
 
   -- ---- from what a core is given

@@ -2,7 +2,7 @@
 -- placement gives keeps the segment inside its node's memory and the record found is the one that the call is about.
 -- Assumes nothing.
 use mathlib.Core.Path.{_≡_, refl, sym, ap, ap₂, _∙_}
-use mathlib.Core.Bool.{Bool, true, false, not, _&&_, cond, false≢true}
+use mathlib.Core.Bool.{Bool, true, false, not, _&&_, _||_, cond, false≢true}
 use mathlib.Core.List.{List, [], _∷_}
 use mathlib.Core.Option.{Option, none, some}
 use Prim.Native.Nat.{ℕ, _+_, _-_, _≤_, _<_}
@@ -14,7 +14,7 @@ use Rattle.loops.proofs.BelowLaws.{and-left, and-right}
 use Rattle.sizes.specs.Sizes.{nodes, clusters, nodeMemory, memory}
 use Rattle.numbers.specs.Numbers.{noRoomNumber}
 use Rattle.handle.specs.declared.Handle.{Handle}
-use Rattle.handle.specs.Handles.{nodeOf, firstOf}
+use Rattle.handle.specs.Handles.{nodeOf, widthOf, firstOf}
 use Rattle.handle.specs.Conversion.{product}
 use Rattle.store.specs.declared.Place.{Place}
 use Rattle.store.specs.declared.Place.the-variants.{Present}
@@ -46,12 +46,19 @@ use Rattle.cluster.proofs.ChangeLaws.{owner-there}
 
 -- ---- the refusals but 16, return by return
 
-module _ (sd : Bool) (h : Handle) (c : Cluster) (current segment size : ℕ) (n : ℕ)
-    (en : n ≡ firstOf (ownerRows sd h c current (badFields segment size))) where
+-- the test of the segment's number as the code has it
+module _ (sd : Bool) (h : Handle) (c : Cluster) (current segment size : ℕ) (n : ℕ) (f : Bool)
+    (ef : f ≡ leb (widthOf h) segment)
+    (ef-told : n ≡ firstOf (ownerRows sd h c current (f || (eqb size 0 || ltb nodeMemory size)))) where
+  en : n ≡ firstOf (ownerRows sd h c current (badFields h segment size))
+  en =
+      ef-told
+      ∙ ap (λ (t : Bool). firstOf (ownerRows sd h c current (t || (eqb size 0 || ltb nodeMemory size)))) ef
+
   joined : firstOf (makeRows sd h c current segment size) ≡ after n (cond (not (isAbsent (placeOf (tableOf c) segment))) 13 0)
   joined =
-      first-append (ownerRows sd h c current (badFields segment size)) (row 13 (not (isAbsent (placeOf (tableOf c) segment))) ∷ [])
-      (owner-numbered sd h c current (badFields segment size))
+      first-append (ownerRows sd h c current (badFields h segment size)) (row 13 (not (isAbsent (placeOf (tableOf c) segment))) ∷ [])
+      (owner-numbered sd h c current (badFields h segment size))
       ∙ ap (λ (k : ℕ). after k (cond (not (isAbsent (placeOf (tableOf c) segment))) 13 0)) (sym en)
 
   pub make-owner : (n ≡ 0 → ⊥) → n ≡ firstOf (makeRows sd h c current segment size)
@@ -163,13 +170,13 @@ module _ (s : Store) (m b : List ℕ) (current segment size : ℕ) where
       (told ∙ ap (λ (i : ℕ). after i (room (placement (tableAt s) (nodeOf k) size))) (sym en) ∙ after-told n _ t))
 
   module _ (z : Rows (judged s m b) k (found s m b) ≡ 0) where
-    owner : firstOf (ownerRows (judged s m b) k (found s m b) current (badFields segment size)) ≡ 0
+    owner : firstOf (ownerRows (judged s m b) k (found s m b) current (badFields k segment size)) ≡ 0
     owner =
         after-zero _ _
-        (sym (joined (judged s m b) k (found s m b) current segment size _ refl) ∙ z) .0
+        (sym (joined (judged s m b) k (found s m b) current segment size _ _ refl refl) ∙ z) .0
 
     passed : Passed (judged s m b) k
-    passed = owner-passed (judged s m b) k (found s m b) current (badFields segment size) owner
+    passed = owner-passed (judged s m b) k (found s m b) current (badFields k segment size) owner
 
     only : (f : Found) → placedBy f ≡ placement (tableAt s) (nodeOf k) size → (g : Found) → f ≡ g
         → number product x s (length m) ≡ room (placedBy g)
@@ -237,6 +244,6 @@ module _ (s : Store) (m b : List ℕ) (current segment size : ℕ) where
         ap (λ (q : RecordLeft). ended (putRecord s (recordFound k) (q .cluster)) after (q .answer) []) er
         ∙ ap₂ (λ (e : Cluster) (l : List ℕ). record { copy = copyOf (putRecord s (recordFound k) e) l; reply = plain 0 [] })
         (w .placed) (w .cleared)
-        ∙ (λ j. made (ev j) (owner-there s m b current (badFields segment size) (owner z) j)
+        ∙ (λ j. made (ev j) (owner-there s m b current (badFields k segment size) (owner z) j)
         (ap (λ (a : Placed). a .base) (sym (ap placedBy eb) ∙ ef) j))
         ∙ sym (step-done product x (copyOf s m) (only z f ef (At base) eb)))

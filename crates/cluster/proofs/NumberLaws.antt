@@ -7,11 +7,11 @@ use mathlib.Core.List.{List, [], _∷_, _++_}
 use Prim.Native.Nat.{ℕ}
 use lib.Dec.{leb, eqb}
 use lib.ListN.{length}
-use Rattle.sizes.specs.Sizes.{nodes, segments}
+use Rattle.sizes.specs.Sizes.{nodes}
 use Rattle.numbers.specs.Numbers.{noRoomNumber}
 use Rattle.handle.specs.declared.Handle.{Handle}
 use Rattle.handle.specs.Selectors.{allFlat}
-use Rattle.handle.specs.Handles.{nodeOf, widthOf, samePassword, Row, firstOf}
+use Rattle.handle.specs.Handles.{nodeOf, widthOf, noWidth, samePassword, Row, firstOf}
 use Rattle.handle.specs.Conversion.{product}
 use Rattle.store.specs.declared.Cluster.{Cluster}
 use Rattle.store.specs.declared.Store.{Store}
@@ -68,23 +68,23 @@ module _ (s : Store) (m b : List ℕ) where
 
   pub number-delete-cluster : (current : ℕ) → number product (deletingCluster current b) s (length m) ≡ firstOf (ownerRows sd h c current false ++ frozenRow c)
   unfolding ownerRows
-  number-delete-cluster current = on-delete-cluster current ∙ either-record s m b (not sd) (leb nodes current) (owned current false frozenRow)
+  number-delete-cluster current = on-delete-cluster current ∙ either-record s m b (noWidth h) (not sd) (leb nodes current) (owned current false frozenRow)
 
-  on-delete-segment : (current segment : ℕ) → number product (deletingSegment current segment b) s (length m) ≡ firstOf ((ownerRows sd h d current (leb segments segment) ++ absentRow segment d) ++ keptRow segment d)
+  on-delete-segment : (current segment : ℕ) → number product (deletingSegment current segment b) s (length m) ≡ firstOf ((ownerRows sd h d current (leb (widthOf h) segment) ++ absentRow segment d) ++ keptRow segment d)
   unfolding number tests ownerRows
   on-delete-segment current segment = simp or-false
 
-  pub number-delete-segment : (current segment : ℕ) → number product (deletingSegment current segment b) s (length m) ≡ firstOf ((ownerRows sd h c current (leb segments segment) ++ absentRow segment c) ++ keptRow segment c)
+  pub number-delete-segment : (current segment : ℕ) → number product (deletingSegment current segment b) s (length m) ≡ firstOf ((ownerRows sd h c current (leb (widthOf h) segment) ++ absentRow segment c) ++ keptRow segment c)
   unfolding ownerRows
-  number-delete-segment current segment = on-delete-segment current segment ∙ either-record s m b (not sd) (leb nodes current) (owned current (leb segments segment) (λ e. absentRow segment e ++ keptRow segment e))
+  number-delete-segment current segment = on-delete-segment current segment ∙ either-record s m b (noWidth h) (not sd) (leb nodes current) (owned current (leb (widthOf h) segment) (λ e. absentRow segment e ++ keptRow segment e))
 
-  on-freeze : (current segment : ℕ) → number product (freezing current segment b) s (length m) ≡ firstOf (ownerRows sd h d current (leb segments segment) ++ absentRow segment d)
+  on-freeze : (current segment : ℕ) → number product (freezing current segment b) s (length m) ≡ firstOf (ownerRows sd h d current (leb (widthOf h) segment) ++ absentRow segment d)
   unfolding number tests ownerRows
   on-freeze current segment = simp or-false
 
-  pub number-freeze : (current segment : ℕ) → number product (freezing current segment b) s (length m) ≡ firstOf (ownerRows sd h c current (leb segments segment) ++ absentRow segment c)
+  pub number-freeze : (current segment : ℕ) → number product (freezing current segment b) s (length m) ≡ firstOf (ownerRows sd h c current (leb (widthOf h) segment) ++ absentRow segment c)
   unfolding ownerRows
-  number-freeze current segment = on-freeze current segment ∙ either-record s m b (not sd) (leb nodes current) (owned current (leb segments segment) (absentRow segment))
+  number-freeze current segment = on-freeze current segment ∙ either-record s m b (noWidth h) (not sd) (leb nodes current) (owned current (leb (widthOf h) segment) (absentRow segment))
 
   abbrev roomRow : ℕ → List Row
   roomRow size = row 16 (eqb (placement (tableAt s) (nodeOf h) size .number) noRoomNumber) ∷ []
@@ -95,7 +95,7 @@ module _ (s : Store) (m b : List ℕ) where
 
   pub number-new-segment : (current segment size : ℕ) → number product (makingSegment current segment size b) s (length m) ≡ firstOf (makeRows sd h c current segment size ++ roomRow size)
   unfolding ownerRows
-  number-new-segment current segment size = on-new-segment current segment size ∙ either-record s m b (not sd) (leb nodes current) (owned current (badFields segment size) (λ e. presentRow segment e ++ roomRow size))
+  number-new-segment current segment size = on-new-segment current segment size ∙ either-record s m b (noWidth h) (not sd) (leb nodes current) (owned current (badFields h segment size) (λ e. presentRow segment e ++ roomRow size))
 
   -- ---- the others
 
@@ -104,7 +104,7 @@ module _ (s : Store) (m b : List ℕ) where
   on-reduce mode = simp or-false
 
   pub number-reduce : (mode : ℕ) → number product (reducing mode b) s (length m) ≡ firstOf (sharedRows sd h c false (badModes mode) false mode)
-  number-reduce mode = on-reduce mode ∙ either-record s m b (not sd) (false) (opened (badModes mode) mode (λ e. []))
+  number-reduce mode = on-reduce mode ∙ either-record s m b (noWidth h) (not sd) (false) (opened (badModes mode) mode (λ e. []))
 
   abbrev newRows : ℕ → List ℕ → Cluster → List Row
   newRows mode p e = row 10 (not (allFlat (widthOf h) (h .selector))) ∷ row 12 (samePassword p (primaryOf e mode)) ∷ []
@@ -114,7 +114,7 @@ module _ (s : Store) (m b : List ℕ) where
   on-new-password mode p = simp or-false
 
   pub number-new-password : (mode : ℕ) (p : List ℕ) → number product (renewing mode b p) s (length m) ≡ firstOf (sharedRows sd h c false (badModes mode) false mode ++ newRows mode p c)
-  number-new-password mode p = on-new-password mode p ∙ either-record s m b (not sd) (false) (opened (badModes mode) mode (newRows mode p))
+  number-new-password mode p = on-new-password mode p ∙ either-record s m b (noWidth h) (not sd) (false) (opened (badModes mode) mode (newRows mode p))
 
   -- whether row 22 applies is told of the record
   abbrev moved : ℕ → (Cluster → Bool) → List ℕ → Cluster → List Row
@@ -123,26 +123,26 @@ module _ (s : Store) (m b : List ℕ) where
   abbrev icy : ℕ → Cluster → Bool
   icy i e = frozenOf (tableOf e) i
 
-  on-read : (i : ℕ) (buffer : List ℕ) → number product (reading i b buffer) s (length m) ≡ firstOf (sharedRows sd h d false (leb segments i) false readMode ++ moved i (λ e. false) buffer d)
+  on-read : (i : ℕ) (buffer : List ℕ) → number product (reading i b buffer) s (length m) ≡ firstOf (sharedRows sd h d false (leb (widthOf h) i) false readMode ++ moved i (λ e. false) buffer d)
   unfolding number tests
   on-read i buffer = simp or-false
 
-  pub number-read : (i : ℕ) (buffer : List ℕ) → number product (reading i b buffer) s (length m) ≡ firstOf (sharedRows sd h c false (leb segments i) false readMode ++ moved i (λ e. false) buffer c)
-  number-read i buffer = on-read i buffer ∙ either-record s m b (not sd) (false) (opened (leb segments i) readMode (moved i (λ e. false) buffer))
+  pub number-read : (i : ℕ) (buffer : List ℕ) → number product (reading i b buffer) s (length m) ≡ firstOf (sharedRows sd h c false (leb (widthOf h) i) false readMode ++ moved i (λ e. false) buffer c)
+  number-read i buffer = on-read i buffer ∙ either-record s m b (noWidth h) (not sd) (false) (opened (leb (widthOf h) i) readMode (moved i (λ e. false) buffer))
 
-  on-write : (i : ℕ) (written : List ℕ) → number product (writing i b written) s (length m) ≡ firstOf (sharedRows sd h d false (leb segments i) false writeMode ++ moved i (icy i) written d)
+  on-write : (i : ℕ) (written : List ℕ) → number product (writing i b written) s (length m) ≡ firstOf (sharedRows sd h d false (leb (widthOf h) i) false writeMode ++ moved i (icy i) written d)
   unfolding number tests
   on-write i written = simp or-false
 
-  pub number-write : (i : ℕ) (written : List ℕ) → number product (writing i b written) s (length m) ≡ firstOf (sharedRows sd h c false (leb segments i) false writeMode ++ moved i (icy i) written c)
-  number-write i written = on-write i written ∙ either-record s m b (not sd) (false) (opened (leb segments i) writeMode (moved i (icy i) written))
+  pub number-write : (i : ℕ) (written : List ℕ) → number product (writing i b written) s (length m) ≡ firstOf (sharedRows sd h c false (leb (widthOf h) i) false writeMode ++ moved i (icy i) written c)
+  number-write i written = on-write i written ∙ either-record s m b (noWidth h) (not sd) (false) (opened (leb (widthOf h) i) writeMode (moved i (icy i) written))
 
   abbrev seen : ℕ → Cluster → List Row
   seen i e = reachRows h (placeOf (tableOf e) i) i
 
-  on-look : (current i : ℕ) → number product (looking current i b) s (length m) ≡ firstOf (sharedRows sd h d (leb nodes current) (leb segments i) (not (eqb current (nodeOf h))) readMode ++ seen i d)
+  on-look : (current i : ℕ) → number product (looking current i b) s (length m) ≡ firstOf (sharedRows sd h d (leb nodes current) (leb (widthOf h) i) (not (eqb current (nodeOf h))) readMode ++ seen i d)
   unfolding number tests
   on-look current i = simp or-false
 
-  pub number-look : (current i : ℕ) → number product (looking current i b) s (length m) ≡ firstOf (sharedRows sd h c (leb nodes current) (leb segments i) (not (eqb current (nodeOf h))) readMode ++ seen i c)
-  number-look current i = on-look current i ∙ either-record s m b (not sd) (leb nodes current) (λ e. firstOf (openRows h e (leb segments i) (not (eqb current (nodeOf h))) readMode ++ seen i e))
+  pub number-look : (current i : ℕ) → number product (looking current i b) s (length m) ≡ firstOf (sharedRows sd h c (leb nodes current) (leb (widthOf h) i) (not (eqb current (nodeOf h))) readMode ++ seen i c)
+  number-look current i = on-look current i ∙ either-record s m b (noWidth h) (not sd) (leb nodes current) (λ e. firstOf (openRows h e (leb (widthOf h) i) (not (eqb current (nodeOf h))) readMode ++ seen i e))

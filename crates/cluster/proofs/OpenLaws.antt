@@ -6,7 +6,8 @@ use mathlib.Core.List.{List, []}
 use Prim.Native.Nat.{ℕ, zero, suc}
 use lib.ListN.{length}
 use Rattle.handle.specs.declared.Handle.{Handle}
-use Rattle.handle.specs.Handles.{nameOf, widthOf, firstOf, encoded, reduced}
+use Rattle.handle.specs.declared.HandleBytes.{HandleBytes}
+use Rattle.handle.specs.Handles.{nameOf, widthOf, firstOf, laid, written, reduced}
 use Rattle.handle.specs.Conversion.{product}
 use Rattle.store.specs.declared.Cluster.{Cluster}
 use Rattle.store.specs.declared.Store.{Store}
@@ -14,7 +15,7 @@ use Rattle.store.specs.Records.{clusterAt, primaryOf}
 use Rattle.calls.specs.declared.Answer.{Answer}
 use Rattle.calls.specs.Calls.{reducing, validating}
 use Rattle.calls.specs.Numbers.{number}
-use Rattle.calls.specs.Steps.{zeroHandle, handles, outcome, step, aesStep, left, given}
+use Rattle.calls.specs.Steps.{noBytes, outcome, step, aesStep, left, given}
 use Rattle.calls.specs.Answers.{copyOf, ended, numberAlone, handlesAlone}
 use Rattle.calls.proofs.StepLaws.{number-validate, step-done}
 use Rattle.refusals.specs.Rows.{badModes, sharedRows}
@@ -54,17 +55,17 @@ module _ (s : Store) (m b : List ℕ) (mode : ℕ) (bad : Bool) (eb : bad ≡ ba
 
     abbrev Reduces : Bool → Handle → Cluster → Type 0
     Reduces sd h c = Told sd h c → n ≡ 0 → (p : List ℕ) → p ≡ primaryOf c mode → (r : Handle)
-        → r ≡ reduced (widthOf h) (product (nameOf h)) h p → (e : List ℕ) → e ≡ encoded r → (a : Answer)
-        → a ≡ handlesAlone e zeroHandle → ended s m a [] ≡ aesStep (reducing mode b) (copyOf s m)
+        → r ≡ reduced (widthOf h) (product (nameOf h)) h p → (e : HandleBytes) → e ≡ written r → (a : Answer)
+        → a ≡ handlesAlone e (laid noBytes) → ended s m a [] ≡ aesStep (reducing mode b) (copyOf s m)
 
     pub reduce-done : Reduces sd h c
-    unfolding left given
+    unfolding left given written
     reduce-done =
         by-given s m b Reduces sd h c g
         (λ en z p ep r er e ee a aa.
         ap (λ (x : Answer). ended s m x []) aa
-        ∙ ap (λ (x : List ℕ). record { copy = copyOf s m; reply = handles x zeroHandle 0 })
-        (ee ∙ ap encoded (er ∙ ap (λ (q : List ℕ). reduced (widthOf k) (product (nameOf k)) k q) (ep ∙ there en z)))
+        ∙ ap (λ (x : HandleBytes). ended s m (handlesAlone x (laid noBytes)) [])
+        (ee ∙ ap written (er ∙ ap (λ (q : List ℕ). reduced (widthOf k) (product (nameOf k)) k q) (ep ∙ there en z)))
         ∙ sym (step-done product (reducing mode b) (copyOf s m) (told en ∙ z)))
       where
         k : Handle

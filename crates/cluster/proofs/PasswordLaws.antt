@@ -6,8 +6,9 @@ use mathlib.Core.List.{List, [], _∷_}
 use Prim.Native.Nat.{ℕ}
 use lib.ListN.{length}
 use Rattle.handle.specs.declared.Handle.{Handle}
+use Rattle.handle.specs.declared.HandleBytes.{HandleBytes}
 use Rattle.handle.specs.Selectors.{allFlat}
-use Rattle.handle.specs.Handles.{widthOf, firstOf, samePassword}
+use Rattle.handle.specs.Handles.{widthOf, laid, firstOf, samePassword}
 use Rattle.handle.specs.Conversion.{product}
 use Rattle.handle.specs.Opens.{primaryBytes}
 use Rattle.store.specs.declared.Cluster.{Cluster}
@@ -17,7 +18,7 @@ use Rattle.calls.specs.declared.Answer.{Answer}
 use Rattle.calls.specs.declared.RecordLeft.{RecordLeft}
 use Rattle.calls.specs.Calls.{Call, recordNamed, renewing}
 use Rattle.calls.specs.Numbers.{number}
-use Rattle.calls.specs.Steps.{zeroHandle, handles, aesStep, left, given, passwordReplaced}
+use Rattle.calls.specs.Steps.{noBytes, handles, aesStep, left, given, passwordReplaced}
 use Rattle.calls.specs.Answers.{copyOf, ended, handlesAlone, recordAlone}
 use Rattle.calls.proofs.StepLaws.{step-done}
 use Rattle.refusals.specs.Rows.{badModes, row, sharedRows, after}
@@ -87,8 +88,8 @@ module _ (s : Store) (m b : List ℕ) (mode : ℕ) (pw : List ℕ) (bad : Bool) 
   Replaces sd h c =
       Told sd h c → n ≡ 0 → (p : Bool) → p ≡ allFlat (widthOf h) (h .selector) → not p ≡ false
       → (l : List ℕ) → l ≡ primaryOf c mode → (u : Bool) → u ≡ samePassword pw l → u ≡ false
-      → (i : List ℕ) → i ≡ primaryBytes (h .node) (h .local) pw → (d : Cluster) → d ≡ withPassword c mode pw
-      → (a : Answer) → a ≡ handlesAlone i zeroHandle → Ends h (record { cluster = d; answer = a })
+      → (i : HandleBytes) → i ≡ laid (primaryBytes (h .width) (h .node) (h .local) pw) → (d : Cluster)
+      → d ≡ withPassword c mode pw → (a : Answer) → a ≡ handlesAlone i (laid noBytes) → Ends h (record { cluster = d; answer = a })
 
   module _ (sd : Bool) (h : Handle) (c : Cluster) (g : Given sd h c s m b) where
     pub new-password-refused : Refuses sd h c
@@ -116,12 +117,12 @@ module _ (s : Store) (m b : List ℕ) (mode : ℕ) (pw : List ℕ) (bad : Bool) 
     new-password-done =
         by-given s m b Replaces sd h c g
         (λ en z p ep tp l el u eu t i ei d ed a aa.
-        ap₂ (λ (f : Cluster) (y : Answer). ended (put k f s) m y []) ed (aa ∙ ap (λ (y : List ℕ). handlesAlone y zeroHandle) ei)
+        ap₂ (λ (f : Cluster) (y : Answer). ended (put k f s) m y []) ed (aa ∙ ap (λ (y : HandleBytes). handlesAlone y (laid noBytes)) ei)
         ∙ ap
         (λ (o : ℕ).
         record {
           copy = copyOf (putRecord s o (withPassword (clusterAt s o) mode pw)) m;
-          reply = handles (primaryBytes (k .node) (k .local) pw) zeroHandle 0;
+          reply = handles (primaryBytes (k .width) (k .node) (k .local) pw) noBytes 0;
         })
         (there en z)
         ∙ sym (step-done product x (copyOf s m)

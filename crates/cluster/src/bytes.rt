@@ -14,7 +14,6 @@ use numbers::UNSOUND;
 use refusals::first_refusal;
 use sizes::NODE_MEMORY;
 use sizes::NODES;
-use sizes::SEGMENTS;
 use store::Cluster;
 use store::Place;
 use store::READ_MODE;
@@ -57,7 +56,7 @@ fn reach(
     ensures { λ r. ⌜ r ≡ reached sound handle cluster place segment far away mode ⌝ }
 {
     let tables = aes::tables();
-    let field = SEGMENTS <= segment;
+    let field = handle.beyond(segment);
     let number = first_refusal(&tables, sound, handle, cluster, far, field, away, mode);
     if number != 0 {
         return number;

@@ -11,7 +11,6 @@ use refusals::bad_mode;
 use refusals::first_refusal;
 use refusals::owner_refusal;
 use sizes::Password;
-use sizes::SEGMENTS;
 use store::Cluster;
 use store::Place;
 ghost use mathlib.Core.Path.{_≡_};
@@ -43,7 +42,7 @@ pub fn delete_cluster(sound: bool, handle: Handle, cluster: Cluster, current: us
 fn own_segment(sound: bool, handle: Handle, cluster: Cluster, current: usize, segment: usize) -> u8
     ensures { λ r. ⌜ r ≡ ownSegment sound handle cluster current segment ⌝ }
 {
-    let number = owner_refusal(sound, handle, cluster, current, SEGMENTS <= segment);
+    let number = owner_refusal(sound, handle, cluster, current, handle.beyond(segment));
     if number != 0 {
         return number;
     }
@@ -99,7 +98,8 @@ pub fn new_password(
     if handle::same(password, current) {
         return record_alone(cluster, OLD_PASSWORD);
     }
-    let given = handle::primary_bytes(handle.node, handle.local, password);
+    let width = handle.width;
+    let given = handle::primary_bytes(width, handle.node, handle.local, password);
     RecordLeft {
         cluster: store::with_password(cluster, mode, password),
         answer: one_handle(given),

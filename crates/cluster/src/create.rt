@@ -6,6 +6,8 @@ use calls::two_handles;
 use handle::HANDLE_BYTES;
 use handle::Handle;
 use handle::HandleBytes;
+use handle::Width;
+use numbers::FIELD;
 use numbers::IN_USE;
 use numbers::NO_SUCH_PLACE;
 use numbers::TWINS;
@@ -23,56 +25,86 @@ ghost use Rattle.calls.specs.Calls as calls;
 ghost use Rattle.calls.specs.Steps.{aesStep};
 ghost use Rattle.calls.specs.Answers.{copyOf, ended};
 ghost use Rattle.refusals.specs.Given.{GivenPlace};
+ghost use Rattle.handle.specs.Handles.{firstOf};
+ghost use Rattle.cluster.specs.inner.Creates.{createRows};
 
-// Call 1: a cluster of the current node becomes active with two passwords; its read and its write primary handle. The
-// record is that of the place, or the first where there is no such place.
+// The first refusal of call 1 that applies, or 0.
+fn place_refusal(
+    sound: bool,
+    cluster: Cluster,
+    current: usize,
+    local: usize,
+    width: usize,
+    read: Password,
+    write: Password,
+) -> u8
+    ensures { λ r. ⌜ r ≡ firstOf (createRows sound cluster current local width read write) ⌝ }
+{
+    if !sound {
+        return UNSOUND;
+    }
+    if NODES <= current {
+        return NO_SUCH_PLACE;
+    }
+    if CLUSTERS <= local {
+        return NO_SUCH_PLACE;
+    }
+    if !store::is_width(width) {
+        return FIELD;
+    }
+    let active = cluster.active;
+    if active {
+        return IN_USE;
+    }
+    if handle::same(read, write) {
+        return TWINS;
+    }
+    0
+}
+
+// Call 1: a cluster of the current node becomes active with a width and two passwords; its read and its write primary
+// handle. The record is that of the place, or the first where there is no such place.
 pub fn new_cluster(
     sound: bool,
     cluster: Cluster,
     current: usize,
     local: usize,
+    width: usize,
     read: Password,
     write: Password,
 ) -> RecordLeft
     ensures { λ r. ⌜ ((s : declared.Store) (m : List ℕ) → GivenPlace sound cluster s m current local
         → ended (putRecord s (recordAt current local) (r .cluster)) m (r .answer) []
-        ≡ aesStep (calls.makingCluster current local read write) (copyOf s m)) ⌝ }
+        ≡ aesStep (calls.makingCluster current local width read write) (copyOf s m)) ⌝ }
 {
-    if !sound {
-        return record_alone(cluster, UNSOUND);
+    let number = place_refusal(sound, cluster, current, local, width, read, write);
+    if number != 0 {
+        return record_alone(cluster, number);
     }
-    if NODES <= current {
-        return record_alone(cluster, NO_SUCH_PLACE);
-    }
-    if CLUSTERS <= local {
-        return record_alone(cluster, NO_SUCH_PLACE);
-    }
-    let active = cluster.active;
-    if active {
-        return record_alone(cluster, IN_USE);
-    }
-    if handle::same(read, write) {
-        return record_alone(cluster, TWINS);
-    }
-    let first = handle::primary_bytes(current as u16, local as u8, read);
-    let second = handle::primary_bytes(current as u16, local as u8, write);
+    let named = Width::from_bits(width);
+    let first = handle::primary_bytes(named, current as u16, local as u8, read);
+    let second = handle::primary_bytes(named, current as u16, local as u8, write);
     RecordLeft {
-        cluster: store::started(read, write),
+        cluster: store::started(width as u8, read, write),
         answer: two_handles(first, second),
     }
 }
 
 // Call 7: the handle weakened by a mask, and how many segments it references; the same on every store and memory.
-pub fn weaken(bytes: HandleBytes, mask: u8) -> Answer
+pub fn weaken(bytes: &[u8], mask: u16) -> Answer
     ensures { λ r. ⌜ ((s : declared.Store) (m : List ℕ)
-        → ended s m r [] ≡ aesStep (calls.weakeningBy mask bytes) (copyOf s m)) ⌝ }
+        → ended s m r [] ≡ aesStep (calls.weakeningBy mask (now (bytes .entry))) (copyOf s m)) ⌝ }
 {
     let reply = Handle::decode(bytes).weaken(mask);
     let weaker = reply.handle;
+    let none = HandleBytes {
+        length: 0,
+        bytes: [0; HANDLE_BYTES],
+    };
     Answer {
         number: reply.number,
         first: weaker.encode(),
-        second: [0; HANDLE_BYTES],
+        second: none,
         count: reply.count,
         length: 0,
     }

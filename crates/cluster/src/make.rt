@@ -10,7 +10,6 @@ use refusals::owner_refusal;
 use sizes::MEMORY;
 use sizes::NODE_MEMORY;
 use sizes::NODES;
-use sizes::SEGMENTS;
 use store::Cluster;
 use store::Found;
 use store::Place;
@@ -40,7 +39,7 @@ pub fn segment_refusal(
 ) -> u8
     ensures { λ r. ⌜ r ≡ firstOf (makeRows sound handle cluster current segment size) ⌝ }
 {
-    let field = (SEGMENTS <= segment) | ((size == 0) | (NODE_MEMORY < size));
+    let field = handle.beyond(segment) | ((size == 0) | (NODE_MEMORY < size));
     let number = owner_refusal(sound, handle, cluster, current, field);
     if number != 0 {
         return number;

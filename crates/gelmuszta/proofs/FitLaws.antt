@@ -4,9 +4,9 @@
 use mathlib.Core.Path.{_≡_, refl}
 use mathlib.Core.Bool.{Bool, true, false, not, _&&_, _||_, false≢true}
 use mathlib.Core.List.{List, [], _∷_}
-use Prim.Native.Nat.{ℕ, zero, suc}
+use Prim.Native.Nat.{ℕ, zero, suc, _<_}
 use native.Mathlib.Omega.{arith}
-use borrow.Author.Tests.{eqb-true}
+use borrow.Author.Tests.{eqb-true, not-false}
 use lib.Dec.{eqb}
 use lib.ListN.{length}
 use Rattle.loops.proofs.BelowLaws.{and-left, and-right}
@@ -18,10 +18,11 @@ use Rattle.store.proofs.PlaceLaws.{inside-out}
 use Rattle.store.proofs.PlacementLaws.{newBase-fits}
 use Rattle.calls.specs.Calls.{Copy, Kind, Call, Arguments, call, uses, newCluster, deleteCluster, newSegment, deleteSegment}
 use Rattle.calls.specs.Calls.{read, write, weaken, reduce, newPassword, freeze, join, validate, look, nodeFor, recordFor}
-use Rattle.calls.specs.Numbers.{number}
+use Rattle.store.specs.Sound.{isWidth}
+use Rattle.calls.specs.Numbers.{number, badWidth}
 use Rattle.calls.specs.Steps.{about, newBaseFor, outcome, step, left, effects}
-use Rattle.calls.proofs.DoneLaws.{done-range, new-base}
-use Rattle.image.specs.Ranges.{PlaceFits, ClusterFits, StoreFits}
+use Rattle.calls.proofs.DoneLaws.{done-range, done-width, new-base}
+use Rattle.image.specs.Ranges.{widths, PlaceFits, ClusterFits, StoreFits}
 use Rattle.image.proofs.RangeLaws.{put-fits, place-fits, mark-fits, absent-fits, started-fits, inactive-fits, password-fits}
 use Rattle.gelmuszta.specs.Fits.{PasswordsFit, AllFit, fitting}
 
@@ -45,10 +46,25 @@ module _ (f : Name → List ℕ → ℕ → List ℕ) where
         let ends = i .ends in
         record { starts = omega arith; some = some; ends = omega arith }
 
+    -- the width of a new cluster is one of the three
+    width-fits : number f (call newCluster g) (c .store) (length (c .memory)) ≡ 0 → g .width < widths
+    unfolding badWidth
+    width-fits e =
+        go (eqb (g .width) 4) (eqb (g .width) 8) (eqb (g .width) 16) refl refl refl
+        (not-false (isWidth (g .width)) (done-width f (call newCluster g) (c .store) (length (c .memory)) e))
+      where
+        go : (a b d : Bool) → eqb (g .width) 4 ≡ a → eqb (g .width) 8 ≡ b → eqb (g .width) 16 ≡ d → a || (b || d) ≡ true
+            → g .width < 256
+        go true b d ea eb ed q = let v = eqb-true (g .width) 4 ea in omega arith
+        go false true d ea eb ed q = let v = eqb-true (g .width) 8 eb in omega arith
+        go false false true ea eb ed q = let v = eqb-true (g .width) 16 ed in omega arith
+        go false false false ea eb ed q = absurd (false≢true q)
+
     left-fits : (kind : Kind) → PasswordsFit (call kind g) → number f (call kind g) (c .store) (length (c .memory)) ≡ 0
         → StoreFits (left kind (call kind g) c .store)
     unfolding effects
-    left-fits newCluster p e = put-fits (c .store) _ _ k (started-fits (g .first) (g .second) (p .first refl) (p .second refl))
+    left-fits newCluster p e = put-fits (c .store) _ _ k
+        (started-fits (g .width) (g .first) (g .second) (width-fits e) (p .first refl) (p .second refl))
     left-fits deleteCluster p e = put-fits (c .store) _ _ k inactive-fits
     left-fits newSegment p e =
         put-fits (c .store) _ _ k (place-fits _ (g .segment) _ (about-fits (call newSegment g) e) (new-fits e))

@@ -1,19 +1,20 @@
--- A look on an image: refused with 1 where the image holds no sound store, and nothing is shown; else the core tells what is
--- told of the store that it holds, the part rises, and what is cut out there is the reply's.
+-- A look on an image: refused before all else where there is no handle or no sound store, and nothing is shown; else the
+-- core tells what is told of the store that it holds, the part rises, and what is cut out there is the reply's.
 -- Assumes nothing.
 use mathlib.Core.Path.{_≡_, refl, sym, ap, _∙_, subst}
-use mathlib.Core.Bool.{Bool, true, false, not, _&&_, true≢false}
+use mathlib.Core.Bool.{Bool, true, false, not, _&&_, _||_, true≢false}
 use mathlib.Core.List.{List, []}
-use Prim.Native.Nat.{ℕ, _+_, _-_, _≤_}
+use Prim.Native.Nat.{ℕ, zero, suc, _+_, _-_, _≤_}
 use native.Mathlib.Omega.{arith}
 use lib.ListN.{length}
-use borrow.Author.Tests.{not-true}
+use Rattle.handle.specs.Handles.{noWidth, decoded}
 use Rattle.handle.specs.Conversion.{product}
 use Rattle.store.specs.Sound.{sound}
 use Rattle.store.specs.Records.{tableAt}
 use Rattle.calls.specs.declared.Part.{Part}
 use Rattle.calls.specs.declared.Looked.{Looked}
 use Rattle.calls.specs.Calls.{Call, looking}
+use Rattle.calls.specs.Numbers.{number, badLength}
 use Rattle.calls.specs.Steps.{Reply, within}
 use Rattle.calls.specs.Literals.{shows}
 use Rattle.calls.specs.LookWords.{LookInWords}
@@ -21,9 +22,11 @@ use Rattle.calls.specs.Answers.{copyOf}
 use Rattle.calls.specs.Looks.{nowhere, partBy, looked, aesLooked}
 use Rattle.calls.proofs.LookLaws.{step-looked, part-inside, look-in-words}
 use Rattle.image.specs.Images.{good, storeIn, imageOf}
-use Rattle.gelmuszta.specs.Exported.{Exported, showing, damaged, exported, partFrom, exportedPart, imaged}
+use Rattle.gelmuszta.specs.Exported.{Exported, showing, early, damaged, exported, partFrom, exportedPart, imaged}
+use Rattle.gelmuszta.specs.declared.Opened.{Opened}
+use Rattle.gelmuszta.specs.inner.Opened.{Opens}
 use Rattle.gelmuszta.specs.Looks.{LookOnImage}
-use Rattle.gelmuszta.proofs.ExportLaws.{picked, held-good, through, number-unsound}
+use Rattle.gelmuszta.proofs.ExportLaws.{picked, held-good, through, number-early, number-length, refused-alone}
 
 -- the part, where it is known whether the image is good
 abbrev pub placed : Call → List ℕ → ℕ → Bool → Part
@@ -34,15 +37,29 @@ module _ (b m : List ℕ) (current i : ℕ) (h : List ℕ) (sd : Bool)
   abbrev x : Call
   x = looking current i h
 
-  pub hidden-unsound : not sd ≡ true → partFrom 0 0 ≡ exportedPart x b (length m)
+  -- a look that is refused shows no part
+  pub hidden-early : (n : ℕ) → n ≡ early (badLength x) sd → (n ≡ 0 → ⊥) → partFrom 0 0 ≡ exportedPart x b (length m)
   unfolding exportedPart looked
-  hidden-unsound t = go (good b) (sym es ∙ not-true sd t)
+  hidden-early n en t = go (good b) es
     where
-      go : (g : Bool) → (g && sound (storeIn b) (length m)) ≡ false → nowhere ≡ placed x b (length m) g
-      go false f = λ j. nowhere
+      none : (k : ℕ) → (k ≡ 0 → ⊥) → nowhere ≡ partBy k x (tableAt (storeIn b))
+      none zero ne = absurd (ne refl)
+      none (suc k) ne = refl
+
+      told : (l : Bool) → badLength x ≡ l → sd ≡ sound (storeIn b) (length m)
+          → number product x (storeIn b) (length m) ≡ early (badLength x) sd
+      told true e q = number-length x (storeIn b) (length m) e ∙ sym (ap (λ (u : Bool). early u sd) e)
+      told false e q = by sd refl
+        where
+          by : (v : Bool) → sd ≡ v → number product x (storeIn b) (length m) ≡ early (badLength x) sd
+          by true ev = absurd (t (en ∙ (λ j. early (e j) (ev j))))
+          by false ev =
+              number-early x (storeIn b) (length m) false e refl (sym q ∙ ev) ∙ sym (λ j. early (e j) (ev j))
+
+      go : (g : Bool) → sd ≡ (g && sound (storeIn b) (length m)) → nowhere ≡ placed x b (length m) g
+      go false f = refl
       go true f =
-          sym (ap (λ (n : ℕ). partBy n x (tableAt (storeIn b)))
-          (number-unsound x (storeIn b) (length m) (λ j. false) f))
+          none (number product x (storeIn b) (length m)) (λ z. t (en ∙ sym (told (badLength x) refl f) ∙ z))
 
   module _ (whole : good b ≡ true → imageOf (storeIn b) ≡ b) (t : not sd ≡ false) (l : Looked)
       (e : l ≡ aesLooked x (storeIn b) (length m)) where
@@ -68,6 +85,12 @@ module _ (b m : List ℕ) (current i : ℕ) (h : List ℕ) (sd : Bool)
         let n : p .from + (p .to - p .from) ≡ p .to = omega arith in
         ap (λ (k : ℕ). record { from = p .from; to = k }) n ∙ told ∙ sym (ap (placed x b (length m)) (held-good b m sd es whole t))
 
+-- where it is refused before all else
+pub hidden-of : (b m : List ℕ) (current i : ℕ) (h : List ℕ) (o : Opened) → Opens o b (length m) h → (o .refused ≡ 0 → ⊥)
+    → partFrom 0 0 ≡ exportedPart (looking current i h) b (length m)
+hidden-of b m current i h o w t =
+    hidden-early b m current i h (o .sound) (w .sound) (o .refused) (refused-alone b m h o w (looking current i h) refl) t
+
 -- ---- in words
 
 module _ (v i : ℕ) (h b m : List ℕ) where
@@ -86,19 +109,28 @@ module _ (v i : ℕ) (h b m : List ℕ) where
 
   record On (g : Bool) : Type 0 where
     refused : (done g .reply .number ≡ 0 → ⊥) → told-at g ≡ nowhere
-    damaged : g ≡ false → done g .reply ≡ shows 1 []
+    damaged : g ≡ false → noWidth (decoded h) ≡ false → done g .reply ≡ shows 1 []
+    long : g ≡ false → noWidth (decoded h) ≡ true → done g .reply ≡ shows 25 []
     exact : done g .reply .shown ≡ within (told-at g) m
     inside : (told-at g .from ≤ told-at g .to) × (told-at g .to ≤ length m)
 
   on : (g : Bool) → On g
+  unfolding badLength
   on false =
-      record { refused = λ ne. refl; damaged = λ e. refl; exact = refl; inside = (omega arith, omega arith) }
+      record {
+        refused = λ ne. refl;
+        damaged = λ e q. ap (λ (u : Bool). shows (early (u || false) false) []) q;
+        long = λ e q. ap (λ (u : Bool). shows (early (u || false) false) []) q;
+        exact = refl;
+        inside = (omega arith, omega arith);
+      }
   on true =
       record {
         refused = λ ne.
             let q = told-of .refused (λ z. ne (ap (λ (r : Reply). r .number) (told-of .told) ∙ z)) in
             λ j. record { from = q .from j; to = q .to j };
-        damaged = λ e. absurd (true≢false e);
+        damaged = λ e q. absurd (true≢false e);
+        long = λ e q. absurd (true≢false e);
         exact = told-of .exact;
         inside = part-inside product v i h (copyOf (storeIn b) m);
       }
@@ -108,7 +140,8 @@ module _ (v i : ℕ) (h b m : List ℕ) where
   look-on-image =
       record {
         refused = on (good b) .refused;
-        damaged = λ e. on (good b) .damaged e;
+        damaged = λ e q. on (good b) .damaged e q;
+        wrongLength = λ e q. on (good b) .long e q;
         exact = on (good b) .exact;
         inside = on (good b) .inside;
       }

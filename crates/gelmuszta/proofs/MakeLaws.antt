@@ -12,7 +12,7 @@ use Rattle.store.specs.Records.{tableAt}
 use Rattle.store.specs.Placement.{placement, placedBy}
 use Rattle.calls.specs.declared.RecordLeft.{RecordLeft}
 use Rattle.calls.specs.Calls.{Call, makingSegment}
-use Rattle.calls.specs.Steps.{zeroHandle, aesStep}
+use Rattle.calls.specs.Steps.{aesStep}
 use Rattle.calls.specs.Answers.{copyOf, ended, numberAlone}
 use Rattle.refusals.specs.Given.{Given, recordFound, put}
 use Rattle.cluster.specs.inner.Makes.{makeRows}
@@ -20,17 +20,20 @@ use Rattle.cluster.proofs.MakeLaws.{segment-refused}
 use Rattle.image.specs.Images.{storeIn}
 use Rattle.gelmuszta.specs.declared.Opened.{Opened}
 use Rattle.gelmuszta.specs.inner.Opened.{Opens, Kept}
-use Rattle.gelmuszta.specs.Exported.{returned, exported}
+use Rattle.gelmuszta.specs.Exported.{nothing, returned, exported}
 use Rattle.gelmuszta.proofs.ReplyLaws.{new-segment-silent}
-use Rattle.gelmuszta.proofs.ExportLaws.{given-of, same-silent, kept-silent}
+use Rattle.gelmuszta.proofs.ExportLaws.{held-of, given-of, same-silent, kept-silent}
 
 module _ (b m hb : List ℕ) (current segment size : ℕ) (o : Opened) (w : Opens o b (length m) hb)
-    (held : not (o .sound) ≡ false) (n : ℕ)
+    (zero : o .refused ≡ 0) (n : ℕ)
     (en : n ≡ firstOf (makeRows true (o .handle) (o .cluster) current segment size)) where
+  held : not (o .sound) ≡ false
+  held = held-of b (length m) hb o w zero
+
   abbrev x : Call
   x = makingSegment current segment size hb
 
-  pub new-segment-refused : (n ≡ 0 → ⊥) → returned n zeroHandle zeroHandle 0 0 [] b m ≡ exported x b m
+  pub new-segment-refused : (n ≡ 0 → ⊥) → returned n nothing nothing 0 0 [] b m ≡ exported x b m
   new-segment-refused t =
       same-silent b m (o .sound) (w .sound) (w .whole) held x m (numberAlone n) []
       (segment-refused (storeIn b) m hb current segment size true (o .handle) (o .cluster) (given-of b m hb o w held) n en t)
@@ -43,7 +46,7 @@ module _ (b m hb : List ℕ) (current segment size : ℕ) (o : Opened) (w : Open
       → placedBy f ≡ placement (tableAt s) (nodeOf (o .handle)) size
       → ended (put (o .handle) (l .cluster) s) after (l .answer) [] ≡ aesStep (makingSegment i segment size d) (copyOf s m))
       → (image : List ℕ) → Kept l (o .at) b image
-      → returned (l .answer .number) zeroHandle zeroHandle 0 0 [] image after ≡ exported x b m
+      → returned (l .answer .number) nothing nothing 0 0 [] image after ≡ exported x b m
   new-segment-kept z v ev f ef after l core image k =
       kept-silent b m (o .sound) (w .sound) (w .whole) held x (o .at) (recordFound (o .handle)) (w .at) l after
       (core true (storeIn b) hb current (given-of b m hb o w held) (sym en ∙ z)

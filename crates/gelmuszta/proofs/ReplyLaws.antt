@@ -4,14 +4,15 @@ use mathlib.Core.Path.{_≡_, refl, sym, ap}
 use mathlib.Core.List.{List, []}
 use Prim.Native.Nat.{ℕ, zero, suc}
 use lib.ListN.{length}
+use Rattle.handle.specs.declared.HandleBytes.{HandleBytes}
 use Rattle.handle.specs.Conversion.{product}
 use Rattle.calls.specs.declared.Answer.{Answer}
 use Rattle.calls.specs.Answers.{replied}
 use Rattle.calls.specs.Calls.{Copy, Call, Arguments, call, newCluster, deleteCluster, newSegment, deleteSegment}
 use Rattle.calls.specs.Calls.{Kind, read, write, weaken, reduce, newPassword, freeze, join, validate, look, buffer}
 use Rattle.calls.specs.Numbers.{number}
-use Rattle.calls.specs.Steps.{Reply, plain, handles, readReply, zeroHandle, segmentRead, segmentShown, given, outcome, step, aesStep}
-use Rattle.gelmuszta.specs.Exported.{replyOf}
+use Rattle.calls.specs.Steps.{Reply, plain, readReply, segmentRead, segmentShown, given, outcome, step, aesStep}
+use Rattle.gelmuszta.specs.Exported.{nothing, replyOf}
 
 -- a field that is the same in every refusal and in what the call gives
 module _ {A : Type 0} (field : Reply → A) (z : A) (refusal : (n : ℕ) (b : List ℕ) → field (plain n b) ≡ z) where
@@ -24,11 +25,11 @@ module _ {A : Type 0} (field : Reply → A) (z : A) (refusal : (n : ℕ) (b : Li
       go (suc n) = refusal (suc n) (buffer x)
 
 module _ (x : Call) (c : Copy) (r : Reply) (e : given product (x .kind) x c ≡ r) where
-  none-first : r .first ≡ zeroHandle → zeroHandle ≡ aesStep x c .reply .first
-  none-first h = sym (always (λ (q : Reply). q .first) zeroHandle (λ n b. refl) x c (rw e h))
+  none-first : r .first ≡ nothing → nothing ≡ aesStep x c .reply .first
+  none-first h = sym (always (λ (q : Reply). q .first) nothing (λ n b. refl) x c (rw e h))
 
-  none-second : r .second ≡ zeroHandle → zeroHandle ≡ aesStep x c .reply .second
-  none-second h = sym (always (λ (q : Reply). q .second) zeroHandle (λ n b. refl) x c (rw e h))
+  none-second : r .second ≡ nothing → nothing ≡ aesStep x c .reply .second
+  none-second h = sym (always (λ (q : Reply). q .second) nothing (λ n b. refl) x c (rw e h))
 
   none-count : r .count ≡ 0 → 0 ≡ aesStep x c .reply .count
   none-count h = sym (always (λ (q : Reply). q .count) 0 (λ n b. refl) x c (rw e h))
@@ -42,21 +43,21 @@ module _ (x : Call) (c : Copy) (r : Reply) (e : given product (x .kind) x c ≡ 
 -- ---- what the calls give, once done
 
 pub record HandleAndCount (x : Call) : Type 0 where
-  pub handle : Copy → List ℕ
+  pub handle : Copy → HandleBytes
   pub count : Copy → ℕ
-  pub gives : (c : Copy) → given product (x .kind) x c ≡ handles (handle c) zeroHandle (count c)
+  pub gives : (c : Copy) → given product (x .kind) x c ≡ replyOf 0 (handle c) nothing (count c) 0 []
 
 pub record Silent (x : Call) : Type 0 where
   pub gives : (c : Copy) → given product (x .kind) x c ≡ plain 0 (buffer x)
 
 pub record OneHandle (x : Call) : Type 0 where
-  pub handle : Copy → List ℕ
-  pub gives : (c : Copy) → given product (x .kind) x c ≡ handles (handle c) zeroHandle 0
+  pub handle : Copy → HandleBytes
+  pub gives : (c : Copy) → given product (x .kind) x c ≡ replyOf 0 (handle c) nothing 0 0 []
 
 pub record TwoHandles (x : Call) : Type 0 where
-  pub first : Copy → List ℕ
-  pub second : Copy → List ℕ
-  pub gives : (c : Copy) → given product (x .kind) x c ≡ handles (first c) (second c) 0
+  pub first : Copy → HandleBytes
+  pub second : Copy → HandleBytes
+  pub gives : (c : Copy) → given product (x .kind) x c ≡ replyOf 0 (first c) (second c) 0 0 []
 
 pub record Length (x : Call) : Type 0 where
   pub size : Copy → ℕ
@@ -131,7 +132,7 @@ done-number look x c = refl
 
 -- ---- the reply from the fields that the code gives
 
-abbrev whole : ℕ → List ℕ → List ℕ → ℕ → ℕ → List ℕ → List ℕ → Reply
+abbrev whole : ℕ → HandleBytes → HandleBytes → ℕ → ℕ → List ℕ → List ℕ → Reply
 whole number first second count length buffer shown =
     record {
       number = number;
@@ -145,7 +146,7 @@ whole number first second count length buffer shown =
 
 -- a silent call's reply from its number
 pub silent-known : (x : Call) (c : Copy) → Silent x
-    → replyOf (aesStep x c .reply .number) zeroHandle zeroHandle 0 0 (buffer x) ≡ aesStep x c .reply
+    → replyOf (aesStep x c .reply .number) nothing nothing 0 0 (buffer x) ≡ aesStep x c .reply
 unfolding step
 silent-known x c s =
     λ j. whole (aesStep x c .reply .number) (none-first x c _ (s .gives c) refl j) (none-second x c _ (s .gives c) refl j)
@@ -160,12 +161,12 @@ silent-known x c s =
         go (suc n) = refl
 
 module _ (x : Call) (c : Copy) (a : Answer) (b : List ℕ) (e : replied a b ≡ aesStep x c .reply) where
-  pub silent-reply : Silent x → replyOf (a .number) zeroHandle zeroHandle 0 0 b ≡ aesStep x c .reply
+  pub silent-reply : Silent x → replyOf (a .number) nothing nothing 0 0 b ≡ aesStep x c .reply
   silent-reply s =
       λ j. whole (e j .number) (none-first x c _ (s .gives c) refl j) (none-second x c _ (s .gives c) refl j)
       (none-count x c _ (s .gives c) refl j) (none-length x c _ (s .gives c) refl j) (e j .buffer) (e j .shown)
 
-  pub handle-reply : OneHandle x → replyOf (a .number) (a .first) zeroHandle 0 0 b ≡ aesStep x c .reply
+  pub handle-reply : OneHandle x → replyOf (a .number) (a .first) nothing 0 0 b ≡ aesStep x c .reply
   handle-reply s =
       λ j. whole (e j .number) (e j .first) (none-second x c _ (s .gives c) refl j)
       (none-count x c _ (s .gives c) refl j) (none-length x c _ (s .gives c) refl j) (e j .buffer) (e j .shown)
@@ -175,12 +176,12 @@ module _ (x : Call) (c : Copy) (a : Answer) (b : List ℕ) (e : replied a b ≡ 
       λ j. whole (e j .number) (e j .first) (e j .second)
       (none-count x c _ (s .gives c) refl j) (none-length x c _ (s .gives c) refl j) (e j .buffer) (e j .shown)
 
-  pub count-reply : HandleAndCount x → replyOf (a .number) (a .first) zeroHandle (a .count) 0 b ≡ aesStep x c .reply
+  pub count-reply : HandleAndCount x → replyOf (a .number) (a .first) nothing (a .count) 0 b ≡ aesStep x c .reply
   count-reply s =
       λ j. whole (e j .number) (e j .first) (none-second x c _ (s .gives c) refl j) (e j .count)
       (none-length x c _ (s .gives c) refl j) (e j .buffer) (e j .shown)
 
-  pub length-reply : Length x → replyOf (a .number) zeroHandle zeroHandle 0 (a .length) b ≡ aesStep x c .reply
+  pub length-reply : Length x → replyOf (a .number) nothing nothing 0 (a .length) b ≡ aesStep x c .reply
   length-reply s =
       λ j. whole (e j .number) (none-first x c _ (s .gives c) refl j) (none-second x c _ (s .gives c) refl j)
       (none-count x c _ (s .gives c) refl j) (e j .length) (e j .buffer) (e j .shown)

@@ -13,11 +13,14 @@ use Rattle.handle.specs.Conversion.{product}
 use Rattle.store.specs.declared.Store.{Store}
 use Rattle.calls.specs.declared.Part.{Part}
 use Rattle.calls.specs.declared.Looked.{Looked}
-use Rattle.calls.specs.Calls.{Copy, Call, Arguments, call, freeze, among, isLook}
+use Rattle.calls.specs.Calls.{Copy, Call, Arguments, call, freeze, among, isLook, buffer}
 use Rattle.calls.specs.Looks.{aesLooked}
-use Rattle.calls.specs.Steps.{Outcome, run, aesStep}
+use Rattle.calls.specs.Numbers.{badLength}
+use Rattle.calls.specs.Steps.{Outcome, plain, run, aesStep}
 use Rattle.calls.specs.Answers.{copyOf}
 use Rattle.calls.proofs.KindLaws.{but-is}
+use Rattle.calls.proofs.TestLaws.{off-is}
+use Rattle.calls.proofs.WordLaws.{badLength-is}
 use Rattle.isolation.specs.Copies.{Done, also, places}
 use Rattle.isolation.proofs.TwoCopies.{two-copies}
 use Rattle.isolation.specs.Writers.{SameToWriters}
@@ -27,14 +30,14 @@ use Rattle.image.specs.Images.{imageBytes, good, storeIn, imageOf}
 use Rattle.image.specs.Ranges.{StoreFits}
 use Rattle.image.proofs.TripLaws.{good-image, store-image, image-store}
 use Rattle.image.proofs.RangeLaws.{store-held}
-use Rattle.gelmuszta.specs.Exported.{Exported, damaged, imaged, exported, exportedPart}
+use Rattle.gelmuszta.specs.Exported.{Exported, early, damaged, imaged, exported, exportedPart}
 use Rattle.gelmuszta.specs.Fits.{PasswordsFit, AllFit}
 use Rattle.gelmuszta.specs.Runs.{RanOn, runOn, followedBy, placesOn, imagedRun, ListsAreRuns, PlacesAreRuns, held, leftOn, TwoImages}
-use Rattle.gelmuszta.specs.Runs.{WritersOnImages, refusedWith, FixedOn, FrozenOnImages, FrozenFromThenOn, DamagedRefused, RefusalLeaves}
+use Rattle.gelmuszta.specs.Runs.{WritersOnImages, refusedWith, FixedOn, FrozenOnImages, FrozenFromThenOn, DamagedRefused, LengthRefused, RefusalLeaves}
 use Rattle.isolation.specs.Frozen.{Fixed}
 use Rattle.isolation.proofs.FrozenLaws.{frozen-stays, fixed-from-then-on}
-use Rattle.calls.proofs.StepLaws.{step-number}
-use Rattle.gelmuszta.proofs.ExportLaws.{damagedBy, picked, step-leaves}
+use Rattle.calls.proofs.StepLaws.{step-number, step-refused}
+use Rattle.gelmuszta.proofs.ExportLaws.{damagedBy, picked, step-leaves, number-length}
 use Rattle.gelmuszta.proofs.LookLaws.{placed}
 use Rattle.gelmuszta.proofs.FitLaws.{step-fits}
 
@@ -192,7 +195,11 @@ module _ (g : Arguments) (b m : List ℕ) where
       where
         go : (t : Bool) → good b ≡ t → good b ≡ true
         go true e = e
-        go false e = let o = sym (ap numberOf (exported-damaged freezes b m e)) ∙ z in absurd (omega arith)
+        go false e = absurd (never (badLength freezes) (sym (ap numberOf (exported-damaged freezes b m e)) ∙ z))
+          where
+            never : (l : Bool) → early l false ≡ 0 → ⊥
+            never true q = omega (arith, q)
+            never false q = omega (arith, q)
 
     done-step : Done product freezes (held b m)
     done-step = step-number product freezes (held b m) (sym (ap numberOf (exported-good freezes b m done-good)) ∙ z)
@@ -216,10 +223,34 @@ told x b m o e r = e ∙ r ∙ ap (λ (n : ℕ). refusedWith n x b m) (sym (ap n
 
 -- every kind but weakening has another code than 7
 pub damaged-refused : DamagedRefused
-damaged-refused x b m n g =
+damaged-refused x b m n l g =
     exported-damaged x b m g
-    ∙ ap (λ (u : Bool). damagedBy u x b m)
+    ∙ ap₂ (λ (u v : Bool). damagedBy u v x b m)
     (not-true (among (7 ∷ []) (x .kind)) (but-is (λ k. not (among (7 ∷ []) k)) refl x .into n))
+    (off-is (badLength-is x) l)
+
+-- a handle of none of the three lengths
+pub length-refused : LengthRefused
+length-refused x b m h l = go (good b) refl
+  where
+    long : badLength x ≡ true
+    long = badLength-is x .into l
+
+    stepped : (s : Store) → aesStep x (copyOf s m) ≡ record { copy = copyOf s m; reply = plain 25 (buffer x) }
+    stepped s =
+        step-refused product x (copyOf s m) 25 (number-length x s (length m) long) (λ z. omega (arith, z))
+
+    go : (g : Bool) → good b ≡ g → exported x b m ≡ refusedWith 25 x b m
+    go true e =
+        exported-good x b m e ∙ ap imaged (stepped (storeIn b))
+        ∙ ap (λ (i : List ℕ). refusedWith 25 x i m) (image-store b h e)
+    go false e = exported-damaged x b m e ∙ by (among (7 ∷ []) (x .kind)) refl
+      where
+        by : (u : Bool) → among (7 ∷ []) (x .kind) ≡ u → damaged x b m ≡ refusedWith 25 x b m
+        by true q =
+            ap (λ (u : Bool). damagedBy u (badLength x) x b m) q
+            ∙ ap (λ (o : Outcome). record { reply = o .reply; image = b; memory = m }) (stepped (storeIn b))
+        by false q = λ j. damagedBy (q j) (long j) x b m
 
 pub refusal-leaves : RefusalLeaves
 refusal-leaves x b m h = go (good b) refl
@@ -232,8 +263,8 @@ refusal-leaves x b m h = go (good b) refl
         ∙ ap (λ (i : List ℕ). refusedWith (aesStep x (copyOf (storeIn b) m) .reply .number) x i m) (image-store b h e))
     go false e ne = told x b m (damaged x b m) (exported-damaged x b m e) (left-damaged (among (7 ∷ []) (x .kind)) (λ z. ne (ap numberOf (exported-damaged x b m e) ∙ z)))
       where
-        left-damaged : (u : Bool) → (numberOf (damagedBy u x b m) ≡ 0 → ⊥)
-            → damagedBy u x b m ≡ refusedWith (numberOf (damagedBy u x b m)) x b m
+        left-damaged : (u : Bool) → (numberOf (damagedBy u (badLength x) x b m) ≡ 0 → ⊥)
+            → damagedBy u (badLength x) x b m ≡ refusedWith (numberOf (damagedBy u (badLength x) x b m)) x b m
         left-damaged true ne =
             ap (λ (o : Outcome). record { reply = o .reply; image = b; memory = m }) (step-leaves x (copyOf (storeIn b) m) ne)
         left-damaged false ne = refl

@@ -52,10 +52,10 @@ kept-fits : (r : ℕ) → StoreFits (kept r)
 kept-fits r =
     put-fits _ 2 (second r)
     (put-fits startingStore 10 tenth starting-fits
-    (place-fits _ 0 _ (started-fits (sixteen 50) (sixteen 51) refl refl) (present-fits 0 2 (omega arith) (omega arith) (omega arith))))
+    (place-fits _ 0 _ (started-fits 8 (sixteen 50) (sixteen 51) (omega arith) refl refl) (present-fits 0 2 (omega arith) (omega arith) (omega arith))))
     (place-fits _ 3 _
     (place-fits _ 4 _
-    (place-fits _ 5 _ (started-fits (sixteen r) (sixteen 34) refl refl) (present-fits 0 4 (omega arith) (omega arith) (omega arith)))
+    (place-fits _ 5 _ (started-fits 8 (sixteen r) (sixteen 34) (omega arith) refl refl) (present-fits 0 4 (omega arith) (omega arith) (omega arith)))
     (present-fits 4 2 (omega arith) (omega arith) (omega arith)))
     (present-fits 10 1 (omega arith) (omega arith) (omega arith)))
 

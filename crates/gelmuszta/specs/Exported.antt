@@ -1,11 +1,16 @@
 -- What an exported call gives and leaves: the store comes and goes as its image, the rest as document 01 has it.
+--     handed bs n           a handle given: the bytes that a function wrote, and the length that it told
+--     nothing               no handle: 27 zeros and the length 0
 --     replyOf ..            the reply of these values, in the order of the record's fields, which shows no bytes
 --     Exported              the reply, and the image and the memory that are left; where a look's part lies stands beside it
 --     returned ..           what an exported function gave and left: its number, two handles, count, length, buffer, image
---                           and memory; where it gives no such value, zeros stand for it, as in every reply
+--                           and memory; where it gives no such value, nothing or zero stands for it, as in every reply
 --     showing n bs ..       the same of a look: its number, and the bytes of the part that it told
---     damaged x b m         an image that holds no store is refused as an unsound one is, with 1, and all stays as it was;
---                           weakening alone, which looks at no store, is answered as ever
+--     early none sd         what comes before all else: 25 where a handle has none of the three lengths, then 1 where sd, whether
+--                           the image holds a sound store, is false; or 0
+--     damaged x b m         an image that holds no store is refused as an unsound one is: with 25 where a handle's length is
+--                           none of the three, else with 1, and all stays as it was; weakening alone, which looks at no
+--                           store, is answered as ever
 --     imaged o              what a step gave and left, the store as its image
 --     exported x b m        the call x on the image b and the memory m: the step on the store that b holds
 --     partFrom a n          the part of n bytes that begins at a
@@ -15,18 +20,27 @@
 -- Assumes nothing.
 use mathlib.Core.Path.{_≡_}
 use Prim.Native.Nat.{ℕ, _+_}
-use mathlib.Core.Bool.{true, false}
+use mathlib.Core.Bool.{Bool, true, false, not, cond}
 use mathlib.Core.List.{List, [], _∷_}
+use Rattle.handle.specs.declared.HandleBytes.{HandleBytes}
+use Rattle.handle.specs.Handles.{laid}
 use Rattle.store.specs.declared.Store.{Store}
 use Rattle.calls.specs.Calls.{Call, among, buffer}
 use Rattle.calls.specs.declared.Part.{Part}
-use Rattle.calls.specs.Steps.{Reply, Outcome, plain, lookReply, aesStep}
+use Rattle.calls.specs.Numbers.{badLength}
+use Rattle.calls.specs.Steps.{Reply, Outcome, noBytes, plain, lookReply, aesStep}
 use Rattle.calls.specs.Looks.{nowhere, aesLooked}
 use Rattle.calls.specs.Answers.{copyOf}
 use Rattle.image.specs.Images.{good, storeIn, imageOf}
-use Rattle.numbers.specs.Numbers.{unsoundNumber}
+use Rattle.numbers.specs.Numbers.{unsoundNumber, wrongLengthNumber}
 
-abbrev pub replyOf : ℕ → List ℕ → List ℕ → ℕ → ℕ → List ℕ → Reply
+abbrev pub handed : List ℕ → ℕ → HandleBytes
+handed bs n = record { length = n; bytes = bs }
+
+abbrev pub nothing : HandleBytes
+nothing = laid noBytes
+
+abbrev pub replyOf : ℕ → HandleBytes → HandleBytes → ℕ → ℕ → List ℕ → Reply
 replyOf number first second count length buffer =
     record {
       number = number;
@@ -43,12 +57,15 @@ pub record Exported : Type 0 where
   pub image : List ℕ
   pub memory : List ℕ
 
-abbrev pub returned : ℕ → List ℕ → List ℕ → ℕ → ℕ → List ℕ → List ℕ → List ℕ → Exported
+abbrev pub returned : ℕ → HandleBytes → HandleBytes → ℕ → ℕ → List ℕ → List ℕ → List ℕ → Exported
 returned number first second count length buffer image memory =
     record { reply = replyOf number first second count length buffer; image = image; memory = memory }
 
 abbrev pub showing : ℕ → List ℕ → List ℕ → List ℕ → Exported
 showing number shown image memory = record { reply = lookReply number shown; image = image; memory = memory }
+
+abbrev pub early : Bool → Bool → ℕ
+early none sd = cond none wrongLengthNumber (cond (not sd) unsoundNumber 0)
 
 abbrev pub damaged : Call → List ℕ → List ℕ → Exported
 damaged x b m =
@@ -56,7 +73,7 @@ damaged x b m =
       reply =
           elim (among (7 ∷ []) (x .kind)) [
             | true ↦ aesStep x (copyOf (storeIn b) m) .reply
-            | false ↦ plain unsoundNumber (buffer x)
+            | false ↦ plain (early (badLength x) false) (buffer x)
           ];
       image = b;
       memory = m;

@@ -22,7 +22,7 @@ AllFit (x ∷ xs) = PasswordsFit x × AllFit xs
 
 abbrev pub fitting : List Call
 fitting =
-    makingCluster 0 0 (replicate 16 0) (replicate 16 0)
+    makingCluster 0 0 0 (replicate 16 0) (replicate 16 0)
     ∷ deletingCluster 0 []
     ∷ makingSegment 0 0 0 []
     ∷ deletingSegment 0 0 []

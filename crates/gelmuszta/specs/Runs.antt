@@ -26,7 +26,9 @@
 --                        holds, and with the base and the length that it has there it is fixed after the list
 --     FrozenFromThenOn   document 02's own sentence, of images: a freeze that is done, and then any list; the bytes are
 --                        those that the segment had before the freeze
---     DamagedRefused     on an image that holds no store every call but weakening is refused with 1, and nothing changes
+--     LengthRefused      a call with a handle that has none of the three lengths is refused with 25, on every image, one that
+--                        holds no store too, and nothing changes
+--     DamagedRefused     on an image that holds no store every other call but weakening is refused with 1, and nothing changes
 --     RefusalLeaves      a call whose number is not 0 gives nothing else, and leaves image, memory and buffer as they were
 -- Assumes nothing.
 use mathlib.Core.Path.{_≡_}
@@ -44,6 +46,7 @@ use Rattle.store.specs.Records.{tableAt}
 use Rattle.calls.specs.declared.Part.{Part}
 use Rattle.calls.specs.declared.Looked.{Looked}
 use Rattle.calls.specs.Calls.{Copy, Call, Arguments, call, weaken, freeze, isLook, handleOf, buffer}
+use Rattle.calls.specs.Words.{BadLength}
 use Rattle.calls.specs.Steps.{Reply, Ran, plain, run, aesStep}
 use Rattle.calls.specs.Answers.{copyOf}
 use Rattle.isolation.specs.Copies.{SoundCopy, setApart, Alike, AllShut, also, places}
@@ -125,7 +128,7 @@ pub record FixedOn (v l i base size : ℕ) (xs : List Call) (b m : List ℕ) : T
 
 abbrev pub FrozenOnImages : Type 0
 FrozenOnImages =
-    (v l i base size : ℕ) → v < 4 → l < 8 → i < 8 → (xs : List Call) (b m : List ℕ) → AllFit xs
+    (v l i base size : ℕ) → v < 4 → l < 8 → i < 16 → (xs : List Call) (b m : List ℕ) → AllFit xs
     → Bytes imageBytes b → good b ≡ true → SoundCopy (held b m)
     → placeAt (storeIn b) v l i ≡ Present base size → frozenAt (storeIn b) v l i ≡ true
     → FixedOn v l i base size xs b m
@@ -146,7 +149,11 @@ refusedWith n x b m = record { reply = plain n (buffer x); image = b; memory = m
 
 abbrev pub DamagedRefused : Type 0
 DamagedRefused =
-    (x : Call) (b m : List ℕ) → x .kind ≢ weaken → good b ≡ false → exported x b m ≡ refusedWith 1 x b m
+    (x : Call) (b m : List ℕ) → x .kind ≢ weaken → ¬ BadLength x → good b ≡ false → exported x b m ≡ refusedWith 1 x b m
+
+abbrev pub LengthRefused : Type 0
+LengthRefused =
+    (x : Call) (b m : List ℕ) → Bytes imageBytes b → BadLength x → exported x b m ≡ refusedWith 25 x b m
 
 abbrev pub RefusalLeaves : Type 0
 RefusalLeaves =

@@ -1,15 +1,12 @@
 // Calls 3, 5 and 6, and the look: they clear, read, write or show the bytes of a segment.
 use crate::keep;
 use crate::look_up;
-use handle::HandleBytes;
 use image::IMAGE;
-use numbers::UNSOUND;
 ghost use mathlib.Core.Path.{_≡_};
 ghost use mathlib.Core.List.{[]};
 ghost use Rattle.calls.specs.Calls as calls;
-ghost use Rattle.calls.specs.Steps.{zeroHandle};
 ghost use lib.ListN as lists;
-ghost use Rattle.gelmuszta.specs.Exported.{returned, showing, exported, partFrom, exportedPart};
+ghost use Rattle.gelmuszta.specs.Exported.{nothing, returned, showing, exported, partFrom, exportedPart};
 
 // Call 3: the segment is present at the smallest base at which it fits, and its bytes are zero.
 #[no_mangle]
@@ -19,16 +16,15 @@ pub extern "C" fn gelmuszta_new_segment(
     current: usize,
     segment: usize,
     size: usize,
-    handle: &HandleBytes,
+    handle: &[u8],
 ) -> u8
-    ensures { λ r. ⌜ returned r zeroHandle zeroHandle 0 0 [] (now (image .exit)) (now (memory .exit))
+    ensures { λ r. ⌜ returned r nothing nothing 0 0 [] (now (image .exit)) (now (memory .exit))
         ≡ exported (calls.makingSegment current segment size (now (handle .entry))) (now (image .entry)) (now (memory .entry)) ⌝ }
 {
-    let h = *handle;
-    let o = look_up(image, memory.len(), h);
-    let sound = o.sound;
-    if !sound {
-        return UNSOUND;
+    let o = look_up(image, memory.len(), handle);
+    let refused = o.refused;
+    if refused != 0 {
+        return refused;
     }
     let opened = o.handle;
     let number = cluster::segment_refusal(true, opened, o.cluster, current, segment, size);
@@ -48,19 +44,18 @@ pub extern "C" fn gelmuszta_read(
     image: &[u8; IMAGE],
     memory: &[u8],
     segment: usize,
-    handle: &HandleBytes,
+    handle: &[u8],
     buffer: &mut [u8],
     length: &mut usize,
 ) -> u8
-    ensures { λ r. ⌜ returned r zeroHandle zeroHandle 0 (now (length .exit)) (now (buffer .exit)) (now (image .entry)) (now (memory .entry))
+    ensures { λ r. ⌜ returned r nothing nothing 0 (now (length .exit)) (now (buffer .exit)) (now (image .entry)) (now (memory .entry))
         ≡ exported (calls.reading segment (now (handle .entry)) (now (buffer .entry))) (now (image .entry)) (now (memory .entry)) ⌝ }
 {
-    let h = *handle;
-    let o = look_up(image, memory.len(), h);
-    let sound = o.sound;
-    if !sound {
+    let o = look_up(image, memory.len(), handle);
+    let refused = o.refused;
+    if refused != 0 {
         *length = 0;
-        return UNSOUND;
+        return refused;
     }
     let answer = cluster::read(true, o.handle, o.cluster, memory, buffer, segment);
     *length = answer.length;
@@ -73,17 +68,16 @@ pub extern "C" fn gelmuszta_write(
     image: &[u8; IMAGE],
     memory: &mut [u8],
     segment: usize,
-    handle: &HandleBytes,
+    handle: &[u8],
     written: &[u8],
 ) -> u8
-    ensures { λ r. ⌜ returned r zeroHandle zeroHandle 0 0 (now (written .entry)) (now (image .entry)) (now (memory .exit))
+    ensures { λ r. ⌜ returned r nothing nothing 0 0 (now (written .entry)) (now (image .entry)) (now (memory .exit))
         ≡ exported (calls.writing segment (now (handle .entry)) (now (written .entry))) (now (image .entry)) (now (memory .entry)) ⌝ }
 {
-    let h = *handle;
-    let o = look_up(image, memory.len(), h);
-    let sound = o.sound;
-    if !sound {
-        return UNSOUND;
+    let o = look_up(image, memory.len(), handle);
+    let refused = o.refused;
+    if refused != 0 {
+        return refused;
     }
     let answer = cluster::write(true, o.handle, o.cluster, memory, segment, written);
     answer.number
@@ -97,7 +91,7 @@ pub extern "C" fn gelmuszta_look(
     memory: &[u8],
     current: usize,
     segment: usize,
-    handle: &HandleBytes,
+    handle: &[u8],
     from: &mut usize,
     length: &mut usize,
 ) -> u8
@@ -106,13 +100,12 @@ pub extern "C" fn gelmuszta_look(
     ensures place { λ _. ⌜ partFrom (now (from .exit)) (now (length .exit))
         ≡ exportedPart (calls.looking current segment (now (handle .entry))) (now (image .entry)) (lists.length (now (memory .entry))) ⌝ }
 {
-    let h = *handle;
-    let o = look_up(image, memory.len(), h);
-    let sound = o.sound;
-    if !sound {
+    let o = look_up(image, memory.len(), handle);
+    let refused = o.refused;
+    if refused != 0 {
         *from = 0;
         *length = 0;
-        return UNSOUND;
+        return refused;
     }
     let looked = cluster::look(true, o.handle, o.cluster, current, segment);
     let part = looked.part;

@@ -2,20 +2,18 @@
 use crate::look_up;
 use handle::HANDLE_BYTES;
 use handle::Handle;
-use handle::HandleBytes;
 use image::IMAGE;
-use numbers::UNSOUND;
+use numbers::LENGTH;
 use sizes::Password;
 ghost use mathlib.Core.Path.{_≡_};
 ghost use mathlib.Core.List.{[]};
 ghost use Rattle.handle.specs.Conversion.{conversion};
 ghost use Rattle.calls.specs.Calls as calls;
-ghost use Rattle.calls.specs.Steps.{zeroHandle};
-ghost use Rattle.gelmuszta.specs.Exported.{replyOf, returned, exported, Always};
+ghost use Rattle.gelmuszta.specs.Exported.{handed, nothing, replyOf, returned, exported, Always};
 
 // The password that a parameter turns a password into.
 #[no_mangle]
-pub extern "C" fn gelmuszta_convert(password: &Password, parameter: u8, converted: &mut Password)
+pub extern "C" fn gelmuszta_convert(password: &Password, parameter: u16, converted: &mut Password)
     ensures { λ _. ⌜ now (converted .exit) ≡ conversion (now (password .entry)) parameter ⌝ }
 {
     let p = *password;
@@ -27,18 +25,20 @@ pub extern "C" fn gelmuszta_convert(password: &Password, parameter: u8, converte
 // Call 7: the handle weakened by a mask, and how many segments it references. It sees no store.
 #[no_mangle]
 pub extern "C" fn gelmuszta_weaken(
-    handle: &HandleBytes,
-    mask: u8,
-    given: &mut HandleBytes,
+    handle: &[u8],
+    mask: u16,
+    given: &mut [u8; HANDLE_BYTES],
+    given_length: &mut usize,
     count: &mut u8,
 ) -> u8
     ensures { λ r. ⌜ Always (calls.weakeningBy mask (now (handle .entry)))
-        (replyOf r (now (given .exit)) zeroHandle (now (count .exit)) 0 []) ⌝ }
+        (replyOf r (handed (now (given .exit)) (now («given_length» .exit))) nothing (now (count .exit)) 0 []) ⌝ }
 {
-    let h = *handle;
-    let answer = cluster::weaken(h, mask);
-    let g = answer.first;
-    *given = g;
+    let answer = cluster::weaken(handle, mask);
+    let first = answer.first;
+    let bytes = first.bytes;
+    *given = bytes;
+    *given_length = first.length;
     *count = answer.count;
     answer.number
 }
@@ -49,22 +49,25 @@ pub extern "C" fn gelmuszta_reduce(
     image: &[u8; IMAGE],
     memory: &[u8],
     mode: usize,
-    handle: &HandleBytes,
-    given: &mut HandleBytes,
+    handle: &[u8],
+    given: &mut [u8; HANDLE_BYTES],
+    given_length: &mut usize,
 ) -> u8
-    ensures { λ r. ⌜ returned r (now (given .exit)) zeroHandle 0 0 [] (now (image .entry)) (now (memory .entry))
+    ensures { λ r. ⌜ returned r (handed (now (given .exit)) (now («given_length» .exit))) nothing 0 0 [] (now (image .entry)) (now (memory .entry))
         ≡ exported (calls.reducing mode (now (handle .entry))) (now (image .entry)) (now (memory .entry)) ⌝ }
 {
-    let h = *handle;
-    let o = look_up(image, memory.len(), h);
-    let sound = o.sound;
-    if !sound {
+    let o = look_up(image, memory.len(), handle);
+    let refused = o.refused;
+    if refused != 0 {
         *given = [0; HANDLE_BYTES];
-        return UNSOUND;
+        *given_length = 0;
+        return refused;
     }
     let answer = cluster::reduce(true, o.handle, o.cluster, mode);
-    let g = answer.first;
-    *given = g;
+    let first = answer.first;
+    let bytes = first.bytes;
+    *given = bytes;
+    *given_length = first.length;
     answer.number
 }
 
@@ -74,24 +77,31 @@ pub extern "C" fn gelmuszta_join(
     image: &[u8; IMAGE],
     memory: &[u8],
     mode: usize,
-    handle: &HandleBytes,
-    other: &HandleBytes,
-    given: &mut HandleBytes,
+    handle: &[u8],
+    other: &[u8],
+    given: &mut [u8; HANDLE_BYTES],
+    given_length: &mut usize,
 ) -> u8
-    ensures { λ r. ⌜ returned r (now (given .exit)) zeroHandle 0 0 [] (now (image .entry)) (now (memory .entry))
+    ensures { λ r. ⌜ returned r (handed (now (given .exit)) (now («given_length» .exit))) nothing 0 0 [] (now (image .entry)) (now (memory .entry))
         ≡ exported (calls.joining mode (now (handle .entry)) (now (other .entry))) (now (image .entry)) (now (memory .entry)) ⌝ }
 {
-    let h = *handle;
-    let k = *other;
-    let o = look_up(image, memory.len(), h);
-    let sound = o.sound;
-    if !sound {
+    let o = look_up(image, memory.len(), handle);
+    let second = Handle::decode(other);
+    if second.has_width(0) {
         *given = [0; HANDLE_BYTES];
-        return UNSOUND;
+        *given_length = 0;
+        return LENGTH;
     }
-    let second = Handle::decode(k);
+    let refused = o.refused;
+    if refused != 0 {
+        *given = [0; HANDLE_BYTES];
+        *given_length = 0;
+        return refused;
+    }
     let answer = cluster::join(true, o.handle, second, o.cluster, mode);
-    let g = answer.first;
-    *given = g;
+    let first = answer.first;
+    let bytes = first.bytes;
+    *given = bytes;
+    *given_length = first.length;
     answer.number
 }

@@ -1,13 +1,17 @@
 // The guard for callers in C or Rust: the calls of documents 01 and 02, and the look, over bytes alone. The store is
-// its image of 2,336 bytes, the memory a lent slice; a handle is 23 bytes, a password sixteen. Each function returns the
-// number of the table, and gives zero handles, counts, lengths and places with a refusal. An image that holds no store is
-// refused with 1. A call judges soundness on the image's bytes, reads the record of its cluster, has the core (`cluster`) do
+// its image of 3,648 bytes, the memory a lent slice; a handle comes as bytes of any length and is given as 27 bytes and a
+// length, a password has sixteen bytes. Each function returns the number of the table, and gives no handle and zero counts,
+// lengths and places with a refusal. A handle of none of the three lengths is refused with 25, an image that holds no store
+// with 1. A call judges soundness on the image's bytes, reads the record of its cluster, has the core (`cluster`) do
 // the call on it, and writes it back.
 use calls::RecordLeft;
 use handle::Handle;
-use handle::HandleBytes;
 use image::IMAGE;
+use numbers::LENGTH;
+use numbers::UNSOUND;
 use store::Cluster;
+ghost use mathlib.Core.Path.{_≡_};
+ghost use Rattle.gelmuszta.specs.Exported as exported;
 ghost use Rattle.gelmuszta.specs.inner.Opened as opened;
 
 mod bytes; // bytes.rt: calls 3, 5 and 6, which use the memory's bytes, and the look, which tells where they lie
@@ -51,25 +55,42 @@ fn locate(image: &[u8; IMAGE], size: usize, node: usize, local: usize) -> Locate
     Located { at, cluster, sound }
 }
 
-// The same for the cluster that a handle names, and the handle.
+// The same for the cluster that a handle names, the handle, and what its length and the image are turned down with before
+// all else.
 struct Opened {
     handle: Handle,
     at: usize,
     cluster: Cluster,
     sound: bool,
+    refused: u8,
 }
 
-fn look_up(image: &[u8; IMAGE], size: usize, bytes: HandleBytes) -> Opened
-    ensures { λ r. ⌜ opened.Opens r (now (image .entry)) size bytes ⌝ }
+// What comes before all else: 25 where there is no handle, 1 where there is no sound store; or 0.
+fn early(none: bool, sound: bool) -> u8
+    ensures { λ r. ⌜ r ≡ exported.early none sound ⌝ }
+{
+    if none {
+        return LENGTH;
+    }
+    if !sound {
+        return UNSOUND;
+    }
+    0
+}
+
+fn look_up(image: &[u8; IMAGE], size: usize, bytes: &[u8]) -> Opened
+    ensures { λ r. ⌜ opened.Opens r (now (image .entry)) size (now (bytes .entry)) ⌝ }
 {
     let handle = Handle::decode(bytes);
     let l = locate(image, size, handle.node(), handle.local as usize);
     let cluster = l.cluster;
+    let refused = early(handle.has_width(0), l.sound);
     Opened {
         handle,
         at: l.at,
         cluster,
         sound: l.sound,
+        refused,
     }
 }
 

@@ -3,47 +3,54 @@ use crate::keep;
 use crate::locate;
 use crate::look_up;
 use handle::HANDLE_BYTES;
-use handle::HandleBytes;
 use image::IMAGE;
 use numbers::UNSOUND;
 use sizes::Password;
 ghost use mathlib.Core.Path.{_≡_};
 ghost use mathlib.Core.List.{[]};
 ghost use Rattle.calls.specs.Calls as calls;
-ghost use Rattle.calls.specs.Steps.{zeroHandle};
-ghost use Rattle.gelmuszta.specs.Exported.{returned, exported};
+ghost use Rattle.gelmuszta.specs.Exported.{handed, nothing, returned, exported};
 
-// Call 1: a cluster of the current node becomes active; its read and its write primary handle.
+// Call 1: a cluster of the current node becomes active with a width; its read and its write primary handle.
 #[no_mangle]
 pub extern "C" fn gelmuszta_new_cluster(
     image: &mut [u8; IMAGE],
     memory: &[u8],
     current: usize,
     local: usize,
+    width: usize,
     read: &Password,
     write: &Password,
-    first: &mut HandleBytes,
-    second: &mut HandleBytes,
+    first: &mut [u8; HANDLE_BYTES],
+    first_length: &mut usize,
+    second: &mut [u8; HANDLE_BYTES],
+    second_length: &mut usize,
 ) -> u8
-    ensures { λ r. ⌜ returned r (now (first .exit)) (now (second .exit)) 0 0 [] (now (image .exit)) (now (memory .entry))
-        ≡ exported (calls.makingCluster current local (now (read .entry)) (now (write .entry))) (now (image .entry)) (now (memory .entry)) ⌝ }
+    ensures { λ r. ⌜ returned r (handed (now (first .exit)) (now («first_length» .exit))) (handed (now (second .exit)) (now («second_length» .exit))) 0 0 [] (now (image .exit)) (now (memory .entry))
+        ≡ exported (calls.makingCluster current local width (now (read .entry)) (now (write .entry))) (now (image .entry)) (now (memory .entry)) ⌝ }
 {
     let l = locate(image, memory.len(), current, local);
     let sound = l.sound;
     if !sound {
         *first = [0; HANDLE_BYTES];
+        *first_length = 0;
         *second = [0; HANDLE_BYTES];
+        *second_length = 0;
         return UNSOUND;
     }
     let r = *read;
     let w = *write;
-    let left = cluster::new_cluster(true, l.cluster, current, local, r, w);
+    let left = cluster::new_cluster(true, l.cluster, current, local, width, r, w);
     keep(left, l.at, image);
     let answer = left.answer;
     let a = answer.first;
     let b = answer.second;
-    *first = a;
-    *second = b;
+    let x = a.bytes;
+    let y = b.bytes;
+    *first = x;
+    *first_length = a.length;
+    *second = y;
+    *second_length = b.length;
     answer.number
 }
 
@@ -53,16 +60,15 @@ pub extern "C" fn gelmuszta_delete_cluster(
     image: &mut [u8; IMAGE],
     memory: &[u8],
     current: usize,
-    handle: &HandleBytes,
+    handle: &[u8],
 ) -> u8
-    ensures { λ r. ⌜ returned r zeroHandle zeroHandle 0 0 [] (now (image .exit)) (now (memory .entry))
+    ensures { λ r. ⌜ returned r nothing nothing 0 0 [] (now (image .exit)) (now (memory .entry))
         ≡ exported (calls.deletingCluster current (now (handle .entry))) (now (image .entry)) (now (memory .entry)) ⌝ }
 {
-    let h = *handle;
-    let o = look_up(image, memory.len(), h);
-    let sound = o.sound;
-    if !sound {
-        return UNSOUND;
+    let o = look_up(image, memory.len(), handle);
+    let refused = o.refused;
+    if refused != 0 {
+        return refused;
     }
     let left = cluster::delete_cluster(true, o.handle, o.cluster, current);
     keep(left, o.at, image);
@@ -77,16 +83,15 @@ pub extern "C" fn gelmuszta_delete_segment(
     memory: &[u8],
     current: usize,
     segment: usize,
-    handle: &HandleBytes,
+    handle: &[u8],
 ) -> u8
-    ensures { λ r. ⌜ returned r zeroHandle zeroHandle 0 0 [] (now (image .exit)) (now (memory .entry))
+    ensures { λ r. ⌜ returned r nothing nothing 0 0 [] (now (image .exit)) (now (memory .entry))
         ≡ exported (calls.deletingSegment current segment (now (handle .entry))) (now (image .entry)) (now (memory .entry)) ⌝ }
 {
-    let h = *handle;
-    let o = look_up(image, memory.len(), h);
-    let sound = o.sound;
-    if !sound {
-        return UNSOUND;
+    let o = look_up(image, memory.len(), handle);
+    let refused = o.refused;
+    if refused != 0 {
+        return refused;
     }
     let left = cluster::delete_segment(true, o.handle, o.cluster, current, segment);
     keep(left, o.at, image);
@@ -100,26 +105,29 @@ pub extern "C" fn gelmuszta_new_password(
     image: &mut [u8; IMAGE],
     memory: &[u8],
     mode: usize,
-    handle: &HandleBytes,
+    handle: &[u8],
     password: &Password,
-    given: &mut HandleBytes,
+    given: &mut [u8; HANDLE_BYTES],
+    given_length: &mut usize,
 ) -> u8
-    ensures { λ r. ⌜ returned r (now (given .exit)) zeroHandle 0 0 [] (now (image .exit)) (now (memory .entry))
+    ensures { λ r. ⌜ returned r (handed (now (given .exit)) (now («given_length» .exit))) nothing 0 0 [] (now (image .exit)) (now (memory .entry))
         ≡ exported (calls.renewing mode (now (handle .entry)) (now (password .entry))) (now (image .entry)) (now (memory .entry)) ⌝ }
 {
-    let h = *handle;
-    let o = look_up(image, memory.len(), h);
-    let sound = o.sound;
-    if !sound {
+    let o = look_up(image, memory.len(), handle);
+    let refused = o.refused;
+    if refused != 0 {
         *given = [0; HANDLE_BYTES];
-        return UNSOUND;
+        *given_length = 0;
+        return refused;
     }
     let p = *password;
     let left = cluster::new_password(true, o.handle, o.cluster, mode, p);
     keep(left, o.at, image);
     let answer = left.answer;
-    let g = answer.first;
-    *given = g;
+    let first = answer.first;
+    let bytes = first.bytes;
+    *given = bytes;
+    *given_length = first.length;
     answer.number
 }
 
@@ -130,16 +138,15 @@ pub extern "C" fn gelmuszta_freeze(
     memory: &[u8],
     current: usize,
     segment: usize,
-    handle: &HandleBytes,
+    handle: &[u8],
 ) -> u8
-    ensures { λ r. ⌜ returned r zeroHandle zeroHandle 0 0 [] (now (image .exit)) (now (memory .entry))
+    ensures { λ r. ⌜ returned r nothing nothing 0 0 [] (now (image .exit)) (now (memory .entry))
         ≡ exported (calls.freezing current segment (now (handle .entry))) (now (image .entry)) (now (memory .entry)) ⌝ }
 {
-    let h = *handle;
-    let o = look_up(image, memory.len(), h);
-    let sound = o.sound;
-    if !sound {
-        return UNSOUND;
+    let o = look_up(image, memory.len(), handle);
+    let refused = o.refused;
+    if refused != 0 {
+        return refused;
     }
     let left = cluster::freeze(true, o.handle, o.cluster, current, segment);
     keep(left, o.at, image);

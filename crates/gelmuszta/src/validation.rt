@@ -1,19 +1,16 @@
 // Validation of one handle, and of many against one store: it is judged sound, and the cipher's tables are taken, once.
 use crate::look_up;
 use aes::Tables;
-use handle::HANDLE_BYTES;
 use handle::Handle;
-use handle::HandleBytes;
+use handle::Width;
 use image::IMAGE;
 ghost use mathlib.Core.Path.{_≡_};
 ghost use mathlib.Core.List.{[]};
 ghost use Prim.Native.Nat.{_*_, _≤_};
 ghost use lib.ListN.{length};
 ghost use Rattle.aes.specs.Tables.{IsTables};
-ghost use Rattle.handle.specs.Sizes.{handleBytes};
 ghost use Rattle.calls.specs.Calls as calls;
-ghost use Rattle.calls.specs.Steps.{zeroHandle};
-ghost use Rattle.gelmuszta.specs.Exported.{returned, exported};
+ghost use Rattle.gelmuszta.specs.Exported.{nothing, returned, exported};
 ghost use Rattle.gelmuszta.specs.Validation as spec;
 
 // Validation asked for by itself: the number that reduction would give.
@@ -22,14 +19,13 @@ pub extern "C" fn gelmuszta_validate(
     image: &[u8; IMAGE],
     memory: &[u8],
     mode: usize,
-    handle: &HandleBytes,
+    handle: &[u8],
 ) -> u8
-    ensures { λ r. ⌜ returned r zeroHandle zeroHandle 0 0 [] (now (image .entry)) (now (memory .entry))
+    ensures { λ r. ⌜ returned r nothing nothing 0 0 [] (now (image .entry)) (now (memory .entry))
         ≡ exported (calls.validating mode (now (handle .entry))) (now (image .entry)) (now (memory .entry)) ⌝ }
 {
     let tables = aes::tables();
-    let h = *handle;
-    let o = look_up(image, memory.len(), h);
+    let o = look_up(image, memory.len(), handle);
     cluster::validate(&tables, o.sound, o.handle, o.cluster, mode)
 }
 
@@ -48,40 +44,64 @@ fn judge(
     sound: bool,
     image: &[u8; IMAGE],
     mode: usize,
+    each: usize,
     handles: &[u8],
     numbers: &mut [u8],
 )
     requires tables { ⌜ IsTables (now tables) ⌝ }
-    requires enough { ⌜ length (now numbers) * handleBytes ≤ length (now handles) ⌝ }
-    ensures { λ _. ⌜ spec.Judged sound (now (image .entry)) mode (now (handles .entry)) (now (numbers .entry)) (now (numbers .exit)) ⌝ }
+    requires enough { ⌜ length (now numbers) * each ≤ length (now handles) ⌝ }
+    ensures { λ _. ⌜ spec.Judged sound (now (image .entry)) mode each (now (handles .entry)) (now (numbers .entry)) (now (numbers .exit)) ⌝ }
 {
     let mut i: usize = 0;
     while i < numbers.len() {
-        let from = i * HANDLE_BYTES;
-        let to = from + HANDLE_BYTES;
-        let handle = Handle::decode(handle::bytes_in(&handles[from..to]));
+        let from = i * each;
+        let to = from + each;
+        let handle = Handle::decode(&handles[from..to]);
         let cluster = image::record_in(image, handle.node(), handle.local as usize);
         numbers[i] = cluster::validate(tables, sound, handle, cluster, mode);
         i += 1;
     }
 }
 
-// The numbers that validation gives to handles of 23 bytes each, one after the other: as many as `handles` has whole and
-// `numbers` has places for. How many these are is returned; the places behind stay as they were.
+// How many handles of `each` bytes there are among so many bytes.
+fn whole(each: usize, bytes: usize) -> usize
+    ensures { λ r. ⌜ r ≡ spec.whole each bytes ⌝ }
+{
+    if each == 0 {
+        return 0;
+    }
+    bytes / each
+}
+
+// The numbers that validation gives to handles of one width, one after the other: as many as `handles` has whole and
+// `numbers` has places for. How many these are is returned; the places behind stay as they were. Where the width is none of
+// the three, no handle is judged.
 #[no_mangle]
 pub extern "C" fn gelmuszta_validate_all(
     image: &[u8; IMAGE],
     memory: &[u8],
     mode: usize,
+    width: usize,
     handles: &[u8],
     numbers: &mut [u8],
 ) -> usize
-    ensures told { λ r. ⌜ r ≡ spec.asMany (now (handles .entry)) (now (numbers .entry)) ⌝ }
-    ensures numbers { λ _. ⌜ now (numbers .exit) ≡ spec.numbersOf (now (image .entry)) (now (memory .entry)) mode (now (handles .entry)) (now (numbers .entry)) ⌝ }
+    ensures told { λ r. ⌜ r ≡ spec.asMany (spec.each width) (now (handles .entry)) (now (numbers .entry)) ⌝ }
+    ensures numbers { λ _. ⌜ now (numbers .exit)
+        ≡ spec.numbersOf (now (image .entry)) (now (memory .entry)) mode (spec.each width) (now (handles .entry)) (now (numbers .entry)) ⌝ }
 {
     let tables = aes::tables();
     let sound = image::sound_in(image, memory.len());
-    let count = fewer(handles.len() / HANDLE_BYTES, numbers.len());
-    judge(&tables, sound, image, mode, handles, &mut numbers[0..count]);
+    let kind = Width::from_bits(width);
+    let each = kind.length();
+    let count = fewer(whole(each, handles.len()), numbers.len());
+    judge(
+        &tables,
+        sound,
+        image,
+        mode,
+        each,
+        handles,
+        &mut numbers[0..count],
+    );
     count
 }

@@ -9,7 +9,6 @@ use calls::Part;
 use calls::RecordLeft;
 use calls::unchanged;
 use handle::Handle;
-use handle::HandleBytes;
 use sizes::Password;
 use store::Cluster;
 use store::Store;
@@ -38,8 +37,8 @@ struct Opened {
     sound: bool,
 }
 
-fn look_up(store: Store, size: usize, bytes: HandleBytes) -> Opened
-    ensures { λ r. ⌜ Opens r store size bytes ⌝ }
+fn look_up(store: Store, size: usize, bytes: &[u8]) -> Opened
+    ensures { λ r. ⌜ Opens r store size (now (bytes .entry)) ⌝ }
 {
     let handle = Handle::decode(bytes);
     let at = store::record_at(handle.node(), handle.local as usize);
@@ -68,29 +67,31 @@ fn put_back(store: Store, at: usize, left: RecordLeft) -> Left
     }
 }
 
-// Call 1: a cluster of the current node becomes active with two passwords; its read and its write primary handle.
+// Call 1: a cluster of the current node becomes active with a width and two passwords; its read and its write primary
+// handle.
 pub fn new_cluster(
     store: Store,
     memory: &[u8],
     current: usize,
     local: usize,
+    width: usize,
     read: Password,
     write: Password,
 ) -> Left
     ensures { λ r. ⌜ ended (r .store) (now (memory .entry)) (r .answer) []
-        ≡ aesStep (calls.makingCluster current local read write) (copyOf store (now (memory .entry))) ⌝ }
+        ≡ aesStep (calls.makingCluster current local width read write) (copyOf store (now (memory .entry))) ⌝ }
 {
     let at = store::record_at(current, local);
     let cluster = store.clusters[at];
     let sound = store::sound(store, memory.len());
-    let left = cluster::new_cluster(sound, cluster, current, local, read, write);
+    let left = cluster::new_cluster(sound, cluster, current, local, width, read, write);
     put_back(store, at, left)
 }
 
 // Call 2: the cluster's record becomes that of the starting store, unless a segment of it is frozen.
-pub fn delete_cluster(store: Store, memory: &[u8], current: usize, bytes: HandleBytes) -> Left
+pub fn delete_cluster(store: Store, memory: &[u8], current: usize, bytes: &[u8]) -> Left
     ensures { λ r. ⌜ ended (r .store) (now (memory .entry)) (r .answer) []
-        ≡ aesStep (calls.deletingCluster current bytes) (copyOf store (now (memory .entry))) ⌝ }
+        ≡ aesStep (calls.deletingCluster current (now (bytes .entry))) (copyOf store (now (memory .entry))) ⌝ }
 {
     let o = look_up(store, memory.len(), bytes);
     let left = cluster::delete_cluster(o.sound, o.handle, o.cluster, current);
@@ -104,10 +105,10 @@ pub fn new_segment(
     current: usize,
     segment: usize,
     size: usize,
-    bytes: HandleBytes,
+    bytes: &[u8],
 ) -> Left
     ensures { λ r. ⌜ ended (r .store) (now (memory .exit)) (r .answer) []
-        ≡ aesStep (calls.makingSegment current segment size bytes) (copyOf store (now (memory .entry))) ⌝ }
+        ≡ aesStep (calls.makingSegment current segment size (now (bytes .entry))) (copyOf store (now (memory .entry))) ⌝ }
 {
     let o = look_up(store, memory.len(), bytes);
     let handle = o.handle;
@@ -126,10 +127,10 @@ pub fn delete_segment(
     memory: &[u8],
     current: usize,
     segment: usize,
-    bytes: HandleBytes,
+    bytes: &[u8],
 ) -> Left
     ensures { λ r. ⌜ ended (r .store) (now (memory .entry)) (r .answer) []
-        ≡ aesStep (calls.deletingSegment current segment bytes) (copyOf store (now (memory .entry))) ⌝ }
+        ≡ aesStep (calls.deletingSegment current segment (now (bytes .entry))) (copyOf store (now (memory .entry))) ⌝ }
 {
     let o = look_up(store, memory.len(), bytes);
     let left = cluster::delete_segment(o.sound, o.handle, o.cluster, current, segment);
@@ -137,15 +138,9 @@ pub fn delete_segment(
 }
 
 // Call 5: the first bytes of the buffer become those of the segment, and its length is told.
-pub fn read(
-    store: Store,
-    memory: &[u8],
-    buffer: &mut [u8],
-    segment: usize,
-    bytes: HandleBytes,
-) -> Answer
+pub fn read(store: Store, memory: &[u8], buffer: &mut [u8], segment: usize, bytes: &[u8]) -> Answer
     ensures { λ r. ⌜ ended store (now (memory .entry)) r (now (buffer .exit))
-        ≡ aesStep (calls.reading segment bytes (now (buffer .entry))) (copyOf store (now (memory .entry))) ⌝ }
+        ≡ aesStep (calls.reading segment (now (bytes .entry)) (now (buffer .entry))) (copyOf store (now (memory .entry))) ⌝ }
 {
     let o = look_up(store, memory.len(), bytes);
     cluster::read(o.sound, o.handle, o.cluster, memory, buffer, segment)
@@ -156,20 +151,20 @@ pub fn write(
     store: Store,
     memory: &mut [u8],
     segment: usize,
-    bytes: HandleBytes,
+    bytes: &[u8],
     written: &[u8],
 ) -> Answer
     ensures { λ r. ⌜ ended store (now (memory .exit)) r (now (written .entry))
-        ≡ aesStep (calls.writing segment bytes (now (written .entry))) (copyOf store (now (memory .entry))) ⌝ }
+        ≡ aesStep (calls.writing segment (now (bytes .entry)) (now (written .entry))) (copyOf store (now (memory .entry))) ⌝ }
 {
     let o = look_up(store, memory.len(), bytes);
     cluster::write(o.sound, o.handle, o.cluster, memory, segment, written)
 }
 
 // Call 8: the handle reduced in the mode named.
-pub fn reduce(store: Store, memory: &[u8], mode: usize, bytes: HandleBytes) -> Answer
+pub fn reduce(store: Store, memory: &[u8], mode: usize, bytes: &[u8]) -> Answer
     ensures { λ r. ⌜ ended store (now (memory .entry)) r []
-        ≡ aesStep (calls.reducing mode bytes) (copyOf store (now (memory .entry))) ⌝ }
+        ≡ aesStep (calls.reducing mode (now (bytes .entry))) (copyOf store (now (memory .entry))) ⌝ }
 {
     let o = look_up(store, memory.len(), bytes);
     cluster::reduce(o.sound, o.handle, o.cluster, mode)
@@ -180,11 +175,11 @@ pub fn new_password(
     store: Store,
     memory: &[u8],
     mode: usize,
-    bytes: HandleBytes,
+    bytes: &[u8],
     password: Password,
 ) -> Left
     ensures { λ r. ⌜ ended (r .store) (now (memory .entry)) (r .answer) []
-        ≡ aesStep (calls.renewing mode bytes password) (copyOf store (now (memory .entry))) ⌝ }
+        ≡ aesStep (calls.renewing mode (now (bytes .entry)) password) (copyOf store (now (memory .entry))) ⌝ }
 {
     let o = look_up(store, memory.len(), bytes);
     let left = cluster::new_password(o.sound, o.handle, o.cluster, mode, password);
@@ -192,15 +187,9 @@ pub fn new_password(
 }
 
 // Call 10: the segment is frozen where it lies; one that is frozen already stays so.
-pub fn freeze(
-    store: Store,
-    memory: &[u8],
-    current: usize,
-    segment: usize,
-    bytes: HandleBytes,
-) -> Left
+pub fn freeze(store: Store, memory: &[u8], current: usize, segment: usize, bytes: &[u8]) -> Left
     ensures { λ r. ⌜ ended (r .store) (now (memory .entry)) (r .answer) []
-        ≡ aesStep (calls.freezing current segment bytes) (copyOf store (now (memory .entry))) ⌝ }
+        ≡ aesStep (calls.freezing current segment (now (bytes .entry))) (copyOf store (now (memory .entry))) ⌝ }
 {
     let o = look_up(store, memory.len(), bytes);
     let left = cluster::freeze(o.sound, o.handle, o.cluster, current, segment);
@@ -208,15 +197,9 @@ pub fn freeze(
 }
 
 // Call 11: two handles of one cluster joined in the mode named.
-pub fn join(
-    store: Store,
-    memory: &[u8],
-    mode: usize,
-    bytes: HandleBytes,
-    other: HandleBytes,
-) -> Answer
+pub fn join(store: Store, memory: &[u8], mode: usize, bytes: &[u8], other: &[u8]) -> Answer
     ensures { λ r. ⌜ ended store (now (memory .entry)) r []
-        ≡ aesStep (calls.joining mode bytes other) (copyOf store (now (memory .entry))) ⌝ }
+        ≡ aesStep (calls.joining mode (now (bytes .entry)) (now (other .entry))) (copyOf store (now (memory .entry))) ⌝ }
 {
     let o = look_up(store, memory.len(), bytes);
     let second = Handle::decode(other);
@@ -224,8 +207,8 @@ pub fn join(
 }
 
 // Validation asked for by itself: the number that reduction would give.
-pub fn validate(store: Store, memory: &[u8], mode: usize, bytes: HandleBytes) -> u8
-    ensures { λ r. ⌜ r ≡ aesStep (calls.validating mode bytes) (copyOf store (now (memory .entry))) .reply .number ⌝ }
+pub fn validate(store: Store, memory: &[u8], mode: usize, bytes: &[u8]) -> u8
+    ensures { λ r. ⌜ r ≡ aesStep (calls.validating mode (now (bytes .entry))) (copyOf store (now (memory .entry))) .reply .number ⌝ }
 {
     let tables = aes::tables();
     let o = look_up(store, memory.len(), bytes);
@@ -233,8 +216,8 @@ pub fn validate(store: Store, memory: &[u8], mode: usize, bytes: HandleBytes) ->
 }
 
 // What a look tells: its number, and where in the memory the segment lies; of a refused look a part of no bytes.
-fn looked(store: Store, size: usize, current: usize, segment: usize, bytes: HandleBytes) -> Looked
-    ensures { λ r. ⌜ r ≡ aesLooked (calls.looking current segment bytes) store size ⌝ }
+fn looked(store: Store, size: usize, current: usize, segment: usize, bytes: &[u8]) -> Looked
+    ensures { λ r. ⌜ r ≡ aesLooked (calls.looking current segment (now (bytes .entry))) store size ⌝ }
 {
     let o = look_up(store, size, bytes);
     cluster::look(o.sound, o.handle, o.cluster, current, segment)
@@ -242,28 +225,16 @@ fn looked(store: Store, size: usize, current: usize, segment: usize, bytes: Hand
 
 // Where the part that a look shows begins and ends in the memory. The records and the length of the memory tell it: no byte
 // of it is lent.
-pub fn look_part(
-    store: Store,
-    size: usize,
-    current: usize,
-    segment: usize,
-    bytes: HandleBytes,
-) -> Part
-    ensures { λ r. ⌜ r ≡ aesLooked (calls.looking current segment bytes) store size .part ⌝ }
+pub fn look_part(store: Store, size: usize, current: usize, segment: usize, bytes: &[u8]) -> Part
+    ensures { λ r. ⌜ r ≡ aesLooked (calls.looking current segment (now (bytes .entry))) store size .part ⌝ }
 {
     let l = looked(store, size, current, segment, bytes);
     l.part
 }
 
 // The number of a look.
-pub fn look_number(
-    store: Store,
-    memory: &[u8],
-    current: usize,
-    segment: usize,
-    bytes: HandleBytes,
-) -> u8
-    ensures { λ r. ⌜ r ≡ aesStep (calls.looking current segment bytes) (copyOf store (now (memory .entry))) .reply .number ⌝ }
+pub fn look_number(store: Store, memory: &[u8], current: usize, segment: usize, bytes: &[u8]) -> u8
+    ensures { λ r. ⌜ r ≡ aesStep (calls.looking current segment (now (bytes .entry))) (copyOf store (now (memory .entry))) .reply .number ⌝ }
 {
     let l = looked(store, memory.len(), current, segment, bytes);
     l.number
@@ -276,11 +247,11 @@ pub fn look<'a>(
     memory: &'a [u8],
     current: usize,
     segment: usize,
-    bytes: HandleBytes,
+    bytes: &[u8],
 ) -> &'a [u8]
-    ensures shown { λ r. ⌜ now r ≡ aesStep (calls.looking current segment bytes) (copyOf store (now (memory .entry))) .reply .shown ⌝ }
+    ensures shown { λ r. ⌜ now r ≡ aesStep (calls.looking current segment (now (bytes .entry))) (copyOf store (now (memory .entry))) .reply .shown ⌝ }
     ensures place { λ r. ⌜ ptr r
-        ≡ further (ptr (memory .entry)) (aesLooked (calls.looking current segment bytes) store (length (now (memory .entry))) .part .from) ⌝ }
+        ≡ further (ptr (memory .entry)) (aesLooked (calls.looking current segment (now (bytes .entry))) store (length (now (memory .entry))) .part .from) ⌝ }
 {
     let part = look_part(store, memory.len(), current, segment, bytes);
     let from = part.from;

@@ -13,7 +13,7 @@ use Rattle.handle.specs.declared.Handle.{Handle}
 use Rattle.handle.specs.declared.Weakened.{Weakened}
 use Rattle.numbers.specs.Numbers.{emptyNumber}
 use Rattle.handle.specs.Selectors.{references, keeps, gapped, keepsNone, spent, referenced}
-use Rattle.handle.specs.Handles.{noSuchPlace, reply, weakenNumber, weakened, weakening}
+use Rattle.handle.specs.Handles.{noWidth, noSuchPlace, reply, weakenNumber, weakened, weakening}
 use Rattle.handle.specs.Empty.{NoneLeft, SomeLeft, DoneReferences}
 use Rattle.handle.proofs.HandleLaws.{telling, some-kept, unspent, references-weakened}
 
@@ -40,24 +40,28 @@ module _ (w : ℕ) (f : List ℕ → ℕ → List ℕ) (h : Handle) (mask : ℕ)
           go true e = refl
           go false e = absurd (found (count-out w kept e))
 
-  -- ---- 21, among the four rows
+  -- ---- 21, among the five rows
 
   pub empty-out : weakenNumber w h mask ≡ emptyNumber
-      → (noSuchPlace h ≡ false) × (gapped w (h .selector) ≡ false) × (keepsNone w mask (h .selector) ≡ true)
+      → (noWidth h ≡ false) × (noSuchPlace h ≡ false) × (gapped w (h .selector) ≡ false)
+      × (keepsNone w mask (h .selector) ≡ true)
   unfolding weakenNumber
-  empty-out e = go (noSuchPlace h) (gapped w (h .selector)) (keepsNone w mask (h .selector)) (spent w mask (h .selector)) e
+  empty-out e =
+      go (noWidth h) (noSuchPlace h) (gapped w (h .selector)) (keepsNone w mask (h .selector)) (spent w mask (h .selector)) e
     where
-      go : (a b c d : Bool) → telling a b c d ≡ emptyNumber → (a ≡ false) × (b ≡ false) × (c ≡ true)
-      go true b c d e = absurd (omega arith)
-      go false true c d e = absurd (omega arith)
-      go false false true d e = (refl, refl, refl)
-      go false false false true e = absurd (omega arith)
-      go false false false false e = absurd (omega arith)
+      go : (l a b c d : Bool) → telling l a b c d ≡ emptyNumber
+          → (l ≡ false) × (a ≡ false) × (b ≡ false) × (c ≡ true)
+      go true a b c d e = absurd (omega arith)
+      go false true b c d e = absurd (omega arith)
+      go false false true c d e = absurd (omega arith)
+      go false false false true d e = (refl, refl, refl, refl)
+      go false false false false true e = absurd (omega arith)
+      go false false false false false e = absurd (omega arith)
 
-  pub empty-in : noSuchPlace h ≡ false → gapped w (h .selector) ≡ false → keepsNone w mask (h .selector) ≡ true
-      → weakenNumber w h mask ≡ emptyNumber
+  pub empty-in : noWidth h ≡ false → noSuchPlace h ≡ false → gapped w (h .selector) ≡ false
+      → keepsNone w mask (h .selector) ≡ true → weakenNumber w h mask ≡ emptyNumber
   unfolding weakenNumber
-  empty-in a b c = λ j. telling (a j) (b j) (c j) (spent w mask (h .selector))
+  empty-in l a b c = λ j. telling (l j) (a j) (b j) (c j) (spent w mask (h .selector))
 
   -- ---- a weakening done
 

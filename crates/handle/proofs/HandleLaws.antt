@@ -16,9 +16,9 @@ use Rattle.handle.specs.declared.Handle.{Handle}
 use Rattle.handle.specs.Sizes.{subselectors}
 use Rattle.handle.specs.Selectors.{references, flat, allFlat, anyFlat, gapped, firstFlat, common}
 use Rattle.handle.specs.Selectors.{keepsAll, keepsNone, parameter, replaced, spent, inFirst}
-use Rattle.handle.specs.Handles.{nameOf, renewed, through, weakened, made, reduced}
-use Rattle.numbers.specs.Numbers.{placeNumber, gappedNumber, emptyNumber, spentNumber}
-use Rattle.handle.specs.Handles.{noSuchPlace, weakenNumber}
+use Rattle.handle.specs.Handles.{nameOf, widthOf, renewed, through, weakened, made, reduced}
+use Rattle.numbers.specs.Numbers.{wrongLengthNumber, placeNumber, gappedNumber, emptyNumber, spentNumber}
+use Rattle.handle.specs.Handles.{noWidth, noSuchPlace, weakenNumber}
 use Rattle.handle.specs.Opens.{Whole}
 use Rattle.handle.proofs.SelectorLaws.{replaced-here, replaced-past}
 use Rattle.handle.proofs.SelectorLaws.{references-replaced, gapped-replaced, within-replaced}
@@ -26,28 +26,35 @@ use Rattle.handle.proofs.SelectorLaws.{rest-flat, rest-ungapped, common
 use Rattle.handle.proofs.SelectorLaws.{has-parameter, parameter-not-flat, parameter-lt, keeps-each, kept}
 use Rattle.handle.proofs.SelectorLaws.{references-inFirst, gapped-inFirst}
 
--- the number by the tests of the four rows
-abbrev pub telling : Bool → Bool → Bool → Bool → ℕ
-telling a b c d = cond a placeNumber (cond b gappedNumber (cond c emptyNumber (cond d spentNumber 0)))
+-- the number by the tests of the five rows
+abbrev pub telling : Bool → Bool → Bool → Bool → Bool → ℕ
+telling l a b c d =
+    cond l wrongLengthNumber (cond a placeNumber (cond b gappedNumber (cond c emptyNumber (cond d spentNumber 0))))
 
--- a weakening that is not turned down keeps something and is not spent
+-- a weakening that is not turned down has a handle, keeps something and is not spent
 module _ (w : ℕ) (h : Handle) (mask : ℕ) (e : weakenNumber w h mask ≡ 0) where
-  clear : (keepsNone w mask (h .selector) ≡ false) × (spent w mask (h .selector) ≡ false)
+  clear : (noWidth h ≡ false) × (keepsNone w mask (h .selector) ≡ false) × (spent w mask (h .selector) ≡ false)
   unfolding weakenNumber
-  clear = go (noSuchPlace h) (gapped w (h .selector)) (keepsNone w mask (h .selector)) (spent w mask (h .selector)) e
+  clear =
+      go (noWidth h) (noSuchPlace h) (gapped w (h .selector)) (keepsNone w mask (h .selector))
+      (spent w mask (h .selector)) e
     where
-      go : (a b c d : Bool) → telling a b c d ≡ 0 → (c ≡ false) × (d ≡ false)
-      go true b c d e = absurd (omega arith)
-      go false true c d e = absurd (omega arith)
-      go false false true d e = absurd (omega arith)
-      go false false false true e = absurd (omega arith)
-      go false false false false e = (refl, refl)
+      go : (l a b c d : Bool) → telling l a b c d ≡ 0 → (l ≡ false) × (c ≡ false) × (d ≡ false)
+      go true a b c d e = absurd (omega arith)
+      go false true b c d e = absurd (omega arith)
+      go false false true c d e = absurd (omega arith)
+      go false false false true d e = absurd (omega arith)
+      go false false false false true e = absurd (omega arith)
+      go false false false false false e = (refl, refl, refl)
+
+  pub wide-kept : noWidth h ≡ false
+  wide-kept = clear .0
 
   pub some-kept : keepsNone w mask (h .selector) ≡ false
-  some-kept = clear .0
+  some-kept = clear .1
 
   pub unspent : spent w mask (h .selector) ≡ false
-  unspent = clear .1
+  unspent = clear .2
 
 module _ (w : ℕ) (f : List ℕ → ℕ → List ℕ) where
   -- ---- the chain of conversions
@@ -105,6 +112,9 @@ module _ (w : ℕ) (f : List ℕ → ℕ → List ℕ) where
 
     pub name-weakened : nameOf (weakened w f h mask) ≡ nameOf h
     name-weakened = weakened-cases (λ k. nameOf k ≡ nameOf h) (λ e. refl) (λ e. refl)
+
+    pub width-weakened : widthOf (weakened w f h mask) ≡ widthOf h
+    width-weakened = weakened-cases (λ k. widthOf k ≡ widthOf h) (λ e. refl) (λ e. refl)
 
     pub whole-weakened : Whole w h → Whole w (weakened w f h mask)
     whole-weakened o = weakened-cases (Whole w) (λ e. o) (λ e. record {
@@ -172,6 +182,9 @@ module _ (w : ℕ) (f : List ℕ → ℕ → List ℕ) where
 
     pub name-reduced : nameOf (reduced w f h p) ≡ nameOf h
     name-reduced = reduced-cases h p (λ k. nameOf k ≡ nameOf h) (λ e. refl) (λ e. refl)
+
+    pub width-reduced : widthOf (reduced w f h p) ≡ widthOf h
+    width-reduced = reduced-cases h p (λ k. widthOf k ≡ widthOf h) (λ e. refl) (λ e. refl)
 
     pub whole-reduced : Whole w h → Whole w (reduced w f h p)
     whole-reduced o = reduced-cases h p (Whole w) (λ e. o) (λ e. record {

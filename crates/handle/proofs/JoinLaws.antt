@@ -12,7 +12,7 @@ use Rattle.bits.proofs.SetLaws.{setOf-lt, has-setOf, setOf-same, same-bits}
 use Rattle.bits.proofs.OperationLaws.{has-full, full-lt}
 use Rattle.handle.specs.declared.Handle.{Handle}
 use Rattle.handle.specs.Selectors.{references, either, flat, allFlat, common, union, wholeUnion}
-use Rattle.handle.specs.Handles.{nameOf, made, reduced, joined}
+use Rattle.handle.specs.Handles.{nameOf, widthOf, made, reduced, joined}
 use Rattle.handle.specs.Opens.{Whole, Opens}
 use Rattle.handle.specs.Joins.{NoMore, Joins, JoinsItself}
 use Rattle.handle.proofs.SelectorLaws.{full-flat, common-not-flat, references-flat, references-inFirst, gapped-inFirst}
@@ -29,10 +29,11 @@ no-more false false h = refl
 
 module _ (w : ℕ) (f : List ℕ → ℕ → List ℕ) (p : List ℕ) where
   -- a handle that holds a set by subselector 0 alone
-  opens-made : (h : Handle) (q : ℕ → Bool) → flat w (setOf w q) ≡ false
+  opens-made : (h : Handle) (q : ℕ → Bool) → widthOf h ≡ w → flat w (setOf w q) ≡ false
       → Opens w f (nameOf h) p q (made w f h p (setOf w q))
-  opens-made h q e = record {
+  opens-made h q v e = record {
     named = refl;
+    wide = v;
     whole = record { four = refl; within = (setOf-lt w q, (full-lt w, (full-lt w, (full-lt w, tt)))) };
     ungapped = gapped-inFirst w (setOf w q) e;
     valid = through-inFirst w f (setOf w q) p e;
@@ -62,12 +63,13 @@ module _ (w : ℕ) (f : List ℕ → ℕ → List ℕ) (p : List ℕ) where
         ∙ ap (λ (b : Bool). b || references (k .selector) i) (references-flat w (h .selector) e i l)
         ∙ sym (has-full w i l)))
 
-    swapped : nameOf h ≡ nameOf k → joined w f h k p ≡ joined w f k h p
+    swapped : nameOf h ≡ nameOf k → h .width ≡ k .width → joined w f h k p ≡ joined w f k h p
     unfolding joined
-    swapped e j = record {
+    swapped e v j = record {
       node = e j .node;
       local = e j .local;
       password = made w f h p (union-swapped j) .password;
+      width = v j;
       selector = made w f h p (union-swapped j) .selector;
     }
 

@@ -1,11 +1,16 @@
+pub mod WidthLaws
 pub mod SelectorLaws
 pub mod HandleLaws
 pub mod OpensLaws
 pub mod PasswordLaws
 pub mod CodecLaws
+pub mod TripLaws
+pub mod HeldLaws
+pub mod TripStatements
 pub mod CodeLaws
 pub mod WeakenLaws
 pub mod ExamplesHold
+pub mod WidthCasesHold
 pub mod LiteralLaws
 pub mod WordLaws
 pub mod EmptyLaws

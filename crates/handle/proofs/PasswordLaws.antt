@@ -17,7 +17,7 @@ use Rattle.loops.specs.Below.{every}
 use Rattle.loops.proofs.BelowLaws.{every-in, every-equal}
 use Rattle.aes.proofs.CipherLaws.{length-cipher}
 use Rattle.handle.specs.declared.Handle.{Handle}
-use Rattle.sizes.specs.Sizes.{segments, passwordBytes}
+use Rattle.sizes.specs.Sizes.{passwordBytes}
 use Rattle.handle.specs.Selectors.{flat}
 use Rattle.handle.specs.Handles.{samePassword, converted, through, validates}
 use Rattle.handle.specs.Conversion.{conversion}
@@ -93,6 +93,7 @@ module _ (w : ℕ) (f : List ℕ → ℕ → List ℕ) (h : Handle) (p : List �
         same-equal (through w f (h .selector) p) (h .password) (length-through (h .selector) p lp) lh e
 
 -- a handle that validates by the code's conversion has the password that the chain ends with
-pub validates-conversion : (h : Handle) (p : List ℕ) → length p ≡ passwordBytes → length (h .password) ≡ passwordBytes
-    → validates segments conversion p h ≡ true → through segments conversion (h .selector) p ≡ h .password
-validates-conversion h p = validates-equal segments conversion h p length-conversion
+pub validates-conversion : (w : ℕ) (h : Handle) (p : List ℕ) → length p ≡ passwordBytes
+    → length (h .password) ≡ passwordBytes → validates w conversion p h ≡ true
+    → through w conversion (h .selector) p ≡ h .password
+validates-conversion w h p = validates-equal w conversion h p length-conversion

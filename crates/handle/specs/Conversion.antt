@@ -1,5 +1,6 @@
--- Document 01, "Conversion": the f of validation, weakening and reduction.
---     block c           fifteen zero bytes followed by the byte c
+-- Document 01, "Conversion", and document 02, §8: the f of validation, weakening and reduction.
+--     block c           the parameter c as a number of sixteen bytes, high byte first: below 256 it fills the last byte, and
+--                       at width 16 the last two
 --     conversion p c    the AES-128 encryption, under the key p, of that block
 --     product n p c     the product's conversion, at which contracts stand: of the cluster's name n, the password p and
 --                       the parameter c; it takes in no name
@@ -7,14 +8,15 @@
 -- Assumes nothing.
 use mathlib.Core.Path.{_≡_}
 use Prim.Native.Nat.{ℕ}
-use mathlib.Core.List.{List, [], _∷_, _++_}
-use lib.ListN.{length, replicate}
+use mathlib.Core.List.{List}
+use lib.ListN.{length}
+use Rattle.bits.specs.Bytes.{bytes}
 use Rattle.aes.specs.Cipher.{cipher}
 use Rattle.sizes.specs.Sizes.{passwordBytes}
 use Rattle.handle.specs.Handles.{Name}
 
 abbrev pub block : ℕ → List ℕ
-block c = replicate 15 0 ++ (c ∷ [])
+block c = bytes 16 c
 
 unfoldable pub conversion : List ℕ → ℕ → List ℕ
 conversion p c = cipher p (block c)

@@ -6,7 +6,7 @@
 --     Told               a set of segments and a count; the whole reply of a weakening; a whole handle
 --     Example            a question and its answer
 --     given h c, refused n    the whole reply of a weakening that is done, and of one that is refused with n, written out
---     presented ss p     the handle that is asked about, with the selector ss and the password p
+--     presented ss p     the handle of width 8 that is asked about, with the selector ss and the password p
 --     examples           the list; more rows say that a primary handle is its own reduction, that a gap higher up is one
 --                        too, where 21 begins and ends, and what document 02, §5, joins
 --     tells q            what the definitions tell
@@ -14,9 +14,9 @@
 use Prim.Native.Nat.{ℕ}
 use mathlib.Core.List.{List, [], _∷_}
 use lib.ListN.{replicate}
-use Rattle.sizes.specs.Sizes.{segments}
 use Rattle.handle.specs.declared.Handle.{Handle}
 use Rattle.handle.specs.declared.Weakened.{Weakened}
+use Rattle.handle.specs.declared.Width.the-variants.{None, Eight}
 use Rattle.handle.specs.Selectors.{common, referenced}
 use Rattle.handle.specs.Handles.{weakening, reduced, joined}
 
@@ -51,7 +51,7 @@ abbrev noneLeft : List ℕ
 noneLeft = 0xf0 ∷ 0x0f ∷ 0xff ∷ 0xff ∷ []
 
 abbrev presented : List ℕ → List ℕ → Handle
-presented ss p = record { node = 0; local = 2; password = p; selector = ss }
+presented ss p = record { node = 0; local = 2; password = p; width = Eight; selector = ss }
 
 abbrev given : Handle → ℕ → Told
 given h c = weaker (record { number = 0; handle = h; count = c })
@@ -60,7 +60,7 @@ abbrev refused : ℕ → Told
 refused n =
     weaker (record {
       number = n;
-      handle = record { node = 0; local = 0; password = replicate 16 0; selector = 0 ∷ 0 ∷ 0 ∷ 0 ∷ [] };
+      handle = record { node = 0; local = 0; password = replicate 16 0; width = None; selector = 0 ∷ 0 ∷ 0 ∷ 0 ∷ [] };
       count = 0;
     })
 
@@ -111,7 +111,7 @@ module _ (f : List ℕ → ℕ → List ℕ) (password first : List ℕ) (mask :
       ∷ []
 
   unfoldable pub tells : Question → Told
-  tells (referencing ss) = segmentSet (common segments ss) (referenced segments ss)
-  tells (weakeningBy m ss) = weaker (weakening segments f (presented ss password) m)
-  tells (reducing ss) = handle (reduced segments f (presented ss password) first)
-  tells (joining ss ts) = handle (joined segments f (presented ss password) (presented ts password) first)
+  tells (referencing ss) = segmentSet (common 8 ss) (referenced 8 ss)
+  tells (weakeningBy m ss) = weaker (weakening 8 f (presented ss password) m)
+  tells (reducing ss) = handle (reduced 8 f (presented ss password) first)
+  tells (joining ss ts) = handle (joined 8 f (presented ss password) (presented ts password) first)

@@ -19,7 +19,7 @@ use mathlib.Core.Bool.{true, false}
 use mathlib.Core.List.{List}
 use Rattle.handle.specs.declared.Handle.{Handle}
 use Rattle.handle.specs.Selectors.{references, either, allFlat, union, wholeUnion}
-use Rattle.handle.specs.Handles.{nameOf, reduced, joined}
+use Rattle.handle.specs.Handles.{nameOf, widthOf, reduced, joined}
 use Rattle.handle.specs.Opens.{Whole, Opens}
 
 abbrev pub NoMore : ℕ → Handle → Handle → Type 0
@@ -27,13 +27,13 @@ NoMore w k h = (i : ℕ) → i < w → references (k .selector) i ≡ true → r
 
 module _ (w : ℕ) (f : List ℕ → ℕ → List ℕ) (p : List ℕ) where
   pub record Joins (h k : Handle) : Type 0 where
-    pub opens : wholeUnion w (h .selector) (k .selector) ≡ false
+    pub opens : widthOf h ≡ w → wholeUnion w (h .selector) (k .selector) ≡ false
         → Opens w f (nameOf h) p (either (h .selector) (k .selector)) (joined w f h k p)
     pub never-primary : wholeUnion w (h .selector) (k .selector) ≡ false
         → allFlat w (joined w f h k p .selector) ≡ false
     pub whole : wholeUnion w (h .selector) (k .selector) ≡ true → allFlat w (joined w f h k p .selector) ≡ true
     pub primary : allFlat w (h .selector) ≡ true → wholeUnion w (h .selector) (k .selector) ≡ true
-    pub swapped : nameOf h ≡ nameOf k → joined w f h k p ≡ joined w f k h p
+    pub swapped : nameOf h ≡ nameOf k → h .width ≡ k .width → joined w f h k p ≡ joined w f k h p
     pub union : union w (h .selector) (k .selector) ≡ union w (k .selector) (h .selector)
     pub within : Whole w h → allFlat w (h .selector) ≡ false → NoMore w k h
         → (wholeUnion w (h .selector) (k .selector) ≡ false) × (joined w f h k p ≡ reduced w f h p)

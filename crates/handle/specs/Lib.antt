@@ -1,10 +1,13 @@
 pub mod Sizes
+pub mod Widths
 pub mod Selectors
 pub mod Handles
 pub mod Conversion
 pub mod Opens
 pub mod Examples
+pub mod WidthCases
 pub mod Literals
+pub mod Trips
 pub mod Words
 pub mod Empty
 pub mod Joins

@@ -1,6 +1,6 @@
--- Document 01, "The handle" and "Weakening", and document 02, §1 and §5: rows of subselectors, for every width w; clusters
--- of eight segments have width 8, and there full w is 255. Subselector 0 stands first, and bit i of each stands for segment
--- i.
+-- Document 01, "The handle" and "Weakening", and document 02, §1, §5 and §8: rows of subselectors, for every width w;
+-- clusters have 4, 8 or 16 segments, and there full w is 15, 255 or 65535. Subselector 0 stands first, and bit i of each
+-- stands for segment i.
 --     references ss i    bit i is set in every subselector
 --     excludes m ss i    segment i is referenced and its bit of the mask m is clear
 --     keeps m ss i       segment i is referenced and its bit of the mask m is set

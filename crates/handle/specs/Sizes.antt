@@ -1,8 +1,7 @@
--- Document 01, "The handle": the bytes of a handle.
+-- Document 01, "The handle": the bytes of a handle up to its selector, which all widths have alike.
 --     nodeBytes        the bytes of its node, which come first
 --     localAt, passwordAt, selectorAt    where the local number, the password and the selector begin
---     subselectors     the subselectors of a selector, a byte each
---     handleBytes      the bytes of a handle
+--     subselectors     the subselectors of a selector
 -- Assumes nothing.
 use Prim.Native.Nat.{ℕ, _+_}
 use Rattle.sizes.specs.Sizes.{passwordBytes}
@@ -21,6 +20,3 @@ passwordAt = localAt + 1
 
 abbrev pub selectorAt : ℕ
 selectorAt = passwordAt + passwordBytes
-
-abbrev pub handleBytes : ℕ
-handleBytes = selectorAt + subselectors

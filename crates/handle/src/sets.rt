@@ -1,6 +1,5 @@
 // Reduction (document 01) and joining (document 02, §5): both make a handle that holds a set of segments in subselector 0
 // alone, with a password from the primary one.
-use crate::FLAT;
 use crate::Handle;
 use crate::convert_with;
 use aes::Tables;
@@ -12,17 +11,20 @@ ghost use Rattle.handle.specs.Handles as spec;
 ghost use Rattle.handle.specs.Conversion.{product};
 
 impl Handle {
-    // The handle's name, with a set of segments in subselector 0 and the password made from the primary one.
-    fn made_with(self, tables: &Tables, primary: Password, set: u8) -> Handle
+    // The handle's name and width, with a set of segments in subselector 0 and the password made from the primary one.
+    fn made_with(self, tables: &Tables, primary: Password, set: u16) -> Handle
         requires { ⌜ IsTables (now tables) ⌝ }
         ensures { λ r. ⌜ r ≡ spec.made (spec.widthOf self) (product (spec.nameOf self)) self primary set ⌝ }
     {
+        let width = self.width;
+        let flat = width.full();
         let password = convert_with(tables, primary, set);
         Handle {
             node: self.node,
             local: self.local,
             password,
-            selector: [set, FLAT, FLAT, FLAT],
+            width,
+            selector: [set, flat, flat, flat],
         }
     }
 
@@ -45,21 +47,24 @@ impl Handle {
         (self.node() == other.node()) & (self.local == other.local)
     }
 
-    // The bits of the segments that this handle or another references.
-    fn either(self, other: Handle) -> u8
+    // The bits, of this handle's width, of the segments that it or another references.
+    fn either(self, other: Handle) -> u16
         ensures { λ r. ⌜ r ≡ sel.union (spec.widthOf self) (self .selector) (other .selector) ⌝ }
     {
-        let ours = self.common();
-        let theirs = other.common();
-        ours | theirs
+        let width = self.width;
+        let ours = self.shared();
+        let theirs = other.shared();
+        (ours | theirs) & width.full()
     }
 
-    // Whether these are all segments.
+    // Whether these are all of the width.
     pub fn whole_union(self, other: Handle) -> bool
         ensures { λ r. ⌜ r ≡ sel.wholeUnion (spec.widthOf self) (self .selector) (other .selector) ⌝ }
     {
+        let width = self.width;
+        let flat = width.full();
         let union = self.either(other);
-        union == FLAT
+        union == flat
     }
 
     // The handle joined with another: the union of what either references in subselector 0.

@@ -1,6 +1,6 @@
 -- Laws of an image's bytes marked in a node's map, as the code does it. Five bytes hold an absent segment, or one whose
--- bytes are marked; eight times five have their turns one after the other; an active record is its segments, and one whose
--- active byte is neither 0 nor 1 is no record.
+-- bytes are marked; so many times five have their turns one after the other; a record whose active byte is neither 0 nor 1
+-- is no record.
 -- Assumes nothing.
 use mathlib.Core.Path.{_≡_, refl, sym, ap, ap₂, _∙_}
 use mathlib.Core.Bool.{Bool, true, false, not, _&&_, _||_, true≢false}
@@ -11,7 +11,7 @@ use lib.Dec.{eqb}
 use lib.ListN.{length, getD}
 use borrow.Author.Tests.{eq-eqb, ne-eqb, lt-leb}
 use Rattle.bits.specs.Bytes.{word}
-use Rattle.loops.proofs.BelowLaws.{every-same, every-both}
+use Rattle.loops.proofs.BelowLaws.{every-same}
 use Rattle.loops.proofs.RunningLaws.{Running, running-none, running-more, running-all}
 use Rattle.loops.proofs.TabulateLaws.{getD-tabulate}
 use Rattle.loops.proofs.TurnLaws.{Turning, turning-none, turning-more, turning-all, turns-same}
@@ -20,7 +20,7 @@ use Rattle.spans.specs.Spans.{marks, Marked}
 use Rattle.store.specs.declared.Place.{Place}
 use Rattle.store.specs.declared.Segment.{Segment}
 use Rattle.store.specs.Records.{absentSegment, tableOf, segmentOf, placeOf}
-use Rattle.store.specs.Sound.{settled, idle}
+use Rattle.store.specs.Sound.{settled}
 use Rattle.store.specs.inner.Passes.{Map, mapWords, claimable, stamped, stampedBy, claims}
 use Rattle.store.proofs.MarkLaws.{claim-absent, claim-mark}
 use Rattle.image.specs.Parts.{part, slot}
@@ -67,20 +67,20 @@ module _ (l : List ℕ) (e : length l ≡ segmentBytes) (base size : ℕ) (eb : 
         left = c .left;
       }
 
--- ---- eight times five bytes
+-- ---- so many times five bytes
 
--- the segments so far had their turn
-pub record Segments (b : List ℕ) (before : Map) (i : ℕ) (ok : Bool) (map : Map) : Type 0 where
-  pub told : Running segments
+-- the segments so far had their turn, of those that have one
+pub record Segments (b : List ℕ) (count : ℕ) (before : Map) (i : ℕ) (ok : Bool) (map : Map) : Type 0 where
+  pub told : Running count
       (λ k. goodSegment (slot segmentBytes b k) && claimable (segmentHeld b k) (stampedBy k (placesIn b) before)) i ok
-  pub left : Turning segments (λ k. stamped (placesIn b k)) before i map
+  pub left : Turning count (λ k. stamped (placesIn b k)) before i map
 
-pub segments-none : (b : List ℕ) (before : Map) → Segments b before 0 true before
-segments-none b before = record { told = running-none _ _; left = turning-none _ _ _ }
+pub segments-none : (b : List ℕ) (count : ℕ) (before : Map) → Segments b count before 0 true before
+segments-none b count before = record { told = running-none _ _; left = turning-none _ _ _ }
 
-module _ (b : List ℕ) (before : Map) (i : ℕ) (ok : Bool) (map : Map) (w : Segments b before i ok map) where
-  pub segments-more : (r : Bool) (after : Map) → i < segments → SegmentClaimed (slot segmentBytes b i) map r after
-      → Segments b before (i + 1) (r && ok) after
+module _ (b : List ℕ) (count : ℕ) (before : Map) (i : ℕ) (ok : Bool) (map : Map) (w : Segments b count before i ok map) where
+  pub segments-more : (r : Bool) (after : Map) → i < count → SegmentClaimed (slot segmentBytes b i) map r after
+      → Segments b count before (i + 1) (r && ok) after
   unfolding stampedBy
   segments-more r after h e =
       record {
@@ -91,20 +91,17 @@ module _ (b : List ℕ) (before : Map) (i : ℕ) (ok : Bool) (map : Map) (w : Se
         left = turning-more _ _ before i map (w .left) after h (e .left);
       }
 
-  pub segments-all : segments ≤ i → SegmentsClaimed b before ok map
-  unfolding claims stampedBy goodSegments
+  pub segments-all : count ≤ i → SegmentsClaimed b count before ok map
+  unfolding stampedBy
   segments-all h =
       record {
-        told =
-            running-all _ _ i ok (w .told) h
-            ∙ every-both segments (λ k. goodSegment (slot segmentBytes b k))
-            (λ k. claimable (segmentHeld b k) (stampedBy k (placesIn b) before));
+        told = running-all _ _ i ok (w .told) h;
         left = turning-all _ _ before i map (w .left) h;
       }
 
 -- ---- a record
 
-stamped-same : (ps qs : ℕ → Place) (map : Map) (n : ℕ) → ((i : ℕ) → i < n → ps i ≡ qs i)
+pub stamped-same : (ps qs : ℕ → Place) (map : Map) (n : ℕ) → ((i : ℕ) → i < n → ps i ≡ qs i)
     → stampedBy n ps map ≡ stampedBy n qs map
 unfolding stampedBy
 stamped-same ps qs map n h = turns-same n (λ i. stamped (ps i)) (λ i. stamped (qs i)) map (λ i l. ap stamped (h i l))
@@ -113,7 +110,7 @@ module _ (gs hs : ℕ → Segment) (map : Map) where
   abbrev places : (ℕ → Segment) → ℕ → Place
   places fs k = fs k .place
 
-  claims-same : (n : ℕ) → ((i : ℕ) → i < n → gs i ≡ hs i) → claims n gs map ≡ claims n hs map
+  pub claims-same : (n : ℕ) → ((i : ℕ) → i < n → gs i ≡ hs i) → claims n gs map ≡ claims n hs map
   unfolding claims
   claims-same n h =
       every-same n (λ i. claimable (gs i) (stampedBy i (places gs) map)) (λ i. claimable (hs i) (stampedBy i (places hs) map))
@@ -131,30 +128,12 @@ module _ (b : List ℕ) where
   placed = placeOf (tableOf (clusterIn b))
 
   -- the segments of the record's cluster are those that its bytes hold, and so are their places
-  found-is : (i : ℕ) → i < segments → found i ≡ segmentHeld table i
+  pub found-is : (i : ℕ) → i < segments → segmentOf (tableOf (clusterIn b)) i ≡ segmentHeld (part b segmentsAt recordBytes) i
   unfolding clusterIn segmentsIn
   found-is i h = getD-tabulate segments (segmentHeld table) absentSegment i h
 
   pub placed-is : (i : ℕ) → i < segments → placeOf (tableOf (clusterIn b)) i ≡ placesIn (part b segmentsAt recordBytes) i
   placed-is i h = ap (λ (g : Segment). g .place) (found-is i h)
-
-  active-settled : getD b 0 0 ≡ 1 → settled (clusterIn b) ≡ true
-  unfolding settled clusterIn
-  active-settled e = ap (λ (n : ℕ). flagIn n || idle (clusterIn b)) e
-
-  pub record-active : (before : Map) (r : Bool) (after : Map) → getD b 0 0 ≡ 1
-      → SegmentsClaimed (part b segmentsAt recordBytes) before r after → RecordClaimed b before r after
-  unfolding goodRecord
-  record-active before r after e p =
-      record {
-        told =
-            p .told
-            ∙ ap₂ (λ (x y : Bool). x && y)
-            (sym (ap (λ (n : ℕ). goodFlag n && goodSegments table) e))
-            (sym (claims-same found (segmentHeld table) before segments found-is)
-            ∙ ap (λ (t : Bool). t && claims segments found before) (sym (active-settled e)));
-        left = λ t. p .left ∙ sym (stamped-same placed (placesIn table) before segments placed-is);
-      }
 
   pub record-other : (before : Map) → (getD b 0 0 ≡ 0 → ⊥) → (getD b 0 0 ≡ 1 → ⊥) → RecordClaimed b before false before
   unfolding goodRecord

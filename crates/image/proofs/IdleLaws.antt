@@ -1,19 +1,18 @@
 -- An inactive record of a sound store is all zeros. Zeros are the record of an inactive cluster; and the other way round,
--- an idle cluster that is not active, and of which no absent segment is frozen, is the inactive one, whose record is zeros,
--- and good bytes are their cluster's record.
+-- an idle cluster that is not active and has no width, and of which no absent segment is frozen, is the inactive one, whose
+-- record is zeros, and good bytes are their cluster's record.
 -- Assumes nothing.
 use mathlib.Core.Path.{_≡_, refl, sym, ap, _∙_, subst}
-use mathlib.Core.Bool.{Bool, true, false, not, _&&_, _||_, true≢false}
+use mathlib.Core.Bool.{Bool, true, false, not, _&&_, true≢false}
 use mathlib.Core.List.{List}
-use Prim.Native.Nat.{ℕ, zero, suc, _+_, _-_, _<_}
+use Prim.Native.Nat.{ℕ, zero, suc, _<_}
 use native.Mathlib.Omega.{arith}
 use mir.Syntax.{w8}
 use mir.Val.{Fits}
 use lib.Dec.{eqb}
-use lib.ListN.{length, getD, drop, replicate, length-replicate, getD-replicate}
-use lib.Seq.{ext-getD, getD-take, getD-drop}
+use lib.ListN.{length, getD, replicate, length-replicate, getD-replicate}
+use lib.Seq.{ext-getD}
 use borrow.Author.Tests.{eqb-true}
-use borrow.Rule.Slice.PartMut.{mid-len}
 use Rattle.bits.specs.Bytes.{bytes, word, wordFrom, Bytes}
 use Rattle.loops.specs.Below.{every}
 use Rattle.loops.specs.Tabulate.{tabulate}
@@ -28,14 +27,15 @@ use Rattle.store.specs.Records.{absentSegment, inactive, tableOf, segmentOf, pl
 use Rattle.store.specs.Sound.{inRanges, endsInside, inside, soundMark, soundSegment, settled, idle, zeroBytes}
 use Rattle.store.specs.Sound.{isAbsent}
 use Rattle.store.specs.inner.Passes.{Map, free, claimable, stamped, stampedBy, claims}
-use Rattle.store.proofs.SoundLaws.{segment-mark, settled-inactive}
+use Rattle.store.proofs.SoundLaws.{segment-mark, settled-inactive, settled-idle, settled-width}
 use Rattle.image.specs.Parts.{part, joined}
-use Rattle.image.specs.Images.{recordBytes, readAt, flagIn, placeIn, segmentsIn, clusterIn, goodPlace, goodSegment}
+use Rattle.image.specs.Images.{recordBytes, widthAt, flagIn, placeIn, segmentsIn, clusterIn, goodPlace, goodSegment}
 use Rattle.image.specs.Images.{goodSegments, goodRecord, placeOut, segmentOut, segmentsOut, recordOut}
 use Rattle.image.specs.Ranges.{ClusterFits}
 use Rattle.image.specs.inner.Claims.{zeros, recordSound, RecordClaimed}
 use Rattle.image.proofs.TripLaws.{record-back}
 use Rattle.image.proofs.RangeLaws.{cluster-held}
+use Rattle.image.proofs.ZeroLaws.{zeros-at}
 
 abbrev blank : List ℕ
 blank = replicate recordBytes 0
@@ -69,7 +69,7 @@ blank-sound map =
     (and-both (settled (clusterIn blank)) _ (ap settled blank-in ∙ settled-inactive)
     (ap (λ (c : Cluster). claims segments (segmentOf (tableOf c)) map) blank-in ∙ vacant-claims map))
 
-blank-zeros : zeros (part blank readAt recordBytes) ≡ true
+blank-zeros : zeros (part blank widthAt recordBytes) ≡ true
 unfolding zeros every
 blank-zeros = refl
 
@@ -82,19 +82,27 @@ zero-bytes n l e z =
     eqb-true (getD l i 0) 0 (every-at n (λ i. eqb (getD l i 0) 0) z i k) ∙ sym (getD-replicate n i 0 0 k))
 
 -- a segment that was claimable is not both absent and frozen
-claimed-mark : (gs : ℕ → Segment) (map : Map) → claims segments gs map ≡ true → (i : ℕ) → i < segments
+pub claimed-mark : (gs : ℕ → Segment) (map : Map) → claims segments gs map ≡ true → (i : ℕ) → i < segments
     → soundMark (gs i) ≡ true
 unfolding claims claimable
 claimed-mark gs map t i h =
     segment-mark (gs i) (and-left (soundSegment (gs i)) _
     (every-at segments (λ i. claimable (gs i) (stampedBy i (λ k. gs k .place) map)) t i h))
 
-idle-inactive : (c : Cluster) → ClusterFits c → c .active ≡ false → idle c ≡ true
+-- a place and a mark, absent and not frozen
+pub none-marked : (p : Place) (f : Bool) → isAbsent p ≡ true → not (isAbsent p && f) ≡ true
+    → _≡_ {A = Segment} (record { place = p; frozen = f }) absentSegment
+none-marked Absent false t m = refl
+none-marked Absent true t m = absurd (true≢false (sym m))
+none-marked (Present base length) f t m = absurd (true≢false (sym t))
+
+idle-inactive : (c : Cluster) → ClusterFits c → c .active ≡ false → c .width ≡ 0 → idle c ≡ true
     → ((i : ℕ) → i < segments → soundMark (segmentOf (tableOf c) i) ≡ true) → c ≡ inactive
 unfolding idle zeroBytes soundMark
-idle-inactive c fit e z marked =
+idle-inactive c fit e w z marked =
     λ j. record {
       active = e j;
+      width = w j;
       read = zero-bytes passwordBytes (c .read) (fit .read) (and-left (zeroBytes (c .read)) _ both) j;
       write = zero-bytes passwordBytes (c .write) (fit .write) (and-right (zeroBytes (c .read)) _ both) j;
       segments = none j;
@@ -103,17 +111,11 @@ idle-inactive c fit e z marked =
     both : (zeroBytes (c .read) && zeroBytes (c .write)) ≡ true
     both = and-left (zeroBytes (c .read) && zeroBytes (c .write)) _ z
 
-    absent : (p : Place) (f : Bool) → isAbsent p ≡ true → not (isAbsent p && f) ≡ true
-        → _≡_ {A = Segment} (record { place = p; frozen = f }) absentSegment
-    absent Absent false t m = refl
-    absent Absent true t m = absurd (true≢false (sym m))
-    absent (Present base length) f t m = absurd (true≢false (sym t))
-
     none : c .segments ≡ replicate segments absentSegment
     none =
-        ext-getD absentSegment (c .segments) (replicate segments absentSegment) (fit .eight)
-        (λ i h. let k : i < segments = subst (λ (m : ℕ). i < m) (fit .eight) h in
-        absent (placeOf (tableOf c) i) (segmentOf (tableOf c) i .frozen)
+        ext-getD absentSegment (c .segments) (replicate segments absentSegment) (fit .room)
+        (λ i h. let k : i < segments = subst (λ (m : ℕ). i < m) (fit .room) h in
+        none-marked (placeOf (tableOf c) i) (segmentOf (tableOf c) i .frozen)
         (every-at segments (λ i. isAbsent (placeOf (tableOf c) i))
         (and-right (zeroBytes (c .read) && zeroBytes (c .write)) _ z) i k) (marked i k)
         ∙ sym (getD-replicate segments i absentSegment absentSegment k))
@@ -121,32 +123,21 @@ idle-inactive c fit e z marked =
 -- ---- a record whose active byte is 0
 
 module _ (b : List ℕ) (off : getD b 0 0 ≡ 0) where
-  zeros-blank : length b ≡ recordBytes → zeros (part b readAt recordBytes) ≡ true → b ≡ blank
-  unfolding zeros
+  zeros-blank : length b ≡ recordBytes → zeros (part b widthAt recordBytes) ≡ true → b ≡ blank
   zeros-blank long z =
       ext-getD 0 b blank long
       (λ i h. let k : i < recordBytes = subst (λ (m : ℕ). i < m) long h in
       byte i k ∙ sym (getD-replicate recordBytes i 0 0 k))
     where
-      rest : List ℕ
-      rest = part b readAt recordBytes
-
       byte : (i : ℕ) → i < recordBytes → getD b i 0 ≡ 0
       byte zero h = off
-      byte (suc i) h =
-          ap (λ (k : ℕ). getD b k 0) (next i)
-          ∙ sym (getD-take (recordBytes - readAt) (drop readAt b) i 0 (omega arith) ∙ getD-drop readAt b i 0)
-          ∙ eqb-true (getD rest i 0) 0 (every-at (length rest) (λ i. eqb (getD rest i 0) 0) z i
-          (subst (λ (m : ℕ). i < m) (sym (mid-len readAt recordBytes b (omega (arith, long)))) (omega arith)))
-        where
-          next : (i : ℕ) → suc i ≡ readAt + i
-          next i = omega arith
+      byte (suc i) h = zeros-at b widthAt recordBytes long z (suc i) (omega arith) h
 
   sound-blank : Bytes recordBytes b → (before : Map) → recordSound b before ≡ true → b ≡ blank
-  unfolding settled clusterIn
+  unfolding clusterIn
   sound-blank h before t =
       sym (record-back b h (and-left (goodRecord b) _ t))
-      ∙ ap recordOut (idle-inactive (clusterIn b) (cluster-held b h) still idles
+      ∙ ap recordOut (idle-inactive (clusterIn b) (cluster-held b h) still none (settled-idle (clusterIn b) calm still)
       (claimed-mark (segmentOf (tableOf (clusterIn b))) before (and-right (settled (clusterIn b)) _ told)))
       ∙ blank-out
     where
@@ -156,19 +147,20 @@ module _ (b : List ℕ) (off : getD b 0 0 ≡ 0) where
       still : flagIn (getD b 0 0) ≡ false
       still = ap flagIn off
 
-      idles : idle (clusterIn b) ≡ true
-      idles =
-          sym (ap (λ (a : Bool). a || idle (clusterIn b)) still)
-          ∙ and-left (settled (clusterIn b)) _ told
+      calm : settled (clusterIn b) ≡ true
+      calm = and-left (settled (clusterIn b)) _ told
+
+      none : clusterIn b .width ≡ 0
+      none = eqb-true (clusterIn b .width) 0 (settled-width (clusterIn b) calm false still)
 
   pub record-zero : length b ≡ recordBytes → ((i : ℕ) → Fits w8 (getD b i 0)) → (before : Map) (r : Bool)
-      → r ≡ zeros (part b readAt recordBytes) → RecordClaimed b before r before
+      → r ≡ zeros (part b widthAt recordBytes) → RecordClaimed b before r before
   record-zero long known before r e =
       record {
         told =
-            e ∙ tests-equal (zeros (part b readAt recordBytes)) (recordSound b before)
+            e ∙ tests-equal (zeros (part b widthAt recordBytes)) (recordSound b before)
             (λ t. ap (λ (l : List ℕ). recordSound l before) (zeros-blank long t) ∙ blank-sound before)
-            (λ t. ap (λ (l : List ℕ). zeros (part l readAt recordBytes))
+            (λ t. ap (λ (l : List ℕ). zeros (part l widthAt recordBytes))
             (sound-blank (record { long = long; below = λ i. known i .fits }) before t) ∙ blank-zeros);
         left = λ t.
             vacant-leaves before

@@ -8,7 +8,9 @@ pub mod RangeLaws
 pub mod WordLaws
 pub mod LiteralLaws
 pub mod ClaimLaws
+pub mod ZeroLaws
 pub mod IdleLaws
+pub mod ActiveLaws
 pub mod ReadLaws
 pub mod JudgeLaws
 pub mod PutLaws

@@ -24,9 +24,9 @@ use Rattle.store.specs.Records.{segmentAt, markedAt, putRecord, withSegment, wi
 use Rattle.store.proofs.ChangeLaws.{put-other, put-same}
 use Rattle.store.proofs.RecordLaws.{place-beyond}
 use Rattle.image.specs.Parts.{slot, part}
-use Rattle.image.specs.Images.{segmentBytes, recordBytes, imageBytes, segmentsAt, readAt, writeAt, baseIn, lengthIn}
+use Rattle.image.specs.Images.{segmentBytes, recordBytes, imageBytes, segmentsAt, widthAt, readAt, writeAt, baseIn, lengthIn}
 use Rattle.image.specs.Images.{placeWith, placeIn, segmentHeld, segmentsIn, clusterIn, storeIn}
-use Rattle.image.specs.Ranges.{PlaceFits, ClusterFits, StoreFits}
+use Rattle.image.specs.Ranges.{widths, PlaceFits, ClusterFits, StoreFits}
 use Rattle.image.proofs.PartLaws.{bytes-part, bytes-slot}
 use Rattle.image.proofs.SegmentLaws.{base-below, length-below}
 
@@ -46,9 +46,10 @@ pub cluster-held : (q : List ℕ) → Bytes recordBytes q → ClusterFits (clust
 unfolding clusterIn segmentsIn
 cluster-held q h =
     record {
+      wide = h .below widthAt;
       read = bytes-part recordBytes q readAt writeAt h (omega arith) .long;
       write = bytes-part recordBytes q writeAt segmentsAt h (omega arith) .long;
-      eight = length-tabulate segments (segmentHeld (part q segmentsAt recordBytes));
+      room = length-tabulate segments (segmentHeld (part q segmentsAt recordBytes));
       places =
           λ i l.
           subst (λ (g : Segment). PlaceFits (g .place))
@@ -87,9 +88,10 @@ absent-fits = tt
 segment-fits : (c : Cluster) (i : ℕ) (g : Segment) → ClusterFits c → PlaceFits (g .place) → ClusterFits (withSegment c i g)
 segment-fits c i g f p =
     record {
+      wide = f .wide;
       read = f .read;
       write = f .write;
-      eight = length-set (c .segments) i g ∙ f .eight;
+      room = length-set (c .segments) i g ∙ f .room;
       places = λ k h. at k h (ℕ-discrete k i);
     }
   where
@@ -97,7 +99,7 @@ segment-fits c i g f p =
     at k h (yes e) =
         subst (λ (j : ℕ). PlaceFits (placeOf (tableOf (withSegment c i g)) j)) (sym e)
         (subst (λ (s : Segment). PlaceFits (s .place))
-        (sym (getD-set-same (c .segments) i g absentSegment (let z = f .eight in omega arith))) p)
+        (sym (getD-set-same (c .segments) i g absentSegment (let z = f .room in omega arith))) p)
     at k h (no e) =
         subst (λ (s : Segment). PlaceFits (s .place))
         (sym (getD-set-other (c .segments) i k g absentSegment e)) (f .places k h)
@@ -110,19 +112,20 @@ mark-fits c i f = segment-fits c i (markedAt (placeOf (tableOf c) i)) f (there (
   where
     there : (t : Bool) → ltb i segments ≡ t → PlaceFits (placeOf (tableOf c) i)
     there true h = f .places i (ltb-true i segments h)
-    there false h = subst PlaceFits (place-beyond c i (f .eight) (ltb-false i segments h)) absent-fits
+    there false h = subst PlaceFits (place-beyond c i (f .room) (ltb-false i segments h)) absent-fits
 
--- eight absent segments
+-- absent segments alone
 none-fit : (i : ℕ) → i < segments → PlaceFits (placeOf (tableOf inactive) i)
 none-fit i h =
     subst (λ (g : Segment). PlaceFits (g .place)) (sym (getD-replicate segments i absentSegment absentSegment h))
     absent-fits
 
-pub started-fits : (r w : List ℕ) → length r ≡ passwordBytes → length w ≡ passwordBytes → ClusterFits (started r w)
-started-fits r w lr lw = record { read = lr; write = lw; eight = refl; places = none-fit }
+pub started-fits : (v : ℕ) (r w : List ℕ) → v < widths → length r ≡ passwordBytes → length w ≡ passwordBytes
+    → ClusterFits (started v r w)
+started-fits v r w lv lr lw = record { wide = lv; read = lr; write = lw; room = refl; places = none-fit }
 
 pub inactive-fits : ClusterFits inactive
-inactive-fits = record { read = refl; write = refl; eight = refl; places = none-fit }
+inactive-fits = record { wide = omega arith; read = refl; write = refl; room = refl; places = none-fit }
 
 pub password-fits : (c : Cluster) (mode : ℕ) (p : List ℕ) → ClusterFits c → length p ≡ passwordBytes
     → ClusterFits (withPassword c mode p)
@@ -132,11 +135,12 @@ password-fits c mode p f e = go (eqb mode readMode) refl
     made t =
         record {
           active = c .active;
+          width = c .width;
           read = elim t [ true ↦ p | false ↦ c .read ];
           write = elim t [ true ↦ c .write | false ↦ p ];
           segments = c .segments;
         }
 
     go : (t : Bool) → eqb mode readMode ≡ t → ClusterFits (made t)
-    go true q = record { read = e; write = f .write; eight = f .eight; places = f .places }
-    go false q = record { read = f .read; write = e; eight = f .eight; places = f .places }
+    go true q = record { wide = f .wide; read = e; write = f .write; room = f .room; places = f .places }
+    go false q = record { wide = f .wide; read = f .read; write = e; room = f .room; places = f .places }

@@ -18,7 +18,7 @@ use Rattle.store.specs.declared.Cluster.{Cluster}
 use Rattle.store.specs.Records.{recordOf, noCluster, clusterAt, tableOf, tableAt, placeOf, placeOn}
 use Rattle.store.specs.inner.Passes.{past, climb}
 use Rattle.image.specs.Parts.{part, slot}
-use Rattle.image.specs.Images.{segmentBytes, recordBytes, readAt, writeAt, segmentsAt, flagIn, placeIn, segmentsIn, clusterIn}
+use Rattle.image.specs.Images.{segmentBytes, recordBytes, widthAt, readAt, writeAt, segmentsAt, flagIn, placeIn, segmentsIn, clusterIn}
 use Rattle.image.specs.Images.{storeIn}
 use Rattle.image.specs.inner.Claims.{placesIn}
 use Rattle.image.proofs.ClaimLaws.{placed-is}
@@ -27,11 +27,12 @@ use Rattle.image.proofs.ClaimLaws.{placed-is}
 pub cluster-cut : (b r w : List ℕ) (gs : List Segment) → length b ≡ recordBytes
     → r ≡ firstBytes passwordBytes (part b readAt writeAt) → w ≡ firstBytes passwordBytes (part b writeAt segmentsAt)
     → gs ≡ segmentsIn (part b segmentsAt recordBytes)
-    → record { active = flagIn (getD b 0 0); read = r; write = w; segments = gs } ≡ clusterIn b
+    → record { active = flagIn (getD b 0 0); width = getD b widthAt 0; read = r; write = w; segments = gs } ≡ clusterIn b
 unfolding clusterIn
 cluster-cut b r w gs e er ew eg =
     λ j. record {
       active = flagIn (getD b 0 0);
+      width = getD b widthAt 0;
       read = (er ∙ first-whole passwordBytes (part b readAt writeAt) (mid-len readAt writeAt b (omega arith))) j;
       write = (ew ∙ first-whole passwordBytes (part b writeAt segmentsAt) (mid-len writeAt segmentsAt b (omega arith))) j;
       segments = eg j;

@@ -1,10 +1,10 @@
--- An image and its store, each read back from the other: level by level, eight segments, a record, the store.
+-- An image and its store, each read back from the other: level by level, sixteen segments, a record, the store.
 -- A part of what was put together is what was put there, so each level rests on the one below.
 -- Assumes nothing.
 use mathlib.Core.Path.{_≡_, refl, sym, ap, ap₂, _∙_}
 use mathlib.Core.Bool.{Bool, true}
 use mathlib.Core.List.{List, [], _∷_, _++_, append-assoc}
-use Prim.Native.Nat.{ℕ, _+_, _*_, _<_}
+use Prim.Native.Nat.{ℕ, _+_, _*_, _%_, _<_}
 use native.Mathlib.Omega.{arith}
 use lib.ListN.{length, getD, take, drop, length-append, length-drop, take-append-drop, replicate}
 use lib.Seq.{take-at, drop-at, take-all, drop-drop}
@@ -19,7 +19,7 @@ use Rattle.store.specs.declared.Cluster.{Cluster}
 use Rattle.store.specs.declared.Store.{Store}
 use Rattle.store.specs.Records.{absentSegment, startingStore, noCluster, clusterAt}
 use Rattle.image.specs.Parts.{part, slot, joined}
-use Rattle.image.specs.Images.{segmentBytes, recordBytes, imageBytes, readAt, writeAt, segmentsAt, goodFlag}
+use Rattle.image.specs.Images.{segmentBytes, recordBytes, imageBytes, widthAt, readAt, writeAt, segmentsAt, goodFlag}
 use Rattle.image.specs.Images.{segmentIn, goodSegment, segmentHeld, segmentsIn, goodSegments, clusterIn, goodRecord}
 use Rattle.image.specs.Images.{storeIn, good, flagOut, placeOut, segmentOut, segmentsOut, recordOut, imageOf}
 use Rattle.image.specs.Ranges.{PlaceFits, ClusterFits, StoreFits}
@@ -27,7 +27,7 @@ use Rattle.image.proofs.PartLaws.{bytes-part, bytes-slot, joined-same, 
 use Rattle.image.proofs.SegmentTripLaws.{flag-trip, flag-good, flag-back}
 use Rattle.image.proofs.SegmentTripLaws.{length-segment, segment-trip, segment-good, segment-back}
 
--- ---- eight segments
+-- ---- sixteen segments
 
 module _ (gs : List Segment) where
   abbrev each : ℕ → List ℕ
@@ -65,73 +65,78 @@ segments-back q h g =
 
 -- ---- a record
 
-module _ (f : ℕ) (r w s : List ℕ) (lr : length r ≡ passwordBytes) (lw : length w ≡ passwordBytes)
+module _ (f v : ℕ) (r w s : List ℕ) (lr : length r ≡ passwordBytes) (lw : length w ≡ passwordBytes)
     (ls : length s ≡ segments * segmentBytes) where
-  part-read : part (f ∷ (r ++ (w ++ s))) readAt writeAt ≡ r
+  part-read : part (f ∷ v ∷ (r ++ (w ++ s))) readAt writeAt ≡ r
   part-read = take-at r (w ++ s) passwordBytes lr
 
-  part-write : part (f ∷ (r ++ (w ++ s))) writeAt segmentsAt ≡ w
+  part-write : part (f ∷ v ∷ (r ++ (w ++ s))) writeAt segmentsAt ≡ w
   part-write = ap (take passwordBytes) (drop-at r (w ++ s) passwordBytes lr) ∙ take-at w s passwordBytes lw
 
-  part-segments : part (f ∷ (r ++ (w ++ s))) segmentsAt recordBytes ≡ s
+  part-segments : part (f ∷ v ∷ (r ++ (w ++ s))) segmentsAt recordBytes ≡ s
   part-segments =
       ap (λ (z : List ℕ). take (segments * segmentBytes) (drop (passwordBytes + passwordBytes) z)) (sym (append-assoc r w s))
       ∙ ap (take (segments * segmentBytes))
       (drop-at (r ++ w) s (passwordBytes + passwordBytes) (length-append r w ∙ ap₂ (λ (a b : ℕ). a + b) lr lw))
       ∙ take-all (segments * segmentBytes) s (omega arith)
 
-  length-all : length (f ∷ (r ++ (w ++ s))) ≡ recordBytes
+  length-all : length (f ∷ v ∷ (r ++ (w ++ s))) ≡ recordBytes
   length-all = simp (length-append, lr, lw, ls)
+
+pub low-byte : (v : ℕ) → v < 256 → v % 256 ≡ v
+low-byte v h = omega arith
 
 module _ (c : Cluster) (fit : ClusterFits c) where
   ls : length (segmentsOut (c .segments)) ≡ segments * segmentBytes
   ls = length-segments (c .segments)
 
   pub length-record : length (recordOut c) ≡ recordBytes
-  unfolding recordOut
-  length-record = length-all (flagOut (c .active)) (c .read) (c .write) (segmentsOut (c .segments)) (fit .read) (fit .write) ls
+  unfolding recordOut bytes
+  length-record = length-all (flagOut (c .active)) (c .width % 256) (c .read) (c .write) (segmentsOut (c .segments)) (fit .read) (fit .write) ls
 
   pub read-in : part (recordOut c) readAt writeAt ≡ c .read
-  unfolding recordOut
-  read-in = part-read (flagOut (c .active)) (c .read) (c .write) (segmentsOut (c .segments)) (fit .read) (fit .write) ls
+  unfolding recordOut bytes
+  read-in = part-read (flagOut (c .active)) (c .width % 256) (c .read) (c .write) (segmentsOut (c .segments)) (fit .read) (fit .write) ls
 
   pub write-in : part (recordOut c) writeAt segmentsAt ≡ c .write
-  unfolding recordOut
-  write-in = part-write (flagOut (c .active)) (c .read) (c .write) (segmentsOut (c .segments)) (fit .read) (fit .write) ls
+  unfolding recordOut bytes
+  write-in = part-write (flagOut (c .active)) (c .width % 256) (c .read) (c .write) (segmentsOut (c .segments)) (fit .read) (fit .write) ls
 
   pub segments-in : part (recordOut c) segmentsAt recordBytes ≡ segmentsOut (c .segments)
-  unfolding recordOut
-  segments-in = part-segments (flagOut (c .active)) (c .read) (c .write) (segmentsOut (c .segments)) (fit .read) (fit .write) ls
+  unfolding recordOut bytes
+  segments-in = part-segments (flagOut (c .active)) (c .width % 256) (c .read) (c .write) (segmentsOut (c .segments)) (fit .read) (fit .write) ls
 
   record-trip : clusterIn (recordOut c) ≡ c
-  unfolding recordOut clusterIn
+  unfolding recordOut bytes clusterIn
   record-trip =
       λ j. record {
         active = flag-trip (c .active) j;
+        width = low-byte (c .width) (fit .wide) j;
         read = read-in j;
         write = write-in j;
-        segments = (ap segmentsIn segments-in ∙ segments-trip (c .segments) (fit .places) (fit .eight)) j;
+        segments = (ap segmentsIn segments-in ∙ segments-trip (c .segments) (fit .places) (fit .room)) j;
       }
 
   record-good : goodRecord (recordOut c) ≡ true
-  unfolding recordOut goodRecord
+  unfolding recordOut bytes goodRecord
   record-good =
       and-both (goodFlag (flagOut (c .active))) (goodSegments (part (recordOut c) segmentsAt recordBytes))
       (flag-good (c .active)) (ap goodSegments segments-in ∙ segments-good (c .segments) (fit .places))
 
 pub record-back : (q : List ℕ) → Bytes recordBytes q → goodRecord q ≡ true → recordOut (clusterIn q) ≡ q
-unfolding recordOut clusterIn goodRecord
+unfolding recordOut bytes clusterIn goodRecord
 record-back [] h g = let e = h .long in absurd (omega arith)
-record-back (x ∷ q) h g =
-    λ j. flag-back x (and-left (goodFlag x) (goodSegments (part (x ∷ q) segmentsAt recordBytes)) g) j ∷ rest j
+record-back (x ∷ []) h g = let e = h .long in absurd (omega arith)
+record-back (x ∷ y ∷ q) h g =
+    λ j. flag-back x (and-left (goodFlag x) (goodSegments (part (x ∷ y ∷ q) segmentsAt recordBytes)) g) j ∷ low-byte y (h .below widthAt) j ∷ rest j
   where
-    last : segmentsOut (segmentsIn (part (x ∷ q) segmentsAt recordBytes)) ≡ drop (passwordBytes + passwordBytes) q
+    last : segmentsOut (segmentsIn (part (x ∷ y ∷ q) segmentsAt recordBytes)) ≡ drop (passwordBytes + passwordBytes) q
     last =
-        segments-back (part (x ∷ q) segmentsAt recordBytes) (bytes-part recordBytes (x ∷ q) segmentsAt recordBytes h (omega arith))
-        (and-right (goodFlag x) (goodSegments (part (x ∷ q) segmentsAt recordBytes)) g)
+        segments-back (part (x ∷ y ∷ q) segmentsAt recordBytes) (bytes-part recordBytes (x ∷ y ∷ q) segmentsAt recordBytes h (omega arith))
+        (and-right (goodFlag x) (goodSegments (part (x ∷ y ∷ q) segmentsAt recordBytes)) g)
         ∙ take-all (segments * segmentBytes) (drop (passwordBytes + passwordBytes) q) (rw length-drop (let z = h .long in omega arith))
 
-    rest : take passwordBytes q ++ (take passwordBytes (drop passwordBytes q) ++ segmentsOut (segmentsIn (part (x ∷ q) segmentsAt recordBytes))) ≡ q
+    rest : take passwordBytes q ++ (take passwordBytes (drop passwordBytes q) ++ segmentsOut (segmentsIn (part (x ∷ y ∷ q) segmentsAt recordBytes))) ≡ q
     rest =
         ap (λ (z : List ℕ). take passwordBytes q ++ (take passwordBytes (drop passwordBytes q) ++ z)) (last ∙ sym (drop-drop passwordBytes passwordBytes q))
         ∙ ap (λ (z : List ℕ). take passwordBytes q ++ z) (take-append-drop passwordBytes (drop passwordBytes q))

@@ -1,4 +1,4 @@
--- Byte j of record n is byte n * 73 + j of the image, for the record is a part of it; and so for a password or a segment
+-- Byte j of record n is byte n * 114 + j of the image, for the record is a part of it; and so for a password or a segment
 -- and its record. What stands in a segment's five bytes is computed.
 -- Assumes nothing.
 use mathlib.Core.Path.{_≡_, sym, ap, _∙_}
@@ -19,7 +19,7 @@ use Rattle.image.specs.Ranges.{PlaceFits, StoreFits}
 use Rattle.image.specs.Words.{ImageInWords}
 use Rattle.image.proofs.PartLaws.{getD-part, getD-slot}
 use Rattle.image.proofs.SegmentTripLaws.{mark-out}
-use Rattle.image.proofs.TripLaws.{segment-at, read-in, write-in, segments-in, record-at, length-image}
+use Rattle.image.proofs.TripLaws.{low-byte, segment-at, read-in, write-in, segments-in, record-at, length-image}
 
 -- ---- the high bytes of a segment
 
@@ -54,22 +54,22 @@ module _ (s : Store) (fit : StoreFits s) (n : ℕ) (h : n < 32) where
   abbrev segment : ℕ → Segment
   segment i = getD (clusterAt s n .segments) i absentSegment
 
-  in-record : (j : ℕ) → j < 73 → getD (imageOf s) (n * 73 + j) 0 ≡ getD whole j 0
+  in-record : (j : ℕ) → j < 114 → getD (imageOf s) (n * 114 + j) 0 ≡ getD whole j 0
   in-record j b =
       sym (getD-slot recordBytes (imageOf s) n j b) ∙ ap (λ (l : List ℕ). getD l j 0) (record-at s fit n h)
 
   -- byte j of the part from a to e of the record
-  in-part : (a e : ℕ) (p : List ℕ) → part whole a e ≡ p → (j : ℕ) → j < e - a → a + j < 73
-      → getD (imageOf s) (n * 73 + a + j) 0 ≡ getD p j 0
+  in-part : (a e : ℕ) (p : List ℕ) → part whole a e ≡ p → (j : ℕ) → j < e - a → a + j < 114
+      → getD (imageOf s) (n * 114 + a + j) 0 ≡ getD p j 0
   in-part a e p q j b c =
       ap (λ (k : ℕ). getD (imageOf s) k 0) turn ∙ in-record (a + j) c ∙ sym (getD-part whole a e j b)
       ∙ ap (λ (l : List ℕ). getD l j 0) q
     where
-      turn : n * 73 + a + j ≡ n * 73 + (a + j)
+      turn : n * 114 + a + j ≡ n * 114 + (a + j)
       turn = omega arith
 
-  in-segment : (i : ℕ) → i < 8 → (j : ℕ) → j < 5
-      → getD (imageOf s) (n * 73 + 33 + i * 5 + j) 0 ≡ getD (segmentOut (segment i)) j 0
+  in-segment : (i : ℕ) → i < 16 → (j : ℕ) → j < 5
+      → getD (imageOf s) (n * 114 + 34 + i * 5 + j) 0 ≡ getD (segmentOut (segment i)) j 0
   in-segment i b j c =
       ap (λ (k : ℕ). getD (imageOf s) k 0) turn
       ∙ in-part segmentsAt recordBytes table (segments-in (clusterAt s n) (fit .each n h)) (i * 5 + j) (omega arith) (omega arith)
@@ -79,31 +79,35 @@ module _ (s : Store) (fit : StoreFits s) (n : ℕ) (h : n < 32) where
       table : List ℕ
       table = segmentsOut (clusterAt s n .segments)
 
-      turn : n * 73 + 33 + i * 5 + j ≡ n * 73 + 33 + (i * 5 + j)
+      turn : n * 114 + 34 + i * 5 + j ≡ n * 114 + 34 + (i * 5 + j)
       turn = omega arith
 
-  first-byte : getD (imageOf s) (n * 73) 0 ≡ flagOut (clusterAt s n .active)
+  first-byte : getD (imageOf s) (n * 114) 0 ≡ flagOut (clusterAt s n .active)
   unfolding recordOut
   first-byte = ap (λ (k : ℕ). getD (imageOf s) k 0) turn ∙ in-record 0 (omega arith)
     where
-      turn : n * 73 ≡ n * 73 + 0
+      turn : n * 114 ≡ n * 114 + 0
       turn = omega arith
 
-  module _ (i : ℕ) (b : i < 8) where
-    mark : getD (imageOf s) (n * 73 + 33 + i * 5 + 4) 0 ≡ flagOut (segment i .frozen)
+  second-byte : getD (imageOf s) (n * 114 + 1) 0 ≡ clusterAt s n .width
+  unfolding recordOut bytes
+  second-byte = in-record 1 (omega arith) ∙ low-byte (clusterAt s n .width) (fit .each n h .wide)
+
+  module _ (i : ℕ) (b : i < 16) where
+    mark : getD (imageOf s) (n * 114 + 34 + i * 5 + 4) 0 ≡ flagOut (segment i .frozen)
     mark = in-segment i b 4 (omega arith) ∙ mark-out (segment i)
 
     fits : PlaceFits (segment i .place)
     fits = fit .each n h .places i b
 
-    base-high : getD (imageOf s) (n * 73 + 33 + i * 5) 0 ≡ baseOf (segment i .place) / 256
+    base-high : getD (imageOf s) (n * 114 + 34 + i * 5) 0 ≡ baseOf (segment i .place) / 256
     base-high =
         ap (λ (k : ℕ). getD (imageOf s) k 0) turn ∙ in-segment i b 0 (omega arith) ∙ base-high-out (segment i) fits
       where
-        turn : n * 73 + 33 + i * 5 ≡ n * 73 + 33 + i * 5 + 0
+        turn : n * 114 + 34 + i * 5 ≡ n * 114 + 34 + i * 5 + 0
         turn = omega arith
 
-    length-high : getD (imageOf s) (n * 73 + 33 + i * 5 + 2) 0 ≡ lengthOf (segment i .place) / 256
+    length-high : getD (imageOf s) (n * 114 + 34 + i * 5 + 2) 0 ≡ lengthOf (segment i .place) / 256
     length-high = in-segment i b 2 (omega arith) ∙ length-high-out (segment i) fits
 
 pub image-in-words : (s : Store) → StoreFits s → ImageInWords s
@@ -113,6 +117,7 @@ image-in-words s fit =
       size = length-image s fit;
       active = λ n h e. first-byte s fit n h ∙ ap flagOut e;
       inactive = λ n h e. first-byte s fit n h ∙ ap flagOut e;
+      width = λ n h. second-byte s fit n h;
       read = λ n k h b. in-part s fit n h readAt writeAt _ (read-in (clusterAt s n) (fit .each n h)) k b (omega arith);
       write = λ n k h b. in-part s fit n h writeAt segmentsAt _ (write-in (clusterAt s n) (fit .each n h)) k b (omega arith);
       base = λ n i h b. (base-high s fit n h i b, in-segment s fit n h i b 1 (omega arith));

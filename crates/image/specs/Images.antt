@@ -1,9 +1,10 @@
 -- The image of a store: the records of all clusters as bytes, in the order of their numbers. A record is its active
--- byte, 1 or 0; its read password; its write password; and for each segment its base and its length, two bytes each,
--- high byte first, and its mark, 1 if it is frozen and 0 if it is not. A length of zero stands for an absent segment,
--- whose base is zero too.
+-- byte, 1 or 0; its width, a byte; its read password; its write password; and for each of the sixteen segments its base
+-- and its length, two bytes each, high byte first, and its mark, 1 if it is frozen and 0 if it is not. A length of zero
+-- stands for an absent segment, whose base is zero too.
 --     wordBytes, placeBytes, segmentBytes, recordBytes, imageBytes    how many bytes a base or a length has, a place, a
 --                                                  segment, a record, an image
+--     widthBytes, widthAt                          how many bytes a width has, and where it stands in a record
 --     readAt, writeAt, segmentsAt                  where the passwords and the segments begin in a record
 --     markAt                                       where the mark stands in a segment
 -- What the bytes hold:
@@ -11,14 +12,15 @@
 --     baseIn, lengthIn, markIn                     the base, the length and the byte of the mark in a segment's bytes
 --     placeWith zero base length                   a place from a base and a length: absent where the length is zero
 --     placeIn, segmentIn                           the place, and the segment, in a segment's bytes
---     segmentHeld b i                              segment i of eight
---     segmentsIn, clusterIn, storeIn               eight segments, a cluster, the store
---     goodPlace, goodSegment, goodSegments, goodRecord, good    the bytes are those of a place, of a segment, of eight, of
---                                                  a record, of a store: no active byte and no mark is above 1, no absent
---                                                  segment has a base
+--     segmentHeld b i                              segment i of sixteen
+--     segmentsIn, clusterIn, storeIn               sixteen segments, a cluster, the store
+--     goodPlace, goodSegment, goodSegments, goodRecord, good    the bytes are those of a place, of a segment, of
+--                                                  sixteen, of a record, of a store: no active byte and no mark is above
+--                                                  1, no absent segment has a base. A width may be any byte: whether it is
+--                                                  one that a cluster can have is a question of soundness
 -- The bytes of each:
 --     flagOut                                      1 or 0, the active byte and the mark
---     placeOut, segmentOut, segmentsOut            of a place, of a segment, of eight
+--     placeOut, segmentOut, segmentsOut            of a place, of a segment, of sixteen
 --     recordOut, imageOf                           of a record; the image of a store
 --     withRecord b n c                             the bytes b with record n replaced by that of the cluster c
 -- Assumes nothing.
@@ -53,8 +55,14 @@ markAt = placeBytes
 abbrev pub segmentBytes : ℕ
 segmentBytes = markAt + 1
 
+abbrev pub widthBytes : ℕ
+widthBytes = 1
+
+abbrev pub widthAt : ℕ
+widthAt = 1
+
 abbrev pub readAt : ℕ
-readAt = 1
+readAt = widthAt + widthBytes
 
 abbrev pub writeAt : ℕ
 writeAt = readAt + passwordBytes
@@ -114,6 +122,7 @@ unfoldable pub clusterIn : List ℕ → Cluster
 clusterIn b =
     record {
       active = flagIn (getD b 0 0);
+      width = getD b widthAt 0;
       read = part b readAt writeAt;
       write = part b writeAt segmentsAt;
       segments = segmentsIn (part b segmentsAt recordBytes);
@@ -144,7 +153,7 @@ unfoldable pub segmentsOut : List Segment → List ℕ
 segmentsOut gs = joined segments (λ i. segmentOut (getD gs i absentSegment))
 
 unfoldable pub recordOut : Cluster → List ℕ
-recordOut c = flagOut (c .active) ∷ (c .read ++ (c .write ++ segmentsOut (c .segments)))
+recordOut c = flagOut (c .active) ∷ (bytes widthBytes (c .width) ++ (c .read ++ (c .write ++ segmentsOut (c .segments))))
 
 unfoldable pub imageOf : Store → List ℕ
 imageOf s = joined records (λ n. recordOut (clusterAt s n))

@@ -1,4 +1,4 @@
-// The image of a store: its records as 2,336 bytes, for callers who keep the store themselves.
+// The image of a store: its records as 3,648 bytes, for callers who keep the store themselves.
 use store::Cluster;
 ghost use mathlib.Core.Path.{_≡_};
 ghost use mathlib.Core.Bool.{true};
@@ -15,18 +15,20 @@ pub use reading::record_in;
 pub use soundness::sound_in;
 
 // Bytes of the image, of a cluster's record, and of a segment, in that order.
-pub const IMAGE: usize = 2336;
+pub const IMAGE: usize = 3648;
 
-const RECORD: usize = 73;
+const RECORD: usize = 114;
 
 const SEGMENT: usize = 5;
 
-// Where the passwords and the segments begin in a record; the active byte is its first.
-const READ_AT: usize = 1;
+// Where the width stands in a record, and where the passwords and the segments begin; the active byte is its first.
+const WIDTH_AT: usize = 1;
 
-const WRITE_AT: usize = 17;
+const READ_AT: usize = 2;
 
-const SEGMENTS_AT: usize = 33;
+const WRITE_AT: usize = 18;
+
+const SEGMENTS_AT: usize = 34;
 
 // Where the mark stands in a segment, after base and length.
 const MARK_AT: usize = 4;

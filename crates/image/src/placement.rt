@@ -19,7 +19,7 @@ ghost use Rattle.store.specs.inner.Passes.{climb};
 ghost use Rattle.image.specs.Images as images;
 ghost use Rattle.image.specs.inner.Claims.{placesIn};
 
-// The base to try after the eight places of a record.
+// The base to try after the places of a record.
 fn past_places(b: &[u8], base: usize, size: usize) -> usize
     requires { ⌜ length (now b) ≡ segments * images.segmentBytes ⌝ }
     ensures { λ r. ⌜ r ≡ climb segments (placesIn (now (b .entry))) size base ⌝ }

@@ -5,6 +5,7 @@ use crate::READ_AT;
 use crate::RECORD;
 use crate::SEGMENT;
 use crate::SEGMENTS_AT;
+use crate::WIDTH_AT;
 use crate::WRITE_AT;
 use bits::word;
 use sizes::SEGMENTS;
@@ -69,6 +70,7 @@ fn cluster_in(b: &[u8]) -> Cluster
     let segments = segments_in(&b[SEGMENTS_AT..RECORD]);
     Cluster {
         active: b[0] == 1,
+        width: b[WIDTH_AT],
         read,
         write,
         segments,

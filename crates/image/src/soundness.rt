@@ -1,20 +1,19 @@
-// Soundness straight on the bytes: no record is decoded. An inactive record is all zeros; the segments of an active one are
-// marked in the map of its node.
+// Soundness straight on the bytes: no record is decoded. An inactive record is all zeros; the segments of an active one that
+// stand below its width are marked in the map of its node, and all bytes after them are zeros.
 use crate::IMAGE;
 use crate::MARK_AT;
-use crate::READ_AT;
 use crate::RECORD;
 use crate::SEGMENT;
 use crate::SEGMENTS_AT;
+use crate::WIDTH_AT;
 use bits::word;
 use sizes::CLUSTERS;
 use sizes::MEMORY;
 use sizes::NODES;
-use sizes::SEGMENTS;
 use store::MAP_WORDS;
 ghost use mathlib.Core.Path.{_≡_};
 ghost use mathlib.Core.Bool.{_&&_};
-ghost use Prim.Native.Nat.{_*_};
+ghost use Prim.Native.Nat.{_*_, _≤_};
 ghost use lib.ListN.{length};
 ghost use Rattle.sizes.specs.Sizes.{segments};
 ghost use Rattle.spans.specs.Spans.{marks};
@@ -54,19 +53,30 @@ fn claim_segment(b: &[u8], map: &mut [u64]) -> bool
     (mark <= 1) & spans::mark(map, base, to)
 }
 
-fn claim_segments(b: &[u8], map: &mut [u64]) -> bool
-    requires { ⌜ (length (now b) ≡ segments * images.segmentBytes) × (length (now map) ≡ mapWords) ⌝ }
-    ensures { λ r. ⌜ claims.SegmentsClaimed (now (b .entry)) (marks (now (map .entry))) r (marks (now (map .exit))) ⌝ }
+// Claims so many of the segments in turn.
+fn claim_segments(b: &[u8], count: usize, map: &mut [u64]) -> bool
+    requires { ⌜ (length (now b) ≡ segments * images.segmentBytes) × (count ≤ segments)
+        × (length (now map) ≡ mapWords) ⌝ }
+    ensures { λ r. ⌜ claims.SegmentsClaimed (now (b .entry)) count (marks (now (map .entry))) r (marks (now (map .exit))) ⌝ }
 {
     let mut ok = true;
     let mut i: usize = 0;
-    while i < SEGMENTS {
+    while i < count {
         let from = i * SEGMENT;
         let to = from + SEGMENT;
         ok = claim_segment(&b[from..to], map) & ok;
         i += 1;
     }
     ok
+}
+
+// Claims the segments of an active record of that width; all bytes after them have to be zeros.
+fn claim_active(b: &[u8], width: usize, map: &mut [u64]) -> bool
+    requires { ⌜ (length (now b) ≡ images.recordBytes) × (width ≤ segments) × (length (now map) ≡ mapWords) ⌝ }
+    ensures { λ r. ⌜ claims.ActiveClaimed (now (b .entry)) width (marks (now (map .entry))) r (marks (now (map .exit))) ⌝ }
+{
+    let above = SEGMENTS_AT + width * SEGMENT;
+    zero(&b[above..RECORD]) & claim_segments(&b[SEGMENTS_AT..RECORD], width, map)
 }
 
 // Whether the bytes are those of a sound store's record, as far as they and the map of the node tell.
@@ -76,12 +86,16 @@ fn claim_record(b: &[u8], map: &mut [u64]) -> bool
 {
     let active = b[0];
     if active == 0 {
-        return zero(&b[READ_AT..RECORD]);
+        return zero(&b[WIDTH_AT..RECORD]);
     }
     if active != 1 {
         return false;
     }
-    claim_segments(&b[SEGMENTS_AT..RECORD], map)
+    let width = b[WIDTH_AT] as usize;
+    if !store::is_width(width) {
+        return false;
+    }
+    claim_active(b, width, map)
 }
 
 // Whether the bytes hold a store, and one that is sound with a slice of `size` bytes.

@@ -4,6 +4,7 @@ use crate::READ_AT;
 use crate::RECORD;
 use crate::SEGMENT;
 use crate::SEGMENTS_AT;
+use crate::WIDTH_AT;
 use crate::WRITE_AT;
 use bits::BYTE;
 use sizes::PASSWORD_BYTES;
@@ -67,6 +68,7 @@ fn put_record(cluster: Cluster, out: &mut [u8])
     put_password(write, &mut out[WRITE_AT..SEGMENTS_AT]);
     put_segments(segments, &mut out[SEGMENTS_AT..RECORD]);
     out[0] = cluster.active as u8;
+    out[WIDTH_AT] = cluster.width;
 }
 
 // One record of an image, over what stands there; past the last record nothing is written.

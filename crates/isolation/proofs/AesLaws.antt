@@ -8,17 +8,20 @@ use Rattle.calls.specs.JoinWords.{JoinInWords}
 use Rattle.calls.proofs.EmptyWordLaws.{never-to-nothing}
 use Rattle.calls.proofs.JoinWordLaws.{join-in-words}
 use Rattle.isolation.specs.Copies.{SixteenBytes}
-use Rattle.isolation.specs.Statements.{SoundKept, TwoCopies, ReadersAlterNothing, Agreed}
+use Rattle.isolation.specs.Statements.{SoundKept, TwoCopies, KeysFit, ReadersAlterNothing, Agreed}
 use Rattle.isolation.specs.Witness.{one, two, tries, Concluded, Bites}
 use Rattle.isolation.specs.ReaderWitness.{Unharmed}
 use Rattle.isolation.specs.Writers.{WritersLearnNothing, RestsOnClearing, RestsOnTwelve}
 use Rattle.isolation.specs.WriterWitness.{WritersList, WritersUntold, WritersBite}
 use Rattle.isolation.specs.Frozen.{FrozenStays, FixedFromThenOn}
 use Rattle.isolation.specs.FrozenWitness.{Standing}
+use Rattle.isolation.specs.WidthLists.{Sort}
+use Rattle.isolation.specs.WidthWitness.{WidthsTold, WidthsBite, WritesTold, Strays, ReadsTold, FrozenTold}
 use Rattle.isolation.specs.Renewals.{OtherUntold, GuessesUntold, BothOpened, Revoked}
 use Rattle.isolation.specs.Checks.{ValidationJudges}
 use Rattle.isolation.proofs.KeptLaws.{sound-kept}
 use Rattle.isolation.proofs.TwoCopies.{two-copies}
+use Rattle.isolation.proofs.KeyLaws.{keys-fit}
 use Rattle.isolation.proofs.ReaderLaws.{readers-alter-nothing}
 use Rattle.isolation.proofs.CheckLaws.{validation-judges}
 use Rattle.isolation.proofs.WitnessLaws.{agreed, concluded, bites}
@@ -28,6 +31,8 @@ use Rattle.isolation.proofs.WriterWitnessLaws.{writers-list, writers-un
 use Rattle.isolation.proofs.LeakLaws.{rests-on-clearing, rests-on-twelve}
 use Rattle.isolation.proofs.FrozenLaws.{frozen-stays, fixed-from-then-on}
 use Rattle.isolation.proofs.FrozenWitnessLaws.{standing}
+use Rattle.isolation.proofs.WidthWitnessLaws.{widths-told, widths-bite}
+use Rattle.isolation.proofs.WidthHolderLaws.{writes-told, strays-free, reads-told, frozen-told}
 use Rattle.isolation.proofs.RenewalLaws.{other-untold, guesses-untold}
 use Rattle.isolation.proofs.RenewedLaws.{revoked, both-opened}
 
@@ -39,6 +44,9 @@ aes-sound-kept = sound-kept product
 
 pub aes-two-copies : (node local : ℕ) → TwoCopies node local product
 aes-two-copies node local = two-copies node local product
+
+pub aes-keys-fit : (node local : ℕ) → KeysFit node local product
+aes-keys-fit node local = keys-fit node local product
 
 pub aes-readers-alter-nothing : (node local : ℕ) → ReadersAlterNothing node local product
 aes-readers-alter-nothing node local = readers-alter-nothing node local product
@@ -102,3 +110,21 @@ aes-writers-untold = writers-untold product
 
 pub aes-writers-bite : WritersBite product
 aes-writers-bite = writers-bite product
+
+pub aes-widths-told : (v : Sort) → WidthsTold product v
+aes-widths-told = widths-told product
+
+pub aes-widths-bite : (v : Sort) → WidthsBite product v
+aes-widths-bite = widths-bite product
+
+pub aes-writes-told : (v : Sort) → WritesTold product v
+aes-writes-told = writes-told product
+
+pub aes-strays-free : Strays product
+aes-strays-free = strays-free product
+
+pub aes-reads-told : (v : Sort) → ReadsTold product v
+aes-reads-told = reads-told product
+
+pub aes-frozen-told : (v : Sort) → FrozenTold product v
+aes-frozen-told = frozen-told product

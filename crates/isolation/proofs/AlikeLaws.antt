@@ -124,7 +124,7 @@ module _ (node local : ℕ) (high : node < nodes) (low : local < clusters) (f : 
       → Alike node local (left kind (call kind g) a) (left kind (call kind g) b)
   unfolding left clusterMade clusterDeleted segmentDeleted passwordReplaced segmentMarked
   left-alike newCluster h e =
-      change node local a b al (call newCluster g) (λ d. started (g .first) (g .second))
+      change node local a b al (call newCluster g) (λ d. started (g .width) (g .first) (g .second))
       (new-away f g (a .store) (length (a .memory)) e (setApart node local) active)
   left-alike deleteCluster h e =
       change node local a b al (call deleteCluster g) (λ d. inactive) (elsewhere deleteCluster refl e h)

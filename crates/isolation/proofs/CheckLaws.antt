@@ -4,42 +4,48 @@
 -- Assumes nothing.
 use mathlib.Core.Path.{_≡_, refl, sym, ap, _∙_, subst}
 use mathlib.Core.Logic.{_⊎_, inl, inr}
-use Prim.Native.Nat.{ℕ, zero, suc}
+use Prim.Native.Nat.{ℕ, zero, suc, _≤_}
 use native.Mathlib.Omega.{arith}
-use mathlib.Core.Bool.{Bool, true, false, not, _||_, cond, or-false}
+use mathlib.Core.Bool.{Bool, true, false, not, _&&_, _||_, cond, or-false}
 use mathlib.Core.List.{List, [], _∷_, _++_}
 use lib.Dec.{eqb}
-use lib.ListN.{length, drop, length-drop}
+use lib.ListN.{length, take, drop, length-drop}
 use lib.Seq.{length-take-le}
-use borrow.Author.Tests.{eqb-true, not-false}
-use Rattle.loops.proofs.BelowLaws.{test-off}
+use borrow.Author.Tests.{eq-eqb, eqb-true, not-false}
+use Rattle.loops.proofs.BelowLaws.{test-off, and-both, and-right}
 use Rattle.sizes.specs.Sizes.{passwordBytes}
 use Rattle.handle.specs.declared.Handle.{Handle}
-use Rattle.handle.specs.Sizes.{passwordAt, handleBytes}
+use Rattle.handle.specs.declared.Width.{Width}
+use Rattle.handle.specs.declared.Width.the-variants.{None, Four, Eight, Sixteen}
+use Rattle.handle.specs.Sizes.{passwordAt}
+use Rattle.handle.specs.Widths.{lengthOf}
+use Rattle.handle.specs.Trips.{OfWidth}
 use Rattle.handle.specs.Selectors.{references, allFlat}
-use Rattle.handle.specs.Handles.{Name, nameOf, nodeOf, sameName, widthOf, decoded, firstOf, reply}
+use Rattle.handle.specs.Handles.{Name, nameOf, nodeOf, sameName, widthOf, noWidth, decodedAs, decoded, firstOf}
 use Rattle.handle.specs.Handles.{validates}
 use Rattle.handle.proofs.PasswordLaws.{equal-validates, validates-equal}
+use Rattle.handle.proofs.CodecLaws.{width-cases}
 use Rattle.store.specs.declared.Store.{Store}
 use Rattle.store.specs.Records.{clusterAt, tableAt, readMode, writeMode, primaryOf}
 use Rattle.store.specs.Sound.{sound}
 use Rattle.calls.specs.Calls.{Call, call, Arguments, Kind, newCluster, deleteCluster, newSegment, deleteSegment}
 use Rattle.calls.specs.Calls.{read, write, weaken, reduce, newPassword, freeze, join, validate, look, opens, needed}
 use Rattle.calls.specs.Calls.{handleOf, otherOf, buffer, recordNamed}
-use Rattle.calls.specs.Numbers.{unsound, noPlace, badMode, badSegment, badSize, badField, gappedHandle, joinApart, elsewhere}
-use Rattle.calls.specs.Numbers.{inUse, twins, inactiveCluster, valid, violated, joinWhole, notPrimary, notReferenced, tests}
-use Rattle.calls.specs.Numbers.{number, Line, at}
+use Rattle.calls.specs.Numbers.{badLength, unsound, noPlace, badMode, badSegment, badSize, badWidth, badField, gappedHandle}
+use Rattle.calls.specs.Numbers.{joinApart, elsewhere, inUse, twins, inactiveCluster, otherWidth, valid, violated, joinWhole, notPrimary}
+use Rattle.calls.specs.Numbers.{notReferenced, tests, number, Line, at}
 use Rattle.calls.specs.Steps.{plain, outcome, step}
 use Rattle.isolation.specs.Copies.{SixteenBytes}
 use Rattle.isolation.specs.Checks.{Refused, RefusalChangesNothing, FirstTold, Opener, Owner, MustHold, DoneHeld}
 use Rattle.isolation.specs.Checks.{Judgeable, ValidationJudges, ValidationIsReduction}
 use Rattle.isolation.specs.Checks.{WeakeningIs}
 use Rattle.calls.proofs.StepLaws.{number-validate}
+use Rattle.calls.proofs.HandleWords.{handle-in-words}
 use Rattle.calls.proofs.JoinNumberLaws.{name-same}
 use Rattle.calls.proofs.WeakenLaws.{step-weaken}
 use Rattle.calls.specs.Clear.{Clear}
 use Rattle.calls.proofs.CallLaws.{or-left, Presents, opened}
-use Rattle.calls.proofs.DoneLaws.{no-row, each-even, each-active, each-valid}
+use Rattle.calls.proofs.DoneLaws.{no-row, each-even, each-active, each-wide, each-valid}
 
 module _ (f : Name → List ℕ → ℕ → List ℕ) where
   -- ---- condition 1
@@ -77,6 +83,7 @@ module _ (f : Name → List ℕ → ℕ → List ℕ) where
           valid = each-valid f x s size e h i o;
           even = each-even f x s size e h i;
           active = each-active f x s size e h i o;
+          wide = each-wide f x s size e h i o;
         }
 
     opener : opens (x .kind) ≡ true → Opener f (needed x) (handleOf x) s
@@ -174,29 +181,42 @@ module _ (f : Name → List ℕ → ℕ → List ℕ) where
 
     -- the rows that validation meets
     validation-rows : number f x s size
-        ≡ cond (unsound size x s) 1
+        ≡ cond (badLength x) 25
+        (cond (unsound size x s) 1
         (cond (noPlace x) 2
         (cond (badField x) 3
-        (cond (gappedHandle x) 4 (cond (inactiveCluster x (tableAt s)) 8 (cond (violated f x s) 9 0)))))
+        (cond (gappedHandle x) 4
+        (cond (inactiveCluster x (tableAt s)) 8 (cond (otherWidth x (tableAt s)) 25 (cond (violated f x s) 9 0)))))))
     unfolding number tests
     validation-rows = refl
 
     mode-good : (g .mode ≡ readMode) ⊎ (g .mode ≡ writeMode) → badField x ≡ false
-    unfolding badField badMode badSegment badSize
+    unfolding badField badMode badSegment badSize badWidth
     mode-good (inl e) = rw e refl
     mode-good (inr e) = rw e refl
 
-    row-nine : (a b c d e v : Bool) → a ≡ false → b ≡ false → c ≡ false → d ≡ false → e ≡ false
-        → cond {A = ℕ} a 1 (cond b 2 (cond c 3 (cond d 4 (cond e 8 (cond v 9 0))))) ≡ cond v 9 0
-    row-nine a b c d e v p q r s t = rw (p, q, r, s, t) refl
+    row-nine : (l a b c d e w v : Bool) → l ≡ false → a ≡ false → b ≡ false → c ≡ false → d ≡ false → e ≡ false → w ≡ false
+        → cond {A = ℕ} l 25 (cond a 1 (cond b 2 (cond c 3 (cond d 4 (cond e 8 (cond w 25 (cond v 9 0))))))) ≡ cond v 9 0
+    row-nine l a b c d e w v n p q r s t u = rw (n, p, q, r, s, t, u) refl
+
+    -- of 21, 23 or 27 bytes, the handle has a width
+    known : OfWidth (length (g .handle)) → noWidth h ≡ false
+    known (inl e) = ap (λ (n : ℕ). eqb n 0) (handle-in-words (g .handle) .of21 e .1)
+    known (inr (inl e)) = ap (λ (n : ℕ). eqb n 0) (handle-in-words (g .handle) .of23 e .1)
+    known (inr (inr e)) = ap (λ (n : ℕ). eqb n 0) (handle-in-words (g .handle) .of27 e .1)
+
+    same-width : Judgeable f g s size → eqb (widthOf h) (tableAt s (recordNamed h) .width) ≡ true
+    same-width j = eq-eqb (widthOf h) (tableAt s (recordNamed h) .width) (j .wide)
 
     reached : Judgeable f g s size → number f x s size ≡ cond (violated f x s) 9 0
-    unfolding unsound noPlace gappedHandle inactiveCluster
+    unfolding badLength unsound noPlace gappedHandle inactiveCluster otherWidth
     reached j =
         validation-rows
-        ∙ row-nine (unsound size x s) (noPlace x) (badField x) (gappedHandle x) (inactiveCluster x (tableAt s))
-        (violated f x s) (ap not (j .sound)) (ap (λ (t : Bool). t || false || false || false) (j .place))
-        (mode-good (j .mode)) (ap (λ (t : Bool). t || false) (j .even)) (ap (λ (t : Bool). not t || false) (j .active))
+        ∙ row-nine (badLength x) (unsound size x s) (noPlace x) (badField x) (gappedHandle x) (inactiveCluster x (tableAt s))
+        (otherWidth x (tableAt s)) (violated f x s) (ap (λ (t : Bool). t || false) (known (j .long))) (ap not (j .sound))
+        (ap (λ (t : Bool). t || false || false || false) (j .place)) (mode-good (j .mode))
+        (ap (λ (t : Bool). t || false) (j .even)) (ap (λ (t : Bool). not t || false) (j .active))
+        (ap (λ (t : Bool). not t || false) (same-width j))
 
     told : (v : Bool) → Judgeable f g s size → valid f (g .mode) h s ≡ v → number f x s size ≡ cond (not v) 9 0
     unfolding violated
@@ -205,20 +225,33 @@ module _ (f : Name → List ℕ → ℕ → List ℕ) where
         ∙ ap (λ (t : Bool). cond t 9 0) (or-false (not (valid f (g .mode) h s)))
         ∙ ap (λ (t : Bool). cond (not t) 9 0) e
 
-    length-password : length (g .handle) ≡ handleBytes → length (h .password) ≡ passwordBytes
+    -- whatever the bytes, the password read from them has sixteen
+    long-password : length (h .password) ≡ passwordBytes
     unfolding decoded
-    length-password e =
-        length-take-le passwordBytes (drop passwordAt (g .handle)) (simp length-drop (omega (arith, e)))
+    long-password = width-cases (λ v. length (decodedAs v b .password) ≡ passwordBytes) (length b) refl long
+      where
+        b : List ℕ
+        b = g .handle
+
+        part : 19 ≤ length b → length (take passwordBytes (drop passwordAt b)) ≡ passwordBytes
+        part l = length-take-le passwordBytes (drop passwordAt b) (omega (arith, length-drop passwordAt b))
+
+        long : (v : Width) → length b ≡ lengthOf v → length (decodedAs v b .password) ≡ passwordBytes
+        long None e = refl
+        long Four e = part (omega (arith, e))
+        long Eight e = part (omega (arith, e))
+        long Sixteen e = part (omega (arith, e))
 
   pub validation-judges : SixteenBytes f → ValidationJudges f
   unfolding valid
-  validation-judges sixteen g s size long primary j =
+  validation-judges sixteen g s size primary j =
       record {
-        right = λ e. told g s size true j (equal-validates w k h p e);
+        right = λ e. told g s size true j (and-both own _ (same-width g s size j) (equal-validates w k h p e));
         wrong = λ ne.
             told g s size false j
-            (test-off (validates w k p h)
-            (λ e. ne (validates-equal w k h p (sixteen (nameOf h)) primary (length-password g s size long) e)));
+            (test-off (own && validates w k p h)
+            (λ e.
+            ne (validates-equal w k h p (sixteen (nameOf h)) primary (long-password g s size) (and-right own _ e))));
       }
     where
       h : Handle
@@ -226,6 +259,9 @@ module _ (f : Name → List ℕ → ℕ → List ℕ) where
 
       w : ℕ
       w = widthOf h
+
+      own : Bool
+      own = eqb w (clusterAt s (recordNamed h) .width)
 
       k : List ℕ → ℕ → List ℕ
       k = f (nameOf h)

@@ -10,8 +10,6 @@ use mathlib.Core.Bool.{true}
 use mathlib.Core.List.{List, _++_}
 use lib.ListN.{length, getD, set, take, drop, replicate, length-replicate, List·getD-eq-default}
 use lib.Seq.{getD-set-same, set-out}
-use borrow.Author.Tests.{leb-false}
-use Rattle.sizes.specs.Sizes.{segments}
 use Rattle.handle.specs.Handles.{Name}
 use Rattle.store.specs.declared.Place.{Place}
 use Rattle.store.specs.declared.Place.the-variants.{Absent}
@@ -22,16 +20,15 @@ use Rattle.store.specs.Records.{withPlace, baseOf, lengthOf, address}
 use Rattle.store.proofs.ChangeLaws.{put-same}
 use Rattle.calls.specs.Calls.{Copy, Call, call, Arguments, deleteCluster, newSegment, deleteSegment, read, write}
 use Rattle.calls.specs.Calls.{nodeFor, recordFor, placeFor, startFor}
-use Rattle.calls.specs.Numbers.{badSegment}
 use Rattle.calls.specs.Steps.{Outcome, overwritten, about, newPlace, newStart}
 use Rattle.calls.specs.Steps.{clusterDeleted, segmentMade, segmentDeleted, segmentWritten, left, segmentRead, given}
 use Rattle.calls.specs.Steps.{step}
 use Rattle.isolation.specs.Copies.{Done}
 use Rattle.isolation.specs.Effects.{SameSegment, WrittenReads, NewReads, ClusterGone, SegmentGone}
 use Rattle.calls.proofs.MemoryLaws.{part-overwritten}
-use Rattle.calls.proofs.DoneLaws.{done-range, done-segment, done-active}
+use Rattle.calls.proofs.DoneLaws.{done-range, done-active}
 use Rattle.calls.proofs.StepLaws.{step-done}
-use Rattle.isolation.proofs.KeptLaws.{tables, new-fits, write-fits, length-data}
+use Rattle.isolation.proofs.KeptLaws.{tables, new-fits, low-segment, write-fits, length-data}
 use Rattle.calls.proofs.MadeWordLaws.{active-in}
 
 same-place : (x y : Call) (ts : Tables) → SameSegment x y → placeFor y ts ≡ placeFor x ts
@@ -81,7 +78,7 @@ module _ (f : Name → List ℕ → ℕ → List ℕ) where
           ∙ part-overwritten (c .memory) (startFor x (tables c)) written (write-fits f g c k e)
 
   pub new-reads : NewReads f
-  unfolding left segmentMade badSegment
+  unfolding left segmentMade
   new-reads g h c k shape s e =
       subst
       (λ (o : Outcome).
@@ -109,8 +106,8 @@ module _ (f : Name → List ℕ → ℕ → List ℕ) where
           let v = done-range f x (c .store) (length (c .memory)) e in
           let n = v .node-low in
           let l = v .local-low in
-          let i = leb-false segments (g .segment) (done-segment f x (c .store) (length (c .memory)) e) in
-          let eight = shape .segments (recordFor x) (omega arith) in
+          let i = low-segment f g c k newSegment refl e in
+          let sixteen = shape .segments (recordFor x) (omega arith) in
           omega arith
 
       place : placeFor y (tables (left newSegment x c)) ≡ newPlace x (tables c)

@@ -87,14 +87,14 @@ by-cases P s n d old new = go (put-cases s n n d)
 entries-same : (k : Kind) (x : Call) (a : Cluster) → Entries k x a a
 entries-same newCluster x a = tt
 entries-same deleteCluster x a = tt
-entries-same newSegment x a = record { active = refl; read = refl; write = refl; segments = λ j ne. refl }
-entries-same deleteSegment x a = record { active = refl; read = refl; write = refl; segments = λ j ne. refl }
+entries-same newSegment x a = record { active = refl; width = refl; read = refl; write = refl; segments = λ j ne. refl }
+entries-same deleteSegment x a = record { active = refl; width = refl; read = refl; write = refl; segments = λ j ne. refl }
 entries-same read x a = refl
 entries-same write x a = refl
 entries-same weaken x a = refl
 entries-same reduce x a = refl
 entries-same newPassword x a = record { table = refl; password = refl }
-entries-same freeze x a = record { others = record { active = refl; read = refl; write = refl; segments = λ j ne. refl }; place = refl }
+entries-same freeze x a = record { others = record { active = refl; width = refl; read = refl; write = refl; segments = λ j ne. refl }; place = refl }
 entries-same join x a = refl
 entries-same validate x a = refl
 entries-same look x a = refl
@@ -104,6 +104,7 @@ placed : (x : Call) (a : Cluster) (g : Segment) → OtherSegments x a (withSegme
 placed x a g =
     record {
       active = refl;
+      width = refl;
       read = refl;
       write = refl;
       segments = λ j ne. getD-set-other (a .segments) (x .args .segment) j g absentSegment ne;

@@ -39,7 +39,7 @@ use Rattle.isolation.proofs.AddressLaws.{disjoint, place-inside, place-
 use Rattle.isolation.proofs.EntryLaws.{left-entries}
 use Rattle.isolation.proofs.KeptLaws.{tables, facts, low-segment, left-own, by-number, step-sound}
 
-module _ (f : Name → List ℕ → ℕ → List ℕ) (v l i base size : ℕ) (hv : v < 4) (hl : l < 8) (hi : i < 8) where
+module _ (f : Name → List ℕ → ℕ → List ℕ) (v l i base size : ℕ) (hv : v < 4) (hl : l < 8) (hi : i < 16) where
   abbrev n : ℕ
   n = recordOf v l
 

@@ -4,7 +4,7 @@ use mathlib.Core.Path.{_≡_, refl, sym, ap, _∙_}
 use Prim.Native.Nat.{ℕ, _+_, _*_}
 use native.Mathlib.Omega.{arith}
 use mathlib.Core.List.{List, _∷_}
-use mathlib.Core.Bool.{false≢true}
+use mathlib.Core.Bool.{true, false≢true}
 use lib.ListN.{getD}
 use Rattle.store.specs.Records.{Table, frozenOf}
 use Rattle.sizes.specs.Sizes.{memory}
@@ -18,9 +18,10 @@ use Rattle.isolation.specs.Frozen.{Fixed}
 use Rattle.isolation.specs.Witness.{one}
 use Rattle.isolation.specs.FrozenWitness.{theFreeze, attempts, attemptAnswers, otherwise, FrozenList, Standing, Otherwise}
 use Rattle.isolation.specs.FrozenWitness.{Tabled}
-use Rattle.isolation.proofs.RunLaws.{run-below}
+use Rattle.isolation.proofs.RunLaws.{numbersOf, numbered, run-below, run-by}
 use Rattle.isolation.proofs.FrozenLaws.{fixed-from-then-on}
-use Rattle.isolation.proofs.WitnessLaws.{sound-one, four}
+use Rattle.isolation.proofs.HoldingLaws.{four}
+use Rattle.isolation.proofs.WitnessLaws.{sound-one}
 
 pub tabled : Tabled
 tabled h = false≢true (ap (λ (t : Table). frozenOf t 5) (h .table))
@@ -30,9 +31,13 @@ module _ (f : Name → List ℕ → ℕ → List ℕ) where
   unfolding tests computing
   frozen-done = number-below f theFreeze (one .store) memory sound-one ∙ refl
 
-  replies : run f (theFreeze ∷ attempts) one .replies ≡ attemptAnswers
+  numbers : numbered f (numbersOf f attemptAnswers) (theFreeze ∷ attempts) one ≡ true
   unfolding tests effects computing
-  replies = ap (λ (r : Ran). r .replies) (run-below f (theFreeze ∷ attempts) one sound-one) ∙ refl
+  numbers = refl
+
+  replies : run f (theFreeze ∷ attempts) one .replies ≡ attemptAnswers
+  unfolding effects computing
+  replies = ap (λ (r : Ran). r .replies) (run-by f (numbersOf f attemptAnswers) (theFreeze ∷ attempts) one sound-one numbers) ∙ refl
 
   pub frozen-list : FrozenList f
   frozen-list = record { done = frozen-done; replies = replies }
@@ -52,7 +57,7 @@ module _ (f : Name → List ℕ → ℕ → List ℕ) where
             ap (λ (q : ℕ). getD (run f (theFreeze ∷ attempts) one .copy .memory) q 0) (sym e)
             ∙ fixed .bytes p l
             ∙ ap (λ (q : ℕ). getD (one .memory) q 0) e
-            ∙ four 17 34 7 p l;
+            ∙ four 8 5 17 34 7 p l;
       }
 
   pub thawed-otherwise : Otherwise f

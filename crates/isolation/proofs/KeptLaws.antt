@@ -2,30 +2,31 @@
 -- store crate shows to keep soundness; bytes are overwritten inside the slice, so that its length stays. What a call
 -- makes or writes is a segment of its own cluster, and lies outside the segments of every other one.
 -- Assumes nothing.
-use mathlib.Core.Path.{_≡_, refl, sym, ap, _∙_}
+use mathlib.Core.Path.{_≡_, refl, sym, ap, _∙_, subst}
 use mathlib.Core.Logic.{_≢_, _⊎_, inl, inr}
 use Prim.Native.Nat.{ℕ, zero, suc, _+_, _≤_, _<_}
 use native.Mathlib.Omega.{arith}
 use mathlib.Core.Bool.{true}
 use mathlib.Core.List.{List, [], _∷_}
-use lib.Dec.{leb}
+use lib.Dec.{leb, ltb}
 use lib.ListN.{length, take, replicate, length-replicate}
 use lib.Seq.{length-take-le}
-use borrow.Author.Tests.{leb-false}
+use borrow.Author.Tests.{leb-false, lt-ltb, not-false}
 use Rattle.sizes.specs.Sizes.{nodes, clusters, segments, memory}
-use Rattle.handle.specs.Handles.{Name}
+use Rattle.handle.specs.Handles.{Name, widthOf}
+use Rattle.handle.proofs.WidthLaws.{bits-le}
 use Rattle.store.specs.declared.Cluster.{Cluster}
 use Rattle.store.specs.Records.{Tables, tableAt, putRecord, withPlace, lengthOf, withPassword}
-use Rattle.store.specs.Sound.{sound}
+use Rattle.store.specs.Sound.{isWidth, sized, below, sound}
 use Rattle.store.proofs.PlaceLaws.{inside-out}
 use Rattle.store.proofs.PlacementLaws.{newBase-fits}
-use Rattle.store.proofs.SoundLaws.{Sound, sound-out, settled-active, sound-starting}
+use Rattle.store.proofs.SoundLaws.{Sound, sound-out, settled-active, sized-settled, sound-starting}
 use Rattle.store.proofs.ChangeLaws.{put-other, sound-same, sound-inactive, sound-started, sound-made, sound-removed}
 use Rattle.store.proofs.ChangeLaws.{sound-frozen}
 use Rattle.calls.specs.Calls.{Copy, Call, call, Arguments, Kind, newCluster, deleteCluster, newSegment, deleteSegment}
 use Rattle.calls.specs.Calls.{read, write, weaken, reduce, newPassword, freeze, join, validate, look, nodeFor, localFor, recordFor}
-use Rattle.calls.specs.Calls.{start, uses, placeFor, startFor}
-use Rattle.calls.specs.Numbers.{badSegment, number}
+use Rattle.calls.specs.Calls.{start, uses, handleOf, placeFor, startFor}
+use Rattle.calls.specs.Numbers.{badSegment, badWidth, number}
 use Rattle.calls.specs.Steps.{putCluster, about, newBaseFor, newPlace, newStart, effects}
 use Rattle.calls.specs.Steps.{left, outcome, step}
 use Rattle.isolation.specs.Copies.{SoundCopy, Done, setApart, Outside, Held}
@@ -35,7 +36,7 @@ use Rattle.calls.proofs.CallLaws.{InRange, guarded}
 use Rattle.isolation.proofs.AddressLaws.{in-place, place-fits, place-inside, place-outside, room-outside}
 use Rattle.isolation.proofs.AwayLaws.{named}
 use Rattle.calls.proofs.FreezeLaws.{freeze-present}
-use Rattle.calls.proofs.DoneLaws.{done-range, done-segment, done-active, new-base, write-long}
+use Rattle.calls.proofs.DoneLaws.{done-range, done-segment, done-width, done-wide, done-active, new-base, write-long}
 
 abbrev pub tables : Copy → Tables
 tables c = tableAt (c .store)
@@ -69,12 +70,32 @@ module _ (f : Name → List ℕ → ℕ → List ℕ) where
         let i = inside-out (newBaseFor x (tables c)) (g .size) (room .within) in
         rw (length-replicate {A = ℕ} (g .size) 0) (omega (arith, i .ends, room .known, facts c k .whole))
 
-    pub low-segment : (kind : Kind) → uses kind .segment ≡ true → Done f (call kind g) c → g .segment < segments
+    -- a segment that a call names is below its handle's width, and no record has more than sixteen
+    below-width : (kind : Kind) → uses kind .segment ≡ true → Done f (call kind g) c
+        → g .segment < widthOf (handleOf (call kind g))
     unfolding badSegment
-    low-segment kind u e =
-        leb-false segments (g .segment)
-        (guarded (uses kind .segment) (leb segments (g .segment)) u
+    below-width kind u e =
+        leb-false (widthOf (handleOf (call kind g))) (g .segment)
+        (guarded (uses kind .segment) (leb (widthOf (handleOf (call kind g))) (g .segment)) u
         (done-segment f (call kind g) (c .store) (length (c .memory)) e))
+
+    pub low-segment : (kind : Kind) → uses kind .segment ≡ true → Done f (call kind g) c → g .segment < segments
+    low-segment kind u e =
+        let l = below-width kind u e in
+        let m = bits-le (handleOf (call kind g) .width) in
+        omega arith
+
+    -- so a new segment is below its cluster's width
+    new-below : Done f (call newSegment g) c → ltb (g .segment) (about (call newSegment g) c .width) ≡ true
+    new-below e =
+        lt-ltb (g .segment) (about (call newSegment g) c .width)
+        (subst (λ (w : ℕ). g .segment < w) (done-wide f (call newSegment g) (c .store) (length (c .memory)) e refl)
+        (below-width newSegment refl e))
+
+    -- a new cluster has one of the three widths
+    new-width : Done f (call newCluster g) c → isWidth (g .width) ≡ true
+    unfolding badWidth
+    new-width e = not-false (isWidth (g .width)) (done-width f (call newCluster g) (c .store) (length (c .memory)) e)
 
     abbrev data-written : List ℕ
     data-written = take (lengthOf (placeFor (call write g) (tables c))) (g .bytes)
@@ -91,10 +112,10 @@ module _ (f : Name → List ℕ → ℕ → List ℕ) where
     -- ---- soundness is kept
 
     left-sound : (kind : Kind) → Done f (call kind g) c → SoundCopy (left kind (call kind g) c)
-    unfolding effects
+    unfolding effects sized below
     left-sound newCluster e =
         let v = done-range f (call newCluster g) (c .store) (length (c .memory)) e in
-        sound-started (c .store) _ k _ _ (v .node-low) (v .local-low) (g .first) (g .second)
+        sound-started (c .store) _ k _ _ (v .node-low) (v .local-low) (g .width) (g .first) (g .second) (new-width e)
     left-sound deleteCluster e =
         let v = done-range f (call deleteCluster g) (c .store) (length (c .memory)) e in
         sound-inactive (c .store) _ k _ _ (v .node-low) (v .local-low)
@@ -105,7 +126,7 @@ module _ (f : Name → List ℕ → ℕ → List ℕ) where
         (sound (putRecord (c .store) (recordFor x) (withPlace (about x c) (g .segment) (newPlace x (tables c)))))
         (length-overwritten (c .memory) (newStart x (tables c)) cleared (new-fits e))
         ∙ sound-made (c .store) _ k _ _ (v .node-low) (v .local-low) (g .segment)
-        (done-active f x (c .store) (length (c .memory)) e refl) (newBaseFor x (tables c)) (g .size)
+        (done-active f x (c .store) (length (c .memory)) e refl) (new-below e) (newBaseFor x (tables c)) (g .size)
         (new-base f g (c .store) (length (c .memory)) e)
     left-sound deleteSegment e =
         let x : Call = call deleteSegment g in
@@ -124,7 +145,9 @@ module _ (f : Name → List ℕ → ℕ → List ℕ) where
         let v = done-range f x (c .store) (length (c .memory)) e in
         let d : Cluster = withPassword (about x c) (g .mode) (g .first) in
         sound-same (c .store) _ k _ _ (v .node-low) (v .local-low) d
-        (settled-active d (done-active f x (c .store) (length (c .memory)) e refl)) refl
+        (settled-active d (done-active f x (c .store) (length (c .memory)) e refl)
+        (sized-settled (about x c) (facts c k .settling (recordFor x) (omega (arith, v .node-low, v .local-low)))))
+        refl
     left-sound freeze e =
         let x : Call = call freeze g in
         let v = done-range f x (c .store) (length (c .memory)) e in

@@ -12,9 +12,12 @@ pub mod UnusedLaws
 pub mod CheckLaws
 pub mod RunLaws
 pub mod ReplyLaws
+pub mod HoldingLaws
 pub mod WitnessLaws
+pub mod WidthWitnessLaws
 pub mod ReaderWitnessLaws
 pub mod FrozenWitnessLaws
+pub mod PrimaryLaws
 pub mod GivenLaws
 pub mod RenewalLaws
 pub mod RenewedLaws
@@ -27,5 +30,6 @@ pub mod WriterLaws
 pub mod SpyLaws
 pub mod WriterCopyLaws
 pub mod WriterWitnessLaws
+pub mod WidthHolderLaws
 pub mod LeakLaws
 pub mod AesLaws

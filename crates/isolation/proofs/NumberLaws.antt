@@ -1,12 +1,13 @@
 -- Both copies give a call the same number. Rows that see the call alone, or the tables, agree at once. The two rows that see
--- passwords, 9 and 12, see those of the mode needed alone: it is enough that no handle which is presented can tell the copies
+-- passwords, 9 and 12, see those of the mode needed alone, and the width is in the table: it is enough that no handle which is presented can tell the copies
 -- apart. These are looked at only where no row above applied, 8 among them, and row 12 only where row 9 did not apply.
 -- Assumes nothing.
-use mathlib.Core.Path.{_≡_, refl, sym, ap, _∙_}
+use mathlib.Core.Path.{_≡_, refl, sym, ap, ap₂, _∙_}
 use mathlib.Core.Logic.{_≢_, _⊎_, inl, inr}
 use Prim.Native.Nat.{ℕ, _<_}
 use mathlib.Core.Bool.{Bool, true, false, not, _&&_, true≢false}
 use mathlib.Core.List.{List, [], _∷_}
+use lib.Dec.{eqb}
 use lib.ListN.{length}
 use Rattle.sizes.specs.Sizes.{clusters}
 use Rattle.handle.specs.declared.Handle.{Handle}
@@ -17,7 +18,7 @@ use Rattle.store.specs.Records.{Tables, clusterAt, tableAt, readMode, writeMode
 use Rattle.store.specs.Sound.{sound}
 use Rattle.calls.specs.Calls.{Copy, Call, call, Kind, newPassword, among, opens, needed, handleOf, presented, anyOf, recordFor}
 use Rattle.calls.specs.Calls.{recordNamed}
-use Rattle.calls.specs.Numbers.{unsound, noPlace, badField, gappedHandle, inUse, inactiveCluster, valid, violated}
+use Rattle.calls.specs.Numbers.{unsound, noPlace, badField, gappedHandle, inUse, inactiveCluster, otherWidth, valid, violated}
 use Rattle.calls.specs.Numbers.{oldPassword, clusterFrozen, segmentPresent, segmentAbsent, segmentFrozen, short, fullNode}
 use Rattle.calls.specs.Numbers.{byTables, byRecords, rows, number}
 use Rattle.isolation.specs.Copies.{SoundCopy, setApart, Alike, Shut}
@@ -36,10 +37,13 @@ module _ (f : Name → List ℕ → ℕ → List ℕ) (x : Call) (a b : Store) w
       (primaryOf (clusterAt a (recordNamed h)) (needed x) ≡ primaryOf (clusterAt b (recordNamed h)) (needed x))
       ⊎ ((valid f (needed x) h a ≡ false) × (valid f (needed x) h b ≡ false))
 
-  same-valid : (h : Handle) → Level h → valid f (needed x) h a ≡ valid f (needed x) h b
+  -- and where the tables are equal, it has its cluster's width in both or in neither
+  same-valid : tableAt a ≡ tableAt b → (h : Handle) → Level h → valid f (needed x) h a ≡ valid f (needed x) h b
   unfolding valid
-  same-valid h (inl e) = ap (λ (p : List ℕ). validates (widthOf h) (f (nameOf h)) p h) e
-  same-valid h (inr (p, q)) = p ∙ sym q
+  same-valid same h (inl e) =
+      ap₂ (λ (ts : Tables) (p : List ℕ). eqb (widthOf h) (ts (recordNamed h) .width) && validates (widthOf h) (f (nameOf h)) p h)
+      same e
+  same-valid same h (inr (p, q)) = p ∙ sym q
 
   module _ (size : ℕ) (sounds : sound a size ≡ sound b size) (same : tableAt a ≡ tableAt b)
       (level : noPlace x ≡ false → gappedHandle x ≡ false → badField x ≡ false → inactiveCluster x (tableAt a) ≡ false
@@ -65,7 +69,7 @@ module _ (f : Name → List ℕ → ℕ → List ℕ) (x : Call) (a b : Store) w
 
           go : (t : Bool) → opens (x .kind) ≡ t → (t && anyOf (wrong a) (presented x)) ≡ (t && anyOf (wrong b) (presented x))
           go true o =
-              any-same (wrong a) (wrong b) (presented x) (λ h i. ap not (same-valid h (level place even fields active o h i)))
+              any-same (wrong a) (wrong b) (presented x) (λ h i. ap not (same-valid same h (level place even fields active o h i)))
           go false o = refl
 
       same-old : violated f x a ≡ false → oldPassword x a ≡ oldPassword x b
@@ -97,6 +101,7 @@ module _ (f : Name → List ℕ → ℕ → List ℕ) (x : Call) (a b : Store) w
 
     same-rows : Agree x a b (rows f size)
     same-rows =
+        refl ▸ λ e25.
         told 1 (unsound size) same-sound ▸ λ e1.
         refl ▸ λ e2.
         refl ▸ λ e3.
@@ -106,6 +111,7 @@ module _ (f : Name → List ℕ → ℕ → List ℕ) (x : Call) (a b : Store) w
         tabled 6 inUse ▸ λ e6.
         refl ▸ λ e7.
         tabled 8 inactiveCluster ▸ λ e8.
+        tabled 25 otherWidth ▸ λ q25.
         told 9 (violated f) (same-violated e2 e4 e3 e8) ▸ λ e9.
         refl ▸ λ e23.
         refl ▸ λ e10.

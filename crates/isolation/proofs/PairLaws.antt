@@ -20,7 +20,7 @@ use Rattle.calls.specs.Calls.{read, write, weaken, reduce, newPassword, freeze,
 use Rattle.calls.specs.Calls.{handleOf, otherOf, buffer, nodeFor, placeFor, startFor, partFor}
 use Rattle.calls.specs.Looks.{lookedBy, looked}
 use Rattle.calls.specs.Numbers.{number}
-use Rattle.calls.specs.Steps.{Reply, zeroHandle, plain, handles, readReply, lookReply, within, about, left, segmentRead, segmentShown}
+use Rattle.calls.specs.Steps.{Reply, noBytes, plain, handles, readReply, lookReply, within, about, left, segmentRead, segmentShown}
 use Rattle.calls.specs.Steps.{overwritten, given, outcome, step, run}
 use Rattle.isolation.specs.Copies.{SoundCopy, Done, InPlace, Along, also, places}
 use Rattle.calls.proofs.MemoryLaws.{length-overwritten, overwritten-both, part-same}
@@ -133,7 +133,7 @@ module _ (f : Name → List ℕ → ℕ → List ℕ) (g : Arguments) (a b : Cop
       let x : Call = call reduce g in
       ap
       (λ (p : List ℕ).
-      handles (encoded (reduced (widthOf (handleOf x)) (f (nameOf (handleOf x))) (handleOf x) p)) zeroHandle 0)
+      handles (encoded (reduced (widthOf (handleOf x)) (f (nameOf (handleOf x))) (handleOf x) p)) noBytes 0)
       (password refl)
   same-given newPassword e bytes password = refl
   same-given freeze e bytes password = refl
@@ -141,7 +141,7 @@ module _ (f : Name → List ℕ → ℕ → List ℕ) (g : Arguments) (a b : Cop
       let x : Call = call join g in
       ap
       (λ (p : List ℕ).
-      handles (encoded (joined (widthOf (handleOf x)) (f (nameOf (handleOf x))) (handleOf x) (otherOf x) p)) zeroHandle 0)
+      handles (encoded (joined (widthOf (handleOf x)) (f (nameOf (handleOf x))) (handleOf x) (otherOf x) p)) noBytes 0)
       (password refl)
   same-given validate e bytes password = refl
   same-given look e bytes password = same-look e (bytes refl)

@@ -3,7 +3,7 @@
 use mathlib.Core.Path.{_≡_, refl, sym, ap, _∙_}
 use Prim.Native.Nat.{ℕ}
 use native.Mathlib.Omega.{arith}
-use mathlib.Core.Bool.{false}
+use mathlib.Core.Bool.{true, false}
 use mathlib.Core.List.{List}
 use Rattle.handle.specs.Handles.{Name}
 use Rattle.store.specs.Records.{Table, placeOf, writeMode}
@@ -15,17 +15,22 @@ use Rattle.isolation.specs.Copies.{Unaltered, keyed}
 use Rattle.isolation.specs.Witness.{one}
 use Rattle.isolation.specs.ReaderWitness.{readerCalls, readerAnswers, readerJoins, joinAnswers, ReadersJoin}
 use Rattle.isolation.specs.ReaderWitness.{ReadersList, Unharmed}
-use Rattle.isolation.proofs.RunLaws.{run-below, someBelow, unwritten-below}
+use Rattle.isolation.proofs.RunLaws.{numbersOf, numbered, run-by, someBelow, unwritten-below}
 use Rattle.isolation.proofs.ReaderLaws.{readers-alter-nothing}
-use Rattle.isolation.proofs.WitnessLaws.{sound-one, four}
+use Rattle.isolation.proofs.HoldingLaws.{four}
+use Rattle.isolation.proofs.WitnessLaws.{sound-one}
 
 joins-unwritten : someBelow added (keyed 0 2 added writeMode) readerJoins one ≡ false
 unfolding keyed tests effects computing
 joins-unwritten = refl
 
-join-replies : run added readerJoins one .replies ≡ joinAnswers
+joins-numbered : numbered added (numbersOf added joinAnswers) readerJoins one ≡ true
 unfolding tests effects computing
-join-replies = ap (λ (r : Ran). r .replies) (run-below added readerJoins one sound-one) ∙ refl
+joins-numbered = refl
+
+join-replies : run added readerJoins one .replies ≡ joinAnswers
+unfolding effects computing
+join-replies = ap (λ (r : Ran). r .replies) (run-by added (numbersOf added joinAnswers) readerJoins one sound-one joins-numbered) ∙ refl
 
 pub readers-join : ReadersJoin
 readers-join =
@@ -36,9 +41,13 @@ module _ (f : Name → List ℕ → ℕ → List ℕ) where
   unfolding keyed tests effects computing
   unwritten = refl
 
-  replies : run f readerCalls one .replies ≡ readerAnswers
+  numbers : numbered f (numbersOf f readerAnswers) readerCalls one ≡ true
   unfolding tests effects computing
-  replies = ap (λ (r : Ran). r .replies) (run-below f readerCalls one sound-one) ∙ refl
+  numbers = refl
+
+  replies : run f readerCalls one .replies ≡ readerAnswers
+  unfolding effects computing
+  replies = ap (λ (r : Ran). r .replies) (run-by f (numbersOf f readerAnswers) readerCalls one sound-one numbers) ∙ refl
 
   pub readers-list : ReadersList f
   readers-list = record { no-writer = unwritten-below f 0 2 readerCalls one sound-one unwritten; replies = replies }
@@ -52,5 +61,5 @@ module _ (f : Name → List ℕ → ℕ → List ℕ) where
       record {
         place = ap (λ (t : Table). placeOf t 5) (sym (unaltered .table));
         write = sym (unaltered .write);
-        bytes = λ p l. sym (unaltered .bytes p 5 (omega arith) (omega arith)) ∙ four 17 34 7 p l;
+        bytes = λ p l. sym (unaltered .bytes p 5 (omega arith) (omega arith)) ∙ four 8 5 17 34 7 p l;
       }

@@ -14,8 +14,8 @@ use Rattle.sizes.specs.Sizes.{nodes, records, segments, memory}
 use Rattle.handle.specs.Handles.{Name, decoded}
 use Rattle.store.specs.declared.Cluster.{Cluster}
 use Rattle.store.specs.declared.Store.{Store}
-use Rattle.store.specs.Records.{Tables, tableOf, clusterAt, tableAt, segmentOf, primaryOf, withPassword}
-use Rattle.store.specs.Sound.{soundSegment, nodeApart, idle, settled, sound}
+use Rattle.store.specs.Records.{Table, tableOf, clusterAt, tableAt, segmentOf, placeOf, primaryOf, withPassword}
+use Rattle.store.specs.Sound.{soundSegment, nodeApart, idle, soundWidth, allowed, below, sized, settled, sound}
 use Rattle.store.proofs.ChangeLaws.{put-other}
 use Rattle.calls.specs.Calls.{Copy, Call, newPassword, renewing, recordNamed}
 use Rattle.calls.specs.Numbers.{number}
@@ -26,7 +26,7 @@ use Rattle.isolation.specs.Renewals.{SameButOther, Untold, OtherUntold, 
 use Rattle.isolation.proofs.NumberLaws.{rows-number}
 use Rattle.isolation.proofs.PairLaws.{same-step}
 use Rattle.isolation.proofs.AwayLaws.{same-records, same-tables}
-use Rattle.isolation.proofs.GivenLaws.{renewed-record}
+use Rattle.isolation.proofs.PrimaryLaws.{renewed-record}
 
 -- ---- one password of one cluster
 
@@ -47,12 +47,25 @@ module _ (m n : ℕ) (a b : Copy) (same : SameButOther m n a b) where
       each (λ (c : Cluster). primaryOf c m)
       (ap (primaryOf (clusterAt (a .store) n)) e ∙ same .write e ∙ ap (primaryOf (clusterAt (b .store) n)) (sym e))
 
+  -- the width and the places are the table's
+  fitting : sized (clusterAt (a .store) n) ≡ sized (clusterAt (b .store) n)
+  unfolding sized below
+  fitting =
+      ap
+      (λ (t : Table).
+      soundWidth (t .active) (t .width) && every segments (λ i. allowed (placeOf t i) i (t .width)))
+      (same .table)
+
   settles : (k : ℕ) → settled (clusterAt (a .store) k) ≡ settled (clusterAt (b .store) k)
   unfolding settled
   settles =
       each settled
-      (ap (λ (t : Bool). t || idle (clusterAt (a .store) n)) (same .active)
-      ∙ ap (λ (t : Bool). t || idle (clusterAt (b .store) n)) (sym (ap (λ (ts : Tables). ts n .active) (sym tables) ∙ same .active)))
+      (active-settled (clusterAt (a .store) n) (same .active)
+      ∙ fitting
+      ∙ sym (active-settled (clusterAt (b .store) n) (ap (λ (t : Table). t .active) (sym (same .table)) ∙ same .active)))
+    where
+      active-settled : (c : Cluster) → c .active ≡ true → settled c ≡ sized c
+      active-settled c e = ap (λ (t : Bool). (t || idle c) && sized c) e
 
   sounds : (size : ℕ) → sound (a .store) size ≡ sound (b .store) size
   unfolding sound

@@ -5,15 +5,15 @@
 use mathlib.Core.Path.{_≡_, refl, sym, ap, _∙_}
 use mathlib.Core.Logic.{_⊎_, inl, inr}
 use Prim.Native.Nat.{ℕ, _*_, _+_}
-use mathlib.Core.Bool.{true, false, not, _||_, false≢true}
+use mathlib.Core.Bool.{Bool, true, false, not, _&&_, _||_, false≢true}
 use mathlib.Core.List.{List, [], _∷_}
-use lib.Dec.{leb}
+use lib.Dec.{eqb, leb}
 use lib.ListN.{length}
 use borrow.Author.Tests.{not-false}
-use Rattle.loops.proofs.BelowLaws.{test-off}
+use Rattle.loops.proofs.BelowLaws.{test-off, and-left, and-right}
 use Rattle.handle.specs.declared.Handle.{Handle}
-use Rattle.handle.specs.Selectors.{allFlat}
-use Rattle.handle.specs.Handles.{Name, nameOf, decoded, firstOf, samePassword, noSuchPlace, validates}
+use Rattle.handle.specs.Selectors.{allFlat, gapped}
+use Rattle.handle.specs.Handles.{Name, nameOf, widthOf, noWidth, decoded, firstOf, samePassword, noSuchPlace, validates}
 use Rattle.handle.proofs.HandleLaws.{through-flat}
 use Rattle.store.specs.declared.Cluster.{Cluster}
 use Rattle.store.specs.declared.Store.{Store}
@@ -29,14 +29,14 @@ use Rattle.calls.specs.RenewWords.{validated}
 use Rattle.calls.proofs.FirstLaws.{first-clear}
 use Rattle.calls.proofs.StepLaws.{step-number, step-done}
 use Rattle.calls.proofs.SelectorWords.{password-is}
-use Rattle.calls.proofs.JoinNumberLaws.{row, gap, idle, oneRows, one-numbered, valid-one}
+use Rattle.calls.proofs.JoinNumberLaws.{row, gap, idle, other, oneRows, one-numbered, valid-one}
 use Rattle.calls.proofs.RenewWordLaws.{renew-done, in-hand}
 use Rattle.calls.proofs.DoneLaws.{no-row, done-mode}
 use Rattle.isolation.specs.Copies.{SoundCopy, Done}
 use Rattle.isolation.specs.Effects.{Renewed}
 use Rattle.isolation.specs.Renewals.{OtherFor, after, handed, checked, BothOpen, BothOpened, Revoked}
 use Rattle.isolation.proofs.KeptLaws.{step-sound}
-use Rattle.isolation.proofs.GivenLaws.{renewed-record, renewed-password, renewed-opens}
+use Rattle.isolation.proofs.PrimaryLaws.{renewed-record, renewed-password, renewed-opens}
 
 module _ (f : Name → List ℕ → ℕ → List ℕ) where
   -- where the passwords are one, so is what validation gets
@@ -47,12 +47,14 @@ module _ (f : Name → List ℕ → ℕ → List ℕ) where
       ∙ ap
       (λ (p : List ℕ).
       firstOf
-      (row 1 (not (sound s size))
+      (row 25 (noWidth h)
+      ∷ row 1 (not (sound s size))
       ∷ row 2 (noSuchPlace h)
       ∷ row 3 false
       ∷ row 4 (gap f s size 1 h)
       ∷ row 8 (idle f s size 1 h)
-      ∷ row 9 (not (validates 8 (f (nameOf h)) p h))
+      ∷ row 25 (other f s size 1 h)
+      ∷ row 9 (not (eqb (widthOf h) (clusterOf h s .width) && validates (widthOf h) (f (nameOf h)) p h))
       ∷ []))
       e
       ∙ sym (valid-one f s size 2 b)
@@ -76,7 +78,7 @@ module _ (f : Name → List ℕ → ℕ → List ℕ) where
     abbrev s′ : Store
     s′ = after f m a p c .store
 
-    abbrev shown : (validated f m a s size ≡ 0) × (allFlat 8 (h .selector) ≡ true) × (samePassword p (primaryOf (clusterOf h s) m) ≡ false)
+    abbrev shown : (validated f m a s size ≡ 0) × (allFlat (widthOf h) (h .selector) ≡ true) × (samePassword p (primaryOf (clusterOf h s) m) ≡ false)
     shown = renew-done f m a s size p e
 
     -- what validation of the handle had shown
@@ -99,7 +101,13 @@ module _ (f : Name → List ℕ → ℕ → List ℕ) where
     still-active n q =
         ap (λ (n : Name). not (clusterAt s′ (n .node * 8 + n .local) .active)) q
         ∙ ap (λ (d : Cluster). not (d .active)) own
-        ∙ clear .1 .1 .1 .1 .0
+        ∙ clear .1 .1 .1 .1 .1 .0
+
+    -- and has its width still
+    same-width : eqb (widthOf h) (clusterOf h s′ .width) ≡ true
+    same-width =
+        ap (λ (d : Cluster). eqb (widthOf h) (d .width)) own
+        ∙ not-false (eqb (widthOf h) (clusterOf h s .width)) (clear .1 .1 .1 .1 .1 .1 .0)
 
     -- ---- the handle presented
 
@@ -115,22 +123,24 @@ module _ (f : Name → List ℕ → ℕ → List ℕ) where
         (λ k l.
         password-is p (h .password) .out t k l ∙ sym (in-hand f m a s size p (shown .0) (shown .1) k l))))
 
-    ended : validates 8 (f (nameOf h)) (primaryOf (clusterOf h s′) m) h ≡ false
+    ended : validates (widthOf h) (f (nameOf h)) (primaryOf (clusterOf h s′) m) h ≡ false
     unfolding validates
     ended =
         ap (λ (q : List ℕ). samePassword q (h .password))
-        (through-flat 8 (f (nameOf h)) (h .selector) (primaryOf (clusterOf h s′) m) (shown .1) ∙ new)
+        (through-flat (widthOf h) (f (nameOf h)) (h .selector) (primaryOf (clusterOf h s′) m) (shown .1) ∙ new)
         ∙ another
 
     gone : checked f m a p c m a ≡ 9
     gone =
         valid-one f s′ (length (after f m a p c .memory)) m a
         ∙ simp (
+          clear .0,
           sound-after,
-          clear .1 .0,
           clear .1 .1 .0,
           clear .1 .1 .1 .0,
+          clear .1 .1 .1 .1 .0,
           still-active (nameOf h) refl,
+          same-width,
           ended,
         )
 
@@ -146,15 +156,23 @@ module _ (f : Name → List ℕ → ℕ → List ℕ) where
       given-valid : checked f m a p c m (handed f m a p c) ≡ 0
       unfolding valid
       given-valid =
-          valid-one f s′ (length (after f m a p c .memory)) m (handed f m a p c)
+          valid-one f s′ (length (after f m a p c .memory)) m k
           ∙ simp (
+            ap (λ (n : ℕ). eqb n 0) (opened .handle .wide) ∙ clear .0,
             sound-after,
-            ap (λ (n : Name). leb 4 (n .node) || leb 8 (n .local)) name ∙ clear .1 .0,
-            clear .1 .1 .0,
-            opened .handle .ungapped,
-            still-active (nameOf (decoded (handed f m a p c))) name,
-            opened .opens,
+            ap (λ (n : Name). leb 4 (n .node) || leb 8 (n .local)) name ∙ clear .1 .1 .0,
+            clear .1 .1 .1 .0,
+            ap (λ (n : ℕ). gapped n (decoded k .selector)) (opened .handle .wide) ∙ opened .handle .ungapped,
+            still-active (nameOf (decoded k)) name,
+            and-left own-width _ (opened .opens),
+            and-right own-width _ (opened .opens),
           )
+        where
+          k : List ℕ
+          k = handed f m a p c
+
+          own-width : Bool
+          own-width = eqb (widthOf (decoded k)) (clusterOf (decoded k) s′ .width)
 
       module _ (o : OtherFor m (clusterOf h s) p) where
         equal : clusterOf h s′ .read ≡ clusterOf h s′ .write

@@ -1,17 +1,21 @@
 -- A list run from a sound copy: soundness is kept, so at each call the first row does not apply and the number is that
--- of the rows below it. So the list, and a test of each call on the copy that it gets, are computed with these rows alone.
+-- of the rows below it. So the list, and a test of each call on the copy that it gets, are computed with these rows alone; and
+-- where its numbers are known, the replies and the copy left are computed from them.
 -- Assumes nothing.
 use mathlib.Core.Path.{_≡_, refl, ap, ap₂, _∙_}
 use Prim.Native.Nat.{ℕ}
-use mathlib.Core.Bool.{Bool, true, false, _||_}
-use mathlib.Core.List.{List, [], _∷_, _++_}
+use mathlib.Core.Bool.{Bool, true, false, _&&_, _||_}
+use mathlib.Core.List.{List, [], _∷_, _++_, map}
+use lib.Dec.{eqb}
 use lib.ListN.{length}
+use borrow.Author.Tests.{eqb-true}
+use Rattle.loops.proofs.BelowLaws.{and-left, and-right}
 use Rattle.handle.specs.Handles.{Name}
 use Rattle.store.specs.declared.Store.{Store}
 use Rattle.store.specs.Records.{tableAt, readMode, writeMode}
 use Rattle.calls.specs.declared.Looked.{Looked}
 use Rattle.calls.specs.Calls.{Copy, Call, isLook}
-use Rattle.calls.specs.Steps.{Outcome, Ran, followed, runBy, outcome, step, run}
+use Rattle.calls.specs.Steps.{Reply, Outcome, Ran, followed, runBy, outcome, step, run}
 use Rattle.calls.specs.Looks.{lookedBy, looked}
 use Rattle.isolation.specs.Copies.{SoundCopy, Along, keyed, Shut, AllShut, NoWriter, also, places}
 use Rattle.calls.proofs.CallLaws.{or-left, or-right}
@@ -55,6 +59,38 @@ module _ (f : Name → List ℕ → ℕ → List ℕ) where
 
   pub run-below : (xs : List Call) (c : Copy) → SoundCopy c → run f xs c ≡ runBelow xs c
   run-below = run-same (step f) stepBelow step-below (step-sound f)
+
+  -- ---- a list whose numbers are known is carried out by them, so that each is computed once
+
+  abbrev pub numbersOf : List Reply → List ℕ
+  numbersOf rs = map (λ (r : Reply). r .number) rs
+
+  abbrev pub ranBy : List ℕ → List Call → Copy → Ran
+  ranBy ns [] c = record { replies = []; copy = c }
+  ranBy [] (x ∷ xs) c = runBelow (x ∷ xs) c
+  ranBy (n ∷ ns) (x ∷ xs) c = followed (outcome f n x c .reply) (ranBy ns xs (outcome f n x c .copy))
+
+  -- these are the numbers
+  abbrev pub numbered : List ℕ → List Call → Copy → Bool
+  numbered ns [] c = true
+  numbered [] (x ∷ xs) c = true
+  numbered (n ∷ ns) (x ∷ xs) c =
+      eqb (numberBelow f x (c .store) (length (c .memory))) n && numbered ns xs (outcome f n x c .copy)
+
+  pub ran-by : (ns : List ℕ) (xs : List Call) (c : Copy) → numbered ns xs c ≡ true → runBelow xs c ≡ ranBy ns xs c
+  ran-by ns [] c e = refl
+  ran-by [] (x ∷ xs) c e = refl
+  ran-by (n ∷ ns) (x ∷ xs) c e =
+      ap (λ (k : ℕ). followed (outcome f k x c .reply) (runBelow xs (outcome f k x c .copy)))
+      (eqb-true told n (and-left (eqb told n) _ e))
+      ∙ ap (followed (outcome f n x c .reply)) (ran-by ns xs (outcome f n x c .copy) (and-right (eqb told n) _ e))
+    where
+      told : ℕ
+      told = numberBelow f x (c .store) (length (c .memory))
+
+  pub run-by : (ns : List ℕ) (xs : List Call) (c : Copy) → SoundCopy c → numbered ns xs c ≡ true
+      → run f xs c ≡ ranBy ns xs c
+  run-by ns xs c k e = run-below xs c k ∙ ran-by ns xs c e
 
   -- a call, by what it is known to leave and give, and then a list
   pub then-below : (x : Call) (xs : List Call) (c : Copy) (o : Outcome) (n : Ran) → stepBelow x c ≡ o

@@ -5,7 +5,7 @@
 use mathlib.Core.Bool.{Bool, true, false, not, _||_, cond}
 use mathlib.Core.List.{List, [], _∷_, _++_}
 use mathlib.Core.Path.{_≡_, refl, sym, ap, _∙_, subst}
-use Prim.Native.Nat.{ℕ, zero, suc, _<_}
+use Prim.Native.Nat.{ℕ}
 use native.Mathlib.Omega.{arith}
 use lib.Dec.{eqb}
 use lib.ListN.{length, getD}
@@ -19,66 +19,42 @@ use Rattle.handle.specs.Handles.{Name, decoded}
 use Rattle.handle.proofs.CodecLaws.{listed}
 use Rattle.store.specs.declared.Place.the-variants.{Present}
 use Rattle.store.specs.declared.Store.{Store}
-use Rattle.store.specs.declared.Cluster.{Cluster}
-use Rattle.store.specs.Records.{startingStore, started, tableAt, placeOn, putRecord, withPlace, withMark}
-use Rattle.store.proofs.ChangeLaws.{put-other}
+use Rattle.store.specs.Records.{started, tableAt, placeOn, putRecord, withPlace, withMark}
+use Rattle.store.proofs.QuickLaws.{quick, quickly, sound-quick}
 use Rattle.calls.specs.Calls.{Copy, Call}
 use Rattle.calls.specs.Steps.{Reply, Ran, Outcome, effects, outcome, run}
-use Rattle.isolation.specs.Copies.{SixteenBytes, SoundCopy, InPlace, Outside, Alike, Held, keyed, places}
+use Rattle.isolation.specs.Copies.{SixteenBytes, SoundCopy, InPlace, Alike, keyed, places}
 use Rattle.isolation.specs.Statements.{Agreed}
 use Rattle.calls.specs.Literals.{sixteen, none, told, shows}
 use Rattle.calls.specs.Looks.{lookedBy}
 use Rattle.calls.specs.Written.{telling}
 use Rattle.isolation.specs.Witness.{one, two, weakGiven, weakShown, before, last, lastLook, lastJoin, tries}
-use Rattle.isolation.specs.Witness.{answersBefore, answersAfter, answers, holding, toldPlaces, Still, Witnessed, Concluded}
+use Rattle.isolation.specs.Witness.{answersBefore, answersAfter, answers, holding, toldPlaces, Witnessed, Concluded}
 use Rattle.isolation.specs.Witness.{rightRead, rightLook, rightJoin, Bites}
 use Rattle.calls.proofs.StepLaws.{numberBelow, number-below}
-use Rattle.isolation.proofs.RunLaws.{stepBelow, step-below, runBelow, run-below, then-below, append-below, someBelow, isKeyed, shut-below}
+use Rattle.isolation.proofs.RunLaws.{stepBelow, step-below, runBelow, run-below, numbersOf, ranBy, numbered, ran-by, then-below, append-below, someBelow, isKeyed, shut-below}
 use Rattle.isolation.proofs.RunLaws.{lookedBelow, placesBelow, places-below, append-places}
 use Rattle.calls.specs.Numbers.{valid, violated, tests, otherTests}
-use Rattle.calls.proofs.Computing.{computing, sounding}
+use Rattle.calls.proofs.Computing.{computing}
 use Rattle.isolation.proofs.TwoCopies.{two-copies}
+use Rattle.isolation.proofs.HoldingLaws.{alike-holding, still-holding}
+
+quick-holding : (r w b : ℕ) → quick (holding r w b .store) (length (holding r w b .memory)) ≡ true
+unfolding quickly
+quick-holding r w b = refl
+
+-- soundness does not look at the passwords of an active cluster, nor at bytes
+sound-holding : (r w b : ℕ) → SoundCopy (holding r w b)
+sound-holding r w b = sound-quick (holding r w b .store) (length (holding r w b .memory)) ∙ quick-holding r w b
 
 pub sound-one : SoundCopy one
-unfolding sounding
-sound-one = refl
+sound-one = sound-holding 17 34 7
 
 sound-two : SoundCopy two
-unfolding sounding
-sound-two = refl
+sound-two = sound-holding 1 2 9
 
 alike : Alike 0 2 one two
-alike =
-    record {
-      records = refl;
-      others = λ n ne. put-other startingStore 2 _ n ne ∙ sym (put-other startingStore 2 _ n ne);
-      table = refl;
-      size = refl;
-      bytes = bytes-equal;
-    }
-  where
-    bytes-equal : (p : ℕ) → Outside 0 2 (tableAt (one .store)) p → getD (one .memory) p 0 ≡ getD (two .memory) p 0
-    bytes-equal zero out = absurd (out 5 (omega arith) (omega arith))
-    bytes-equal (suc zero) out = absurd (out 5 (omega arith) (omega arith))
-    bytes-equal (suc (suc zero)) out = absurd (out 5 (omega arith) (omega arith))
-    bytes-equal (suc (suc (suc zero))) out = absurd (out 5 (omega arith) (omega arith))
-    bytes-equal (suc (suc (suc (suc p)))) out = refl
-
-pub four : (r w b p : ℕ) → p < 4 → getD (holding r w b .memory) p 0 ≡ b
-four r w b zero l = refl
-four r w b (suc zero) l = refl
-four r w b (suc (suc zero)) l = refl
-four r w b (suc (suc (suc zero))) l = refl
-four r w b (suc (suc (suc (suc p)))) l = absurd (omega arith)
-
--- what is held has its passwords and bytes still
-still : (r w b : ℕ) (d : Copy) → Held 0 2 (holding r w b) d → Still d r w b
-still r w b d h =
-    record {
-      read = ap (λ (k : Cluster). k .read) (sym (h .cluster));
-      write = ap (λ (k : Cluster). k .write) (sym (h .cluster));
-      bytes = λ p l. sym (h .bytes p 5 (omega arith) (omega arith)) ∙ four r w b p l;
-    }
+alike = alike-holding 8 5 (omega arith) 17 34 7 1 2 9
 
 -- the first sixteen bytes of a password are compared with themselves
 pub same-bytes : (p : List ℕ) → every 16 (λ k. eqb (getD p k 0) (getD (tabulate 16 (λ k. getD p k 0)) k 0)) ≡ true
@@ -92,21 +68,31 @@ abbrev other : Name
 other = record { node = 3; local = 2 }
 
 module _ (f : Name → List ℕ → ℕ → List ℕ) where
-  abbrev left : Copy
-  left = runBelow f (before f) one .copy
+  abbrev ran : Ran
+  ran = ranBy f (numbersOf f (answersBefore f)) (before f) one
 
-  replies-before : runBelow f (before f) one .replies ≡ answersBefore f
+  abbrev left : Copy
+  left = ran .copy
+
+  numbers-before : numbered f (numbersOf f (answersBefore f)) (before f) one ≡ true
   unfolding tests effects computing
+  numbers-before = refl
+
+  ran-before : runBelow f (before f) one ≡ ran
+  ran-before = ran-by f (numbersOf f (answersBefore f)) (before f) one numbers-before
+
+  replies-before : ran .replies ≡ answersBefore f
+  unfolding effects computing
   replies-before = refl
 
   -- the records before the last calls: the other node's cluster has its segment, and the one that is frozen stays
   abbrev records : Store
   records =
-      putRecord (putRecord (one .store) 4 (withMark (withPlace (started (sixteen 3) (sixteen 4)) 6 (Present 4 1)) 6)) 26
-      (withPlace (started (sixteen 3) (sixteen 4)) 7 (Present 0 2))
+      putRecord (putRecord (one .store) 4 (withMark (withPlace (started 8 (sixteen 3) (sixteen 4)) 6 (Present 4 1)) 6)) 26
+      (withPlace (started 8 (sixteen 3) (sixteen 4)) 7 (Present 0 2))
 
   records-before : left .store ≡ records
-  unfolding tests effects computing
+  unfolding effects computing
   records-before = refl
 
   -- ---- the calls with weakened handles, whose passwords are what the chain gives, byte by byte
@@ -165,10 +151,17 @@ module _ (f : Name → List ℕ → ℕ → List ℕ) where
   ended =
       run-below f (tries f) one sound-one
       ∙ append-below f (before f) (last f ∷ lastLook f ∷ lastJoin f ∷ []) one
+      ∙ ap
+      (λ (n : Ran).
+      record {
+        replies = n .replies ++ runBelow f (last f ∷ lastLook f ∷ lastJoin f ∷ []) (n .copy) .replies;
+        copy = runBelow f (last f ∷ lastLook f ∷ lastJoin f ∷ []) (n .copy) .copy;
+      })
+      ran-before
       ∙ (λ j. record { replies = replies-before j ++ ended-after j .replies; copy = ended-after j .copy })
 
   -- the places that the looks tell
-  places-before : placesBelow f (before f) one ≡ telling 9 0 0 ∷ telling 0 4 6 ∷ telling 0 12288 12290 ∷ telling 5 0 0 ∷ []
+  places-before : placesBelow f (before f) one ≡ telling 9 0 0 ∷ telling 25 0 0 ∷ telling 0 4 6 ∷ telling 0 12288 12290 ∷ telling 5 0 0 ∷ []
   unfolding tests effects computing
   places-before = refl
 
@@ -183,6 +176,9 @@ module _ (f : Name → List ℕ → ℕ → List ℕ) where
   placed =
       places-below f (tries f) one sound-one
       ∙ append-places f (before f) (last f ∷ lastLook f ∷ lastJoin f ∷ []) one
+      ∙ ap
+      (λ (n : Ran). placesBelow f (before f) one ++ placesBelow f (last f ∷ lastLook f ∷ lastJoin f ∷ []) (n .copy))
+      ran-before
       ∙ ap (λ (o : Outcome). placesBelow f (before f) one ++ (lookedBelow f (lastLook f) (o .copy) ∷ [])) step-last
       ∙ (λ j. places-before j ++ (place-look j ∷ []))
 
@@ -233,8 +229,8 @@ module _ (f : Name → List ℕ → ℕ → List ℕ) where
         places = sym (agreed .places) ∙ placed;
         other-record = agreed .alike .others 26 (λ e. omega arith);
         other-byte = agreed .others 3 2 7 12289 (omega arith) (omega arith) (omega arith) (λ e. omega arith) in-other;
-        still-one = still 17 34 7 (run f (tries f) one .copy) (agreed .held-first);
-        still-two = still 1 2 9 (run f (tries f) two .copy) (agreed .held-second);
+        still-one = still-holding 8 5 (omega arith) 17 34 7 (run f (tries f) one .copy) (agreed .held-first);
+        still-two = still-holding 8 5 (omega arith) 1 2 9 (run f (tries f) two .copy) (agreed .held-second);
       }
 
   pub bites : Bites f

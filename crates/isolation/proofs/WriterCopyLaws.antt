@@ -6,7 +6,8 @@ use Prim.Native.Nat.{ℕ, _≤_, _<_}
 use native.Mathlib.Omega.{arith}
 use native.Mathlib.Decide.{ℕ-discrete}
 use mathlib.Core.Logic.{_≢_, _⊎_, inl, inr}
-use lib.ListN.{getD, replicate, getD-replicate}
+use mathlib.Core.Bool.{true}
+use lib.ListN.{length, getD, replicate, getD-replicate}
 use lib.Seq.{getD-set-other}
 use Rattle.sizes.specs.Sizes.{nodes, clusters, records, segments}
 use Rattle.store.specs.declared.Place.the-variants.{Present}
@@ -14,17 +15,20 @@ use Rattle.store.specs.declared.Segment.{Segment}
 use Rattle.store.specs.declared.Cluster.{Cluster}
 use Rattle.store.specs.Records.{segmentAt, absentSegment, inactive, startingStore, tableOf, recordOf, noCluster, clusterAt}
 use Rattle.store.specs.Records.{tableAt, placeOf, placeOn, putRecord}
+use Rattle.store.proofs.QuickLaws.{quick, quickly, sound-quick}
 use Rattle.store.proofs.ChangeLaws.{put-other}
 use Rattle.isolation.specs.Copies.{SoundCopy, InPlace}
 use Rattle.isolation.specs.Writers.{SameToWriters}
 use Rattle.isolation.specs.WriterLists.{tenth, second, kept, keeping}
-use Rattle.calls.proofs.Computing.{sounding}
 use Rattle.isolation.proofs.EntryLaws.{put-cases}
 use Rattle.isolation.proofs.WriterLeftLaws.{vacant}
 
+quick-keeping : (r b z : ℕ) → quick (kept r) (length (keeping r b z .memory)) ≡ true
+unfolding quickly
+quick-keeping r b z = refl
+
 pub sound-keeping : (r b z : ℕ) → SoundCopy (keeping r b z)
-unfolding sounding
-sound-keeping r b z = refl
+sound-keeping r b z = sound-quick (kept r) (length (keeping r b z .memory)) ∙ quick-keeping r b z
 
 -- record 10 has the one segment of another cluster
 module _ (r v l i p : ℕ) (hv : v < nodes) (hl : l < clusters) (ne : recordOf v l ≢ 2) where

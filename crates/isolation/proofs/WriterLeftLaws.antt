@@ -112,7 +112,11 @@ module _ (node local : ℕ) (a b : Copy) (same : SameToWriters node local a b) w
     segment-same s m n size old new =
         put-same-record own _ _ m n
         (λ ne. ap (λ (c : Cluster). withSegment c at (s (tableOf c))) (same .others own ne))
-        (λ j. record { active = same-to-writers j own .active; segments = set (same-to-writers j own .segments) at (s (same-to-writers j own)) })
+        (λ j. record {
+          active = same-to-writers j own .active;
+          width = same-to-writers j own .width;
+          segments = set (same-to-writers j own .segments) at (s (same-to-writers j own));
+        })
         (writes own) size
         (λ v l i p hv hl hi ne u.
         go v l i p hv hl hi ne (segment-cases (a .store) own at (s (tables a own)) (recordOf v l) i) u)
@@ -195,7 +199,7 @@ module _ (node local : ℕ) (a b : Copy) (same : SameToWriters node local a b) w
         → SameToWriters node local (left kind (call kind g) a) (left kind (call kind g) b)
     unfolding left clusterMade clusterDeleted segmentDeleted passwordReplaced segmentMarked
     left-same newCluster e =
-        change (call newCluster g) (λ c. started (g .first) (g .second)) refl refl (λ v i p u. absurd (vacant v i p u))
+        change (call newCluster g) (λ c. started (g .width) (g .first) (g .second)) refl refl (λ v i p u. absurd (vacant v i p u))
     left-same deleteCluster e =
         change (call deleteCluster g) (λ c. inactive) refl refl (λ v i p u. absurd (vacant v i p u))
     left-same newSegment e = made-same e

@@ -23,7 +23,7 @@ use Rattle.isolation.specs.WriterLists.{marks, marksAnswers, toldPlaces,
 use Rattle.isolation.specs.WriterWitness.{rightRead, rightLook, rightCheck, Met, end, WritersList, WritersUntold, WritersBite}
 use Rattle.calls.proofs.StepLaws.{numberBelow}
 use Rattle.calls.proofs.Computing.{computing}
-use Rattle.isolation.proofs.RunLaws.{stepBelow, step-below, runBelow, run-below, then-below, append-below, someBelow, append-some}
+use Rattle.isolation.proofs.RunLaws.{stepBelow, step-below, runBelow, run-below, numbersOf, ranBy, numbered, ran-by, run-by, then-below, append-below, someBelow, append-some}
 use Rattle.isolation.proofs.RunLaws.{placesBelow, places-below, append-places, along-below}
 use Rattle.isolation.proofs.WitnessLaws.{same-bytes}
 use Rattle.isolation.proofs.WriterLaws.{writers-learn-nothing}
@@ -124,16 +124,20 @@ module _ (f : Name → List ℕ → ℕ → List ℕ) where
   unfolding keyed tests effects computing
   unspied-theirs = refl
 
-  replied : runBelow f rest (after 17 7 5) .replies ≡ restAnswers
+  abbrev restRun : Ran
+  restRun = ranBy f (numbersOf f restAnswers) rest (after 17 7 5)
+
+  numbers-rest : numbered f (numbersOf f restAnswers) rest (after 17 7 5) ≡ true
   unfolding tests effects computing
+  numbers-rest = refl
+
+  replied : restRun .replies ≡ restAnswers
+  unfolding effects computing
   replied = refl
 
   looked : placesBelow f rest (after 17 7 5) ≡ toldPlaces
   unfolding tests effects computing
   looked = refl
-
-  abbrev restRun : Ran
-  restRun = runBelow f rest (after 17 7 5)
 
   ended : run f (wholeList f) ours ≡ record { replies = openingAnswers f ++ restRun .replies; copy = restRun .copy }
   ended =
@@ -143,6 +147,8 @@ module _ (f : Name → List ℕ → ℕ → List ℕ) where
       (λ (n : Ran).
       record { replies = n .replies ++ runBelow f rest (n .copy) .replies; copy = runBelow f rest (n .copy) .copy })
       (opened 17 7 5)
+      ∙ ap (λ (n : Ran). record { replies = openingAnswers f ++ n .replies; copy = n .copy })
+      (ran-by f (numbersOf f restAnswers) rest (after 17 7 5) numbers-rest)
 
   unspied-marks-ours : someBelow f (spying 0 2 f) marks ours ≡ false
   unfolding keyed tests effects computing
@@ -152,8 +158,12 @@ module _ (f : Name → List ℕ → ℕ → List ℕ) where
   unfolding keyed tests effects computing
   unspied-marks-theirs = refl
 
-  replied-marks : runBelow f marks ours .replies ≡ marksAnswers
+  numbers-marks : numbered f (numbersOf f marksAnswers) marks ours ≡ true
   unfolding tests effects computing
+  numbers-marks = refl
+
+  replied-marks : ranBy f (numbersOf f marksAnswers) marks ours .replies ≡ marksAnswers
+  unfolding effects computing
   replied-marks = refl
 
   met : (xs : List Call) → NoReader 0 2 f (step f) xs ours → NoReader 0 2 f (step f) xs theirs → Met f xs
@@ -183,7 +193,9 @@ module _ (f : Name → List ℕ → ℕ → List ℕ) where
         marks-met =
             met marks (unspied-list marks ours (sound-keeping 17 7 5) unspied-marks-ours)
             (unspied-list marks theirs (sound-keeping 1 9 6) unspied-marks-theirs);
-        marks-replies = ap (λ (n : Ran). n .replies) (run-below f marks ours (sound-keeping 17 7 5)) ∙ replied-marks;
+        marks-replies =
+            ap (λ (n : Ran). n .replies) (run-by f (numbersOf f marksAnswers) marks ours (sound-keeping 17 7 5) numbers-marks)
+            ∙ replied-marks;
       }
 
   pub untold : (xs : List Call) → Met f xs → Untold 0 2 f (step f) xs ours theirs

@@ -1,11 +1,11 @@
 -- What `step` does, in words that are not its text: conditions 1 and 2, and the column "Must hold" of document 01's
 -- calls. For every conversion f:
---     Refused x c          the copy and the buffer stay; the handles are zero bytes, the count and the length zero, and no
+--     Refused x c          the copy and the buffer stay; the handles have length 0, the count and the length zero, and no
 --                          byte is shown
 --     RefusalChangesNothing    condition 1: a call whose number is not 0 is so refused, with that number
 --     FirstTold            condition 1: the number is that of a row which applies and above which none applies
 --     MustHold k x s       the column "Must hold" for the kind k:
---       Opener m h           the handle h validates in the mode m, is not gapped, and its cluster is active
+--       Opener m h           the handle h validates in the mode m, is not gapped, and its cluster is active and of its width
 --       Primary m            the call's handle is such a one, and all its subselectors are flat
 --       Owner                it is a write primary handle of the current node
 --       Access m             it validates in the mode m and references the segment
@@ -14,11 +14,12 @@
 --                            referenced by neither
 --       Fresh                the cluster is inactive, and the two passwords differ
 --     DoneHeld             a call done had what must hold
---     Judgeable g s size   validation by the arguments g gets as far as row 9: the store is sound, the place exists,
---                          the mode is one of the two, the selector is not gapped and the cluster is active
+--     Judgeable g s size   validation by the arguments g gets as far as row 9: the handle has 21, 23 or 27 bytes, the store is
+--                          sound, the place exists, the mode is one of the two, the selector is not gapped, the cluster is
+--                          active and of the handle's width
 --     chained g s          what the chain of conversions makes of the primary password of the mode named
---     ValidationJudges     condition 2: then a handle of 23 bytes validates if its password is what the chain gives,
---                          and is refused with 9 in every other case
+--     ValidationJudges     condition 2: then the handle validates if its password is what the chain gives, and is refused
+--                          with 9 in every other case
 --     ValidationIsReduction    validation gives the number that call 8 would give
 --     WeakeningIs          call 7 gives that reply, whatever the store, and leaves the store alone
 --     trimmed u g          the arguments g, those not used by u blank
@@ -32,10 +33,10 @@ use mathlib.Core.List.{List, [], _∷_, _++_}
 use lib.ListN.{length}
 use Rattle.sizes.specs.Sizes.{passwordBytes}
 use Rattle.handle.specs.declared.Handle.{Handle}
-use Rattle.handle.specs.Sizes.{handleBytes}
 use Rattle.handle.specs.Selectors.{references, allFlat, gapped, wholeUnion}
 use Rattle.handle.specs.Handles.{Name, nameOf, nodeOf, widthOf, samePassword, noSuchPlace, through}
 use Rattle.handle.specs.Handles.{weakening}
+use Rattle.handle.specs.Trips.{OfWidth}
 use Rattle.store.specs.declared.Store.{Store}
 use Rattle.store.specs.Records.{recordOf, clusterAt, tableAt, readMode, writeMode, primaryOf}
 use Rattle.store.specs.Sound.{sound}
@@ -63,6 +64,7 @@ trimmed u g =
     record {
       current = numberIf (u .current) (g .current);
       local = numberIf (u .local) (g .local);
+      width = numberIf (u .width) (g .width);
       mode = numberIf (u .mode) (g .mode);
       segment = numberIf (u .segment) (g .segment);
       size = numberIf (u .size) (g .size);
@@ -101,6 +103,7 @@ module _ (f : Name → List ℕ → ℕ → List ℕ) where
     pub valid : valid f mode h s ≡ true
     pub even : gapped (widthOf h) (h .selector) ≡ false
     pub active : tableAt s (recordNamed h) .active ≡ true
+    pub wide : widthOf h ≡ tableAt s (recordNamed h) .width
 
   pub record Primary (mode : ℕ) (x : Call) (s : Store) : Type 0 where
     pub opener : Opener mode (handleOf x) s
@@ -149,11 +152,13 @@ module _ (f : Name → List ℕ → ℕ → List ℕ) where
   -- ---- condition 2
 
   pub record Judgeable (g : Arguments) (s : Store) (size : ℕ) : Type 0 where
+    pub long : OfWidth (length (g .handle))
     pub sound : sound s size ≡ true
     pub place : noSuchPlace (handleOf (call validate g)) ≡ false
     pub mode : (g .mode ≡ readMode) ⊎ (g .mode ≡ writeMode)
     pub even : gapped (widthOf (handleOf (call validate g))) (handleOf (call validate g) .selector) ≡ false
     pub active : tableAt s (recordNamed (handleOf (call validate g))) .active ≡ true
+    pub wide : widthOf (handleOf (call validate g)) ≡ tableAt s (recordNamed (handleOf (call validate g))) .width
 
   abbrev pub chained : Arguments → Store → List ℕ
   chained g s =
@@ -166,7 +171,7 @@ module _ (f : Name → List ℕ → ℕ → List ℕ) where
 
   abbrev pub ValidationJudges : Type 0
   ValidationJudges =
-      (g : Arguments) (s : Store) (size : ℕ) → length (g .handle) ≡ handleBytes
+      (g : Arguments) (s : Store) (size : ℕ)
       → length (primaryOf (clusterAt s (recordNamed (handleOf (call validate g)))) (g .mode)) ≡ passwordBytes
       → Judgeable g s size → Judged g s size
 

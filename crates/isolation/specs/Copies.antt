@@ -7,14 +7,15 @@
 --     setApart          its record
 --     names h           the handle h names it: node and local number, each compared alone
 --     Outside ts a      address a is in none of its segments
---     Alike a b         every other record is equal, its table is equal, every byte outside its segments is equal
+--     Alike a b         every other record is equal, its table is equal, with its width, every byte outside its segments is equal
 --     SameBytes a b     its segments' bytes in the copy b are those in the copy a
 --     Held a b          its record and its segments' bytes in b are those in a
 --     Unaltered a b     its table, its write password and its segments' bytes in b are those in a
 -- Over a conversion f:
 --     keyed m x s       the call x opens a cluster, and some handle that it presents, of a join the first or the second,
 --                       names this one, is not gapped and validates in the mode m; a weakening opens none. Gapped handles
---                       are refused whatever they hold, so that leaving them out asks less of a list
+--                       are refused whatever they hold, so that leaving them out asks less of a list; and so are handles of
+--                       another width than the cluster's, which do not validate
 --     Shut x s          it is keyed in neither mode: so is asked of each handle that it presents
 --     AllShut, NoWriter    each call of a list is shut, or not keyed for writing, on the copy that it gets
 -- Of a list whose calls are carried out by p, which is the step unless another is named:

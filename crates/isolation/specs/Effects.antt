@@ -2,16 +2,19 @@
 -- conversion f and a call done:
 --     Shaped s           the store has all its records, and each has all its segments
 --     nameFor x          the name of the cluster that a call is about
---     Refers n r h       the handle h names n, is not gapped, and references exactly the segments that r gives
---     MadeOpens          call 1: the two handles name the cluster, reference every segment, and validate, one for
---                        reading and one for writing, on the copy left
---     RenewedOpens       call 9: the new handle names the cluster, references every segment and validates in the mode
---                        named; the other password stays
---     ReducedOpens       call 8: the handle validates in the mode named, and references the same segments
---     JoinedOpens        call 11: the copy stays, and one handle is given, nothing else; it validates in the mode named,
---                        references exactly the segments that either of the two references, and is not primary
---     WeakenedOpens      call 7: the handle validates in each mode in which the old one does, and references those
---                        segments of the old one that the mask keeps
+--     opened b           the handle that the bytes of a reply hold, as many as it says
+--     BytesAlone b       each of b is below 256; how many there are is open, since only three lengths get past row 25
+--     Refers n w r h     the handle h names n, has the width w, is not gapped, and references exactly the segments that r gives
+--     MadeOpens          call 1: the two handles name the cluster, have the width asked for, reference every segment, and
+--                        validate, one for reading and one for writing, on the copy left
+--     RenewedOpens       call 9: the new handle names the cluster, has the width of the one presented, references every
+--                        segment and validates in the mode named; the other password stays
+--     ReducedOpens       call 8: the handle has the same width, validates in the mode named, and references the same segments
+--     JoinedOpens        call 11: the copy stays, and one handle is given, nothing else; it has the width of the two,
+--                        validates in the mode named, references exactly the segments that either of the two references, and
+--                        is not primary
+--     WeakenedOpens      call 7: the handle has the same width, validates in each mode in which the old one does, and
+--                        references those segments of the old one that the mask keeps
 --     otherMode m        the mode that m is not
 --     SameSegment x y    two calls are about the same segment
 --     WrittenReads       call 6 and then 5: the buffer begins with what was written
@@ -19,7 +22,7 @@
 --     ClusterGone        call 2: the record is that of the starting store
 --     SegmentGone        call 4: the segment is absent
 -- And of a call done or refused:
---     OtherSegments      the record a has become b: active or not, passwords and the other segments are as they were
+--     OtherSegments      the record a has become b: active or not, width, passwords and the other segments are as they were
 --     OtherPassword      its table and the password of the other mode are as they were
 --     OtherMarks         all is as it was but for the mark of the segment that the call names; what a freeze makes of that
 --                        mark is said in `FreezeInWords` of `calls`
@@ -32,14 +35,13 @@ use Prim.Native.Nat.{ℕ, _<_}
 use mathlib.Core.Bool.{Bool, true, false, _&&_}
 use mathlib.Core.List.{List, [], _++_}
 use lib.Dec.{eqb}
-use lib.ListN.{length, take, drop, replicate}
+use lib.ListN.{length, getD, take, drop, replicate}
 use Rattle.bits.specs.Sets.{has}
 use Rattle.sizes.specs.Sizes as N
 use Rattle.handle.specs.declared.Handle.{Handle}
-use Rattle.handle.specs.Sizes.{handleBytes}
+use Rattle.handle.specs.declared.HandleBytes.{HandleBytes}
 use Rattle.handle.specs.Selectors.{references, either, allFlat, gapped}
-use Rattle.bits.specs.Bytes.{Bytes}
-use Rattle.handle.specs.Handles.{Name, nameOf, widthOf, decoded}
+use Rattle.handle.specs.Handles.{Name, nameOf, widthOf, decoded, bytesIn}
 use Rattle.store.specs.declared.Place.the-variants.{Absent}
 use Rattle.store.specs.declared.Cluster.{Cluster}
 use Rattle.store.specs.declared.Store.{Store}
@@ -68,19 +70,26 @@ otherMode m = elim (eqb m readMode) [ true ↦ writeMode | false ↦ readMode ]
 abbrev pub nameFor : Call → Name
 nameFor x = record { node = nodeFor x; local = localFor x }
 
-pub record Refers (n : Name) (r : ℕ → Bool) (h : Handle) : Type 0 where
+abbrev pub opened : HandleBytes → Handle
+opened b = decoded (bytesIn b)
+
+abbrev pub BytesAlone : List ℕ → Type 0
+BytesAlone b = (i : ℕ) → getD b i 0 < 256
+
+pub record Refers (n : Name) (w : ℕ) (r : ℕ → Bool) (h : Handle) : Type 0 where
   pub named : nameOf h ≡ n
-  pub ungapped : gapped (widthOf h) (h .selector) ≡ false
-  pub refers : (i : ℕ) → i < widthOf h → references (h .selector) i ≡ r i
+  pub wide : widthOf h ≡ w
+  pub ungapped : gapped w (h .selector) ≡ false
+  pub refers : (i : ℕ) → i < w → references (h .selector) i ≡ r i
 
 module _ (f : Name → List ℕ → ℕ → List ℕ) where
   -- ---- the handles
 
   pub record Made (x : Call) (o : Outcome) : Type 0 where
-    pub reader : Refers (nameFor x) (λ i. true) (decoded (o .reply .first))
-    pub writer : Refers (nameFor x) (λ i. true) (decoded (o .reply .second))
-    pub reading : valid f readMode (decoded (o .reply .first)) (o .copy .store) ≡ true
-    pub writing : valid f writeMode (decoded (o .reply .second)) (o .copy .store) ≡ true
+    pub reader : Refers (nameFor x) (x .args .width) (λ i. true) (opened (o .reply .first))
+    pub writer : Refers (nameFor x) (x .args .width) (λ i. true) (opened (o .reply .second))
+    pub reading : valid f readMode (opened (o .reply .first)) (o .copy .store) ≡ true
+    pub writing : valid f writeMode (opened (o .reply .second)) (o .copy .store) ≡ true
 
   abbrev pub MadeOpens : Type 0
   MadeOpens =
@@ -89,8 +98,8 @@ module _ (f : Name → List ℕ → ℕ → List ℕ) where
       → Done f x c → Made x (step f x c)
 
   pub record Renewed (x : Call) (c : Copy) (o : Outcome) : Type 0 where
-    pub handle : Refers (nameFor x) (λ i. true) (decoded (o .reply .first))
-    pub opens : valid f (x .args .mode) (decoded (o .reply .first)) (o .copy .store) ≡ true
+    pub handle : Refers (nameFor x) (widthOf (handleOf x)) (λ i. true) (opened (o .reply .first))
+    pub opens : valid f (x .args .mode) (opened (o .reply .first)) (o .copy .store) ≡ true
     pub other : primaryOf (clusterAt (o .copy .store) (recordFor x)) (otherMode (x .args .mode))
         ≡ primaryOf (clusterAt (c .store) (recordFor x)) (otherMode (x .args .mode))
 
@@ -100,38 +109,38 @@ module _ (f : Name → List ℕ → ℕ → List ℕ) where
       → Renewed (call newPassword g) c (step f (call newPassword g) c)
 
   pub record Reduced (x : Call) (o : Outcome) : Type 0 where
-    pub opens : valid f (x .args .mode) (decoded (o .reply .first)) (o .copy .store) ≡ true
-    pub handle : Refers (nameFor x) (references (handleOf x .selector)) (decoded (o .reply .first))
+    pub opens : valid f (x .args .mode) (opened (o .reply .first)) (o .copy .store) ≡ true
+    pub handle : Refers (nameFor x) (widthOf (handleOf x)) (references (handleOf x .selector)) (opened (o .reply .first))
 
   abbrev pub ReducedOpens : Type 0
   ReducedOpens =
       SixteenBytes f → (g : Arguments) (c : Copy) → let x = call reduce g in
-      Bytes handleBytes (g .handle)
+      BytesAlone (g .handle)
       → length (primaryOf (clusterAt (c .store) (recordFor x)) (g .mode)) ≡ N.passwordBytes
       → Done f x c → Reduced x (step f x c)
 
   pub record Joined (x : Call) (c : Copy) (o : Outcome) : Type 0 where
     pub stays : o .copy ≡ c
-    pub told : o .reply ≡ told 0 (o .reply .first) none 0 0 []
-    pub opens : valid f (x .args .mode) (decoded (o .reply .first)) (o .copy .store) ≡ true
-    pub handle : Refers (nameFor x) (either (handleOf x .selector) (otherOf x .selector)) (decoded (o .reply .first))
-    pub not-primary : allFlat (widthOf (decoded (o .reply .first))) (decoded (o .reply .first) .selector) ≡ false
+    pub told : o .reply ≡ told 0 (bytesIn (o .reply .first)) none 0 0 []
+    pub opens : valid f (x .args .mode) (opened (o .reply .first)) (o .copy .store) ≡ true
+    pub handle : Refers (nameFor x) (widthOf (handleOf x)) (either (handleOf x .selector) (otherOf x .selector)) (opened (o .reply .first))
+    pub not-primary : allFlat (widthOf (opened (o .reply .first))) (opened (o .reply .first) .selector) ≡ false
 
   abbrev pub JoinedOpens : Type 0
   JoinedOpens =
       SixteenBytes f → (g : Arguments) (c : Copy) → let x = call join g in
-      Bytes handleBytes (g .handle) → Done f x c → Joined x c (step f x c)
+      BytesAlone (g .handle) → Done f x c → Joined x c (step f x c)
 
   pub record Weakened (x : Call) (c : Copy) (o : Outcome) : Type 0 where
     pub opens : (m : ℕ) → length (primaryOf (clusterAt (c .store) (recordFor x)) m) ≡ N.passwordBytes
-        → valid f m (handleOf x) (c .store) ≡ true → valid f m (decoded (o .reply .first)) (c .store) ≡ true
-    pub handle : Refers (nameFor x) (λ i. references (handleOf x .selector) i && has i (x .args .mask))
-        (decoded (o .reply .first))
+        → valid f m (handleOf x) (c .store) ≡ true → valid f m (opened (o .reply .first)) (c .store) ≡ true
+    pub handle : Refers (nameFor x) (widthOf (handleOf x)) (λ i. references (handleOf x .selector) i && has i (x .args .mask))
+        (opened (o .reply .first))
 
   abbrev pub WeakenedOpens : Type 0
   WeakenedOpens =
       SixteenBytes f → (g : Arguments) (c : Copy) → let x = call weaken g in
-      Bytes handleBytes (g .handle) → Done f x c → Weakened x c (step f x c)
+      BytesAlone (g .handle) → Done f x c → Weakened x c (step f x c)
 
   -- ---- the segments
 
@@ -168,6 +177,7 @@ module _ (f : Name → List ℕ → ℕ → List ℕ) where
 
 pub record OtherSegments (x : Call) (a b : Cluster) : Type 0 where
   pub active : b .active ≡ a .active
+  pub width : b .width ≡ a .width
   pub read : b .read ≡ a .read
   pub write : b .write ≡ a .write
   pub segments : (j : ℕ) → j ≢ x .args .segment → segmentOf (tableOf b) j ≡ segmentOf (tableOf a) j

@@ -45,7 +45,7 @@ pub record FromThenOn (v l i : ℕ) (c d : Copy) : Type 0 where
 module _ (f : Name → List ℕ → ℕ → List ℕ) where
   abbrev pub FrozenStays : Type 0
   FrozenStays =
-      (v l i base length : ℕ) → v < 4 → l < 8 → i < 8 → (xs : List Call) (c : Copy) → SoundCopy c
+      (v l i base length : ℕ) → v < 4 → l < 8 → i < 16 → (xs : List Call) (c : Copy) → SoundCopy c
       → placeAt (c .store) v l i ≡ Present base length → frozenAt (c .store) v l i ≡ true
       → Fixed v l i base length c (run f xs c .copy)
 

@@ -42,7 +42,7 @@ attempts =
     ∷ deletingSegment 0 5 (primary 0 2 34)
     ∷ makingSegment 0 5 4 (primary 0 2 34)
     ∷ deletingCluster 0 (primary 0 2 34)
-    ∷ makingCluster 0 2 (sixteen 3) (sixteen 4)
+    ∷ makingCluster 0 2 8 (sixteen 3) (sixteen 4)
     ∷ renewing 2 (primary 0 2 34) (sixteen 6)
     ∷ writing 5 (primary 0 2 6) (6 ∷ 6 ∷ 6 ∷ 6 ∷ [])
     ∷ makingSegment 0 6 4 (primary 0 2 6)
@@ -53,7 +53,7 @@ attempts =
     ∷ reducing 2 (primary 0 2 6)
     ∷ joining 2 (primary 0 2 6) (primary 0 2 6)
     ∷ validating 2 (primary 0 2 6)
-    ∷ makingCluster 0 3 (sixteen 3) (sixteen 4)
+    ∷ makingCluster 0 3 8 (sixteen 3) (sixteen 4)
     ∷ makingSegment 0 5 4 (primary 0 3 4)
     ∷ writing 5 (primary 0 3 4) (5 ∷ 5 ∷ 5 ∷ 5 ∷ [])
     ∷ deletingSegment 0 5 (primary 0 3 4)
@@ -97,7 +97,7 @@ otherwise =
     ∷ reading 5 (primary 0 2 17) (1 ∷ 2 ∷ 3 ∷ 4 ∷ 5 ∷ [])
     ∷ deletingSegment 0 5 (primary 0 2 34)
     ∷ deletingCluster 0 (primary 0 2 34)
-    ∷ makingCluster 0 2 (sixteen 3) (sixteen 4)
+    ∷ makingCluster 0 2 8 (sixteen 3) (sixteen 4)
     ∷ []
 
 abbrev marked : Copy

@@ -13,4 +13,7 @@ pub mod Renewals
 pub mod RenewalReplies
 pub mod Frozen
 pub mod FrozenWitness
+pub mod WidthLists
+pub mod WidthHolders
+pub mod WidthWitness
 pub mod Reads

@@ -5,7 +5,8 @@
 --                               password is taken: then one handle is good for every kind of call, weakened too, and in
 --                               both modes, and 12 is still for the own password. Another password ends it; the write
 --                               password as a new read password is taken as well. Two equal passwords for a new cluster
---                               are still twins
+--                               are still twins. So it is in a cluster of four and in one of sixteen, where handles of
+--                               another width get 25
 --     BothDone                  they are the replies, by the conversion of the numbers' lists, and both passwords of the
 --                               record that is left are sixteen bytes 6
 --     alone r w                 the copy with one cluster, node 1 and local number 2, of the passwords sixteen r and w
@@ -26,7 +27,7 @@ use Rattle.calls.specs.Calls.{Copy, start, Call, makingCluster, deletingCluster
 use Rattle.calls.specs.Calls.{writing, reducing, renewing, freezing, joining, validating, looking}
 use Rattle.calls.specs.Steps.{Reply, Ran, run}
 use Rattle.calls.specs.Cases.{added}
-use Rattle.calls.specs.Literals.{sixteen, handle, primary, none, told, shows}
+use Rattle.calls.specs.Literals.{sixteen, handle, primary, small, large, none, told, shows}
 use Rattle.isolation.specs.Renewals.{SameButOther, Guess, guesses}
 
 abbrev weak : ℕ → List ℕ
@@ -34,7 +35,7 @@ weak b = handle 1 2 (b + 32) (32 ∷ 255 ∷ 255 ∷ 255 ∷ [])
 
 abbrev pub renewCalls : List Call
 renewCalls =
-    makingCluster 1 2 (sixteen 3) (sixteen 4)
+    makingCluster 1 2 8 (sixteen 3) (sixteen 4)
     ∷ makingSegment 1 5 3 (primary 1 2 4)
     ∷ renewing 1 (primary 1 2 3) (sixteen 3)
     ∷ renewing 2 (primary 1 2 4) (sixteen 4)
@@ -69,10 +70,25 @@ renewCalls =
     ∷ validating 1 (primary 1 2 6)
     ∷ validating 2 (primary 1 2 6)
     -- a cluster is deleted with such a handle, and is not made with two equal passwords
-    ∷ makingCluster 1 3 (sixteen 6) (sixteen 7)
+    ∷ makingCluster 1 3 8 (sixteen 6) (sixteen 7)
     ∷ renewing 1 (primary 1 3 6) (sixteen 7)
     ∷ deletingCluster 1 (primary 1 3 7)
-    ∷ makingCluster 1 3 (sixteen 6) (sixteen 6)
+    ∷ makingCluster 1 3 8 (sixteen 6) (sixteen 6)
+    -- a cluster of four, and one of sixteen
+    ∷ makingCluster 1 4 4 (sixteen 6) (sixteen 7)
+    ∷ renewing 2 (small 1 4 7) (sixteen 7)
+    ∷ renewing 2 (small 1 4 7) (sixteen 6)
+    ∷ validating 1 (small 1 4 6)
+    ∷ validating 2 (small 1 4 6)
+    ∷ validating 2 (small 1 4 7)
+    ∷ renewing 1 (primary 1 4 6) (sixteen 8)
+    ∷ makingCluster 1 5 16 (sixteen 6) (sixteen 7)
+    ∷ renewing 1 (large 1 5 6) (sixteen 6)
+    ∷ renewing 1 (large 1 5 6) (sixteen 7)
+    ∷ validating 1 (large 1 5 7)
+    ∷ validating 2 (large 1 5 7)
+    ∷ validating 1 (large 1 5 6)
+    ∷ renewing 2 (small 1 5 7) (sixteen 8)
     ∷ []
 
 abbrev pub renewReplies : List Reply
@@ -111,6 +127,21 @@ renewReplies =
     ∷ told 0 (primary 1 3 7) none 0 0 []
     ∷ told 0 none none 0 0 []
     ∷ told 7 none none 0 0 []
+    -- a cluster of four, and one of sixteen
+    ∷ told 0 (small 1 4 6) (small 1 4 7) 0 0 []
+    ∷ told 12 none none 0 0 []
+    ∷ told 0 (small 1 4 6) none 0 0 []
+    ∷ told 0 none none 0 0 []
+    ∷ told 0 none none 0 0 []
+    ∷ told 9 none none 0 0 []
+    ∷ told 25 none none 0 0 []
+    ∷ told 0 (large 1 5 6) (large 1 5 7) 0 0 []
+    ∷ told 12 none none 0 0 []
+    ∷ told 0 (large 1 5 7) none 0 0 []
+    ∷ told 0 none none 0 0 []
+    ∷ told 0 none none 0 0 []
+    ∷ told 9 none none 0 0 []
+    ∷ told 25 none none 0 0 []
     ∷ []
 
 pub record Seen : Type 0 where
@@ -139,9 +170,10 @@ alone r w =
           putRecord startingStore 10
           (record {
             active = true;
+            width = 8;
             read = sixteen r;
             write = sixteen w;
-            segments = replicate 8 (record { place = Absent; frozen = false });
+            segments = replicate 16 (record { place = Absent; frozen = false });
           });
       memory = start .memory;
     }

@@ -22,7 +22,7 @@ use Prim.Native.Nat.{ℕ}
 use mathlib.Core.Bool.{true}
 use mathlib.Core.List.{List, [], _∷_}
 use lib.ListN.{length}
-use Rattle.handle.specs.Handles.{Name, decoded}
+use Rattle.handle.specs.Handles.{Name, decoded, bytesIn}
 use Rattle.store.specs.declared.Cluster.{Cluster}
 use Rattle.store.specs.Records.{clusterAt, tableAt}
 use Rattle.calls.specs.Calls.{Copy, Call, renewing}
@@ -70,7 +70,7 @@ module _ (f : Name → List ℕ → ℕ → List ℕ) where
     after = step f (renewing m a p) c .copy
 
     abbrev pub handed : List ℕ
-    handed = step f (renewing m a p) c .reply .first
+    handed = bytesIn (step f (renewing m a p) c .reply .first)
 
     -- the number that validation of a handle gets then
     abbrev pub checked : ℕ → List ℕ → ℕ

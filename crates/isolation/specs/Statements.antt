@@ -13,6 +13,7 @@
 --     Key m h s               the handle h names the cluster, is not gapped and validates in the mode m
 --     KeyedInWords            what these lists are asked: a call is keyed just where it opens a cluster, and the handle that
 --                             it takes, or the second one of a join, is such a key
+--     KeysFit                 a key has its cluster's width: no handle of another width is one, whatever its password
 --     ReadersAlterNothing     where no call of a list presents a handle of a cluster that validates for writing, a join
 --                             neither as its first nor as its second, the cluster's table, its write password and its
 --                             segments' bytes are at the end what they were
@@ -106,6 +107,9 @@ module _ (node local : ℕ) (f : Name → List ℕ → ℕ → List ℕ) where
   KeyedInWords =
       (mode : ℕ) (x : Call) (s : Store)
       → (keyed node local f mode x s ≡ true) ↔ (Opening x × Some (λ h. Key mode h s) x)
+
+  abbrev pub KeysFit : Type 0
+  KeysFit = (mode : ℕ) (h : Handle) (s : Store) → Key mode h s → widthOf h ≡ clusterAt s (setApart node local) .width
 
   abbrev pub ReadersAlterNothing : Type 0
   ReadersAlterNothing =

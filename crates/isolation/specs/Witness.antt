@@ -1,7 +1,9 @@
 -- Condition 3 is not empty, and it bites. The cluster set apart is local number 2 of node 0, with a segment of four bytes.
 -- Handles and answers are written out. No call of the list is left out of condition 3's lists; those with the right handle
 -- are, and tell the copies apart.
---     holding r w b       a copy in which its passwords are sixteen r and sixteen w, and its four bytes b
+--     holdingOf n i r w b a copy in which its width is n, the four bytes of its segment i are b, and its passwords are sixteen r
+--                         and sixteen w
+--     holding r w b       such a copy, of width 8, with segment 5
 --     one, two            two such copies that differ in all of these
 --     rightRead, rightLook, rightJoin    a read, a look and a join with the read primary handle of the copy one
 --     secondRight         a join whose second handle alone is that one; its first does not validate
@@ -13,7 +15,8 @@
 --     weakPassword c      what the parameter c turns the read password of local number 2 of node 3 into
 --     weakGiven c, weakShown c    the handle made, and shown, with that password and that parameter
 --     before              each of the eleven calls, validation and a look with a handle of the cluster that does not
---                         validate, all refused, and a weakening of one that does; each of them but the join done for a
+--                         validate, all refused, and a weakening of one that does; calls with its passwords in handles of 21,
+--                         22 and 27 bytes, refused with 25; each of them but the join done for a
 --                         cluster of the same node, a freeze for a second one, which is then not deleted; joins refused
 --                         because of the second handle alone, once one that does not validate and once one of the cluster
 --                         set apart, because of the first alone, again one of that cluster, and because the union is all eight; and some for a cluster with the same local
@@ -44,17 +47,20 @@ use Rattle.calls.specs.Calls.{Copy, Call, makingCluster, deletingCluster, makin
 use Rattle.calls.specs.Calls.{writing, weakeningBy, reducing, renewing, freezing, joining, validating, looking}
 use Rattle.calls.specs.Numbers.{number}
 use Rattle.calls.specs.Steps.{Reply, step, run}
-use Rattle.calls.specs.Literals.{sixteen, handle, primary, none, told, shows}
+use Rattle.calls.specs.Literals.{sixteen, handle, primary, small, large, none, told, shows}
 use Rattle.calls.specs.declared.Looked.{Looked}
 use Rattle.calls.specs.Written.{telling}
 use Rattle.isolation.specs.Copies.{SixteenBytes, SoundCopy, setApart, Alike, keyed, AllShut, places}
 
-abbrev pub holding : ℕ → ℕ → ℕ → Copy
-holding r w b =
+abbrev pub holdingOf : ℕ → ℕ → ℕ → ℕ → ℕ → Copy
+holdingOf n i r w b =
     record {
-      store = putRecord startingStore (recordOf 0 2) (withPlace (started (sixteen r) (sixteen w)) 5 (Present 0 4));
+      store = putRecord startingStore (recordOf 0 2) (withPlace (started n (sixteen r) (sixteen w)) i (Present 0 4));
       memory = b ∷ b ∷ b ∷ b ∷ replicate (memory - 4) 0;
     }
+
+abbrev pub holding : ℕ → ℕ → ℕ → Copy
+holding = holdingOf 8 5
 
 abbrev pub one : Copy
 one = holding 17 34 7
@@ -83,6 +89,7 @@ pub record Still (c : Copy) (r w b : ℕ) : Type 0 where
 abbrev pub toldPlaces : List Looked
 toldPlaces =
     telling 9 0 0
+    ∷ telling 25 0 0
     ∷ telling 0 4 6
     ∷ telling 0 12288 12290
     ∷ telling 5 0 0
@@ -108,7 +115,7 @@ module _ (f : Name → List ℕ → ℕ → List ℕ) where
   abbrev pub before : List Call
   before =
       -- the cluster set apart
-      makingCluster 0 2 (sixteen 3) (sixteen 4)
+      makingCluster 0 2 8 (sixteen 3) (sixteen 4)
       ∷ deletingCluster 0 (primary 0 2 5)
       ∷ makingSegment 0 1 4 (primary 0 2 5)
       ∷ deletingSegment 0 5 (primary 0 2 5)
@@ -122,8 +129,15 @@ module _ (f : Name → List ℕ → ℕ → List ℕ) where
       ∷ joining 1 (primary 0 2 5) (primary 0 2 6)
       ∷ validating 2 (primary 0 2 5)
       ∷ looking 0 5 (primary 0 2 5)
+      -- its passwords, and another width
+      ∷ validating 1 (small 0 2 17)
+      ∷ reading 3 (small 0 2 17) (9 ∷ [])
+      ∷ writing 5 (large 0 2 34) (8 ∷ 8 ∷ 8 ∷ 8 ∷ [])
+      ∷ looking 0 5 (large 0 2 17)
+      ∷ joining 1 (primary 0 2 5) (large 0 2 17)
+      ∷ validating 1 (handle 0 2 17 (255 ∷ 255 ∷ 255 ∷ []))
       -- a cluster of the same node
-      ∷ makingCluster 0 3 (sixteen 3) (sixteen 4)
+      ∷ makingCluster 0 3 8 (sixteen 3) (sixteen 4)
       ∷ makingSegment 0 7 2 (primary 0 3 4)
       ∷ writing 7 (primary 0 3 4) (5 ∷ 6 ∷ 7 ∷ [])
       ∷ reading 7 (primary 0 3 3) (9 ∷ 9 ∷ 9 ∷ [])
@@ -138,13 +152,13 @@ module _ (f : Name → List ℕ → ℕ → List ℕ) where
       ∷ validating 2 (primary 0 3 6)
       ∷ deletingSegment 0 7 (primary 0 3 6)
       ∷ deletingCluster 0 (primary 0 3 6)
-      ∷ makingCluster 0 4 (sixteen 3) (sixteen 4)
+      ∷ makingCluster 0 4 8 (sixteen 3) (sixteen 4)
       ∷ makingSegment 0 6 1 (primary 0 4 4)
       ∷ freezing 0 6 (primary 0 4 4)
       ∷ freezing 0 6 (primary 0 4 4)
       ∷ deletingCluster 0 (primary 0 4 4)
       -- a cluster with the same local number
-      ∷ makingCluster 3 2 (sixteen 3) (sixteen 4)
+      ∷ makingCluster 3 2 8 (sixteen 3) (sixteen 4)
       ∷ makingSegment 3 7 2 (primary 3 2 4)
       ∷ writing 7 (primary 3 2 4) (8 ∷ 9 ∷ [])
       ∷ looking 3 7 (primary 3 2 3)
@@ -181,6 +195,13 @@ module _ (f : Name → List ℕ → ℕ → List ℕ) where
       ∷ told 9 none none 0 0 []
       ∷ told 9 none none 0 0 []
       ∷ shows 9 []
+      -- its passwords, and another width
+      ∷ told 25 none none 0 0 []
+      ∷ told 25 none none 0 0 (9 ∷ [])
+      ∷ told 25 none none 0 0 (8 ∷ 8 ∷ 8 ∷ 8 ∷ [])
+      ∷ shows 25 []
+      ∷ told 25 none none 0 0 []
+      ∷ told 25 none none 0 0 []
       -- a cluster of the same node
       ∷ told 0 (primary 0 3 3) (primary 0 3 4) 0 0 []
       ∷ told 0 none none 0 0 []

@@ -47,10 +47,10 @@ use Rattle.isolation.specs.Witness.{made, shown}
 
 -- records 10 and 2
 abbrev pub tenth : Cluster
-tenth = withPlace (started (sixteen 50) (sixteen 51)) 0 (Present 0 2)
+tenth = withPlace (started 8 (sixteen 50) (sixteen 51)) 0 (Present 0 2)
 
 abbrev pub second : ℕ → Cluster
-second r = withPlace (withPlace (withPlace (started (sixteen r) (sixteen 34)) 5 (Present 0 4)) 4 (Present 4 2)) 3 (Present 10 1)
+second r = withPlace (withPlace (withPlace (started 8 (sixteen r) (sixteen 34)) 5 (Present 0 4)) 4 (Present 4 2)) 3 (Present 10 1)
 
 abbrev pub kept : ℕ → Store
 kept r = putRecord (putRecord startingStore 10 tenth) 2 (second r)
@@ -74,7 +74,7 @@ abbrev pub leak : List Call
 leak =
     deletingSegment 0 5 (primary 0 2 34)
     ∷ deletingSegment 0 4 (primary 0 2 34)
-    ∷ makingCluster 0 3 (sixteen 3) (sixteen 4)
+    ∷ makingCluster 0 3 8 (sixteen 3) (sixteen 4)
     ∷ makingSegment 0 7 6 (primary 0 3 4)
     ∷ reading 7 (primary 0 3 3) (replicate 6 8)
     ∷ []
@@ -144,7 +144,7 @@ rest =
     ∷ deletingCluster 0 (primary 0 2 17)
     -- the cluster deleted, and made anew
     ∷ reading 3 (primary 0 2 0) (8 ∷ [])
-    ∷ makingCluster 0 2 (sixteen 5) (sixteen 6)
+    ∷ makingCluster 0 2 8 (sixteen 5) (sixteen 6)
     ∷ makingSegment 0 3 2 (primary 0 2 6)
     ∷ writing 3 (primary 0 2 6) (7 ∷ 7 ∷ [])
     ∷ renewing 2 (primary 0 2 6) (sixteen 5)

@@ -1,16 +1,19 @@
 -- Laws of lines. Words are put one after another, a space before each; what is told goes by the number and the code; a
 -- line is its first word, the words after it and the line feed. A buffer with room takes the line whole.
 -- Assumes nothing.
-use Prim.Native.Nat.{ℕ, _+_, _≤_, _<_}
+use Prim.Native.Nat.{ℕ, _+_, _*_, _≤_, _<_}
 use native.Mathlib.Omega.{arith}
 use mathlib.Core.Path.{_≡_, refl, sym, ap, _∙_}
 use mathlib.Core.Bool.{true, false, _||_}
 use mathlib.Core.List.{List, [], _∷_, _++_, append-assoc, append-nil}
 use lib.Dec.{eqb}
-use lib.ListN.{length}
+use lib.ListN.{length, take}
+use lib.Seq.{take-all, length-take-le}
 use borrow.Author.Tests.{eq-eqb, ne-eqb, le-leb, lt-leb}
 use Rattle.sizes.specs.Sizes.{nodeMemory}
 use Rattle.loops.proofs.BelowLaws.{and-off}
+use Rattle.handle.specs.Widths.{mostBytes}
+use Rattle.handle.specs.Handles.{bytesIn}
 use Rattle.lines.specs.Text.{space, lineFeed, decimal, hexadecimal}
 use Rattle.lines.specs.Lines.{Answer, spaced, line, gives, told, callLine, wordLine}
 use Rattle.lines.specs.Buffers.{byteDigits, longest, longestWith, callLineWithin, wordLineWithin, Begins, Put}
@@ -38,6 +41,23 @@ pub put-head : (m m₁ m₂ m₃ : List ℕ) (p q r : ℕ) (w v u : List ℕ) �
 put-head m m₁ m₂ m₃ p q r w v u x y z =
     put-then m m₁ m₃ 0 p r w (spaced (v ∷ u ∷ [])) x (put-words m₁ m₂ m₃ p q r (v ∷ []) (u ∷ []) y z)
 
+-- ---- the first bytes of what holds a handle
+
+module _ (b : List ℕ) (n at : ℕ) (l : length b ≡ mostBytes) where
+  pub first-taken : n ≤ mostBytes → n ≡ length (take n b)
+  first-taken h = sym (length-take-le n b (omega arith))
+
+  pub first-room : n ≤ mostBytes → (out : List ℕ) → at + (1 + 2 * mostBytes) ≤ length out
+      → at + (1 + 2 * length (take n b)) ≤ length out
+  first-room h out room = let e = first-taken h in omega arith
+
+  pub first-end : n ≤ mostBytes → (r : ℕ) → r ≡ at + (1 + 2 * length (take n b)) → r ≤ at + (1 + 2 * mostBytes)
+  first-end h r f = let e = first-taken h in omega arith
+
+  pub first-all : mostBytes < n → (m m′ : List ℕ) (r : ℕ) → Put m m′ at r (spaced (hexadecimal b ∷ []))
+      → Put m m′ at r (spaced (hexadecimal (take n b) ∷ []))
+  first-all h m m′ r p = rw (take-all n b (omega arith)) p
+
 -- ---- what is told after the number
 
 module _ (m m₁ : List ℕ) (at r code : ℕ) (a : Answer) (s : List ℕ) where
@@ -46,13 +66,13 @@ module _ (m m₁ : List ℕ) (at r code : ℕ) (a : Answer) (s : List ℕ) where
   told-refused h = rw (ne-eqb (a .number) 0 h) (put-none m at)
 
   module _ (done : a .number ≡ 0) where
-    pub told-handles : (m₂ : List ℕ) (q : ℕ) → Put m m₁ at r (spaced (hexadecimal (a .first) ∷ []))
-        → Put m₁ m₂ r q (spaced (hexadecimal (a .second) ∷ [])) → code ≡ 1 → Put m m₂ at q (spaced (told code a s))
+    pub told-handles : (m₂ : List ℕ) (q : ℕ) → Put m m₁ at r (spaced (hexadecimal (bytesIn (a .first)) ∷ []))
+        → Put m₁ m₂ r q (spaced (hexadecimal (bytesIn (a .second)) ∷ [])) → code ≡ 1 → Put m m₂ at q (spaced (told code a s))
     unfolding told gives
     told-handles m₂ q x y e = rw (eq-eqb (a .number) 0 done, eq-eqb code 1 e) (put-words m m₁ m₂ at r q _ _ x y)
 
     module _ (n₁ : code ≡ 1 → ⊥) where
-      pub told-handle : Put m m₁ at r (spaced (hexadecimal (a .first) ∷ [])) → (eqb code 8 || eqb code 9 || eqb code 11) ≡ true
+      pub told-handle : Put m m₁ at r (spaced (hexadecimal (bytesIn (a .first)) ∷ [])) → (eqb code 8 || eqb code 9 || eqb code 11) ≡ true
           → Put m m₁ at r (spaced (told code a s))
       unfolding told gives
       told-handle x e = rw (eq-eqb (a .number) 0 done, ne-eqb code 1 n₁, e) x
@@ -64,7 +84,7 @@ module _ (m m₁ : List ℕ) (at r code : ℕ) (a : Answer) (s : List ℕ) where
         told-segment x e = rw (eq-eqb (a .number) 0 done, ne-eqb code 1 n₁, n₈, eq-eqb code 5 e) x
 
         module _ (n₅ : code ≡ 5 → ⊥) where
-          pub told-count : (m₂ : List ℕ) (q : ℕ) → Put m m₁ at r (spaced (hexadecimal (a .first) ∷ []))
+          pub told-count : (m₂ : List ℕ) (q : ℕ) → Put m m₁ at r (spaced (hexadecimal (bytesIn (a .first)) ∷ []))
               → Put m₁ m₂ r q (spaced (decimal (a .count) ∷ [])) → code ≡ 7 → Put m m₂ at q (spaced (told code a s))
           unfolding told gives
           told-count m₂ q x y e =

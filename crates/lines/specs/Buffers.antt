@@ -3,8 +3,8 @@
 --     longestHead                 the bytes of three such numbers with a space between, at most
 --     longest                     the bytes of a call's line, at most: the three numbers, a space, two digits for each
 --                                 byte of a segment as long as a node's memory, the line feed
---     brief                       the same of any call but a read: the three numbers, two handles, each after a space and
---                                 with two digits for a byte, the line feed
+--     brief                       the same of any call but a read: the three numbers, two handles of the largest width, each
+--                                 after a space and with two digits for a byte, the line feed
 --     longestWith w               the bytes of the line of the word w and a byte, at most
 --     callLineWithin room ..      what is put into room bytes: the line of a call; nothing where the room is less than
 --                                 the longest line, or the segment is longer than a node's memory
@@ -20,7 +20,7 @@ use mathlib.Core.List.{List, [], _++_}
 use lib.Dec.{leb}
 use lib.ListN.{length, take, drop}
 use Rattle.sizes.specs.Sizes.{nodeMemory}
-use Rattle.handle.specs.Sizes.{handleBytes}
+use Rattle.handle.specs.Widths.{mostBytes}
 use Rattle.lines.specs.Lines.{Answer, callLine, wordLine}
 
 abbrev pub byteDigits : ℕ
@@ -33,7 +33,7 @@ abbrev pub longest : ℕ
 longest = longestHead + 1 + 2 * nodeMemory + 1
 
 abbrev pub brief : ℕ
-brief = longestHead + 2 * (1 + 2 * handleBytes) + 1
+brief = longestHead + 2 * (1 + 2 * mostBytes) + 1
 
 abbrev pub longestWith : List ℕ → ℕ
 longestWith w = length w + (1 + byteDigits + 1)

@@ -1,10 +1,10 @@
 -- Document 01, "The list of calls": the sample's output line by line, and lines of the other forms; a freeze and joins of
 -- document 02.
 --     Example            a line that the definitions give, and how it is printed
---     handle b ss        the handle of node 0, local number 2, the password of sixteen bytes b and the selector ss
+--     handle b ss        the handle of node 0, local number 2, the password of sixteen bytes b and the selector's bytes ss
 --     primary b          the same with a flat selector
 --     answered n a b c   the answer with the number n, the handles a and b, and the count c
---     noHandle           a handle that is not given
+--     noHandle           a handle that is not given: it has no bytes
 --     examples           the list
 -- Assumes nothing.
 use Prim.Native.Nat.{ℕ}
@@ -12,7 +12,7 @@ use Prim.Native.String.{String}
 use mathlib.Core.List.{List, [], _∷_, _++_}
 use lib.ListN.{replicate}
 use Rattle.sizes.specs.Sizes.{passwordBytes}
-use Rattle.handle.specs.Sizes.{handleBytes}
+use Rattle.handle.specs.Handles.{laid}
 use Rattle.lines.specs.Lines.{Answer, callLine, endLine, refusedLine}
 
 pub record Example : Type 0 where
@@ -29,10 +29,10 @@ abbrev primary : ℕ → List ℕ
 primary b = handle b (0xff ∷ 0xff ∷ 0xff ∷ 0xff ∷ [])
 
 abbrev noHandle : List ℕ
-noHandle = replicate handleBytes 0
+noHandle = []
 
 abbrev answered : ℕ → List ℕ → List ℕ → ℕ → Answer
-answered n a b c = record { number = n; first = a; second = b; count = c; length = 0 }
+answered n a b c = record { number = n; first = laid a; second = laid b; count = c; length = 0 }
 
 unfoldable pub examples : List Example
 examples =

@@ -1,5 +1,5 @@
 -- Document 01, "The list of calls", with code 11 of document 02, §5: the lines that `benchrun` writes. A call is told by its
--- code, its answer a, and the bytes s of the segment that a read gave.
+-- code, its answer a, and the bytes s of the segment that a read gave. Of a handle the bytes are told that its length counts.
 --     spaced ws              words, a space before each
 --     line w ws              the line of the word w and the words ws: one space between, a line feed after
 --     gives code a s         what a call done gives: its handles (1, 8, 9, 11), its segment's bytes (5), or its handle and
@@ -18,6 +18,7 @@ use Prim.Native.Nat.{ℕ}
 use mathlib.Core.Bool.{cond, _||_}
 use mathlib.Core.List.{List, [], _∷_, _++_}
 use lib.Dec.{eqb}
+use Rattle.handle.specs.Handles.{bytesIn}
 use Rattle.lines.specs.Text.{ascii, space, lineFeed, decimal, hexadecimal}
 pub use Rattle.calls.specs.declared.Answer.{Answer}
 
@@ -30,10 +31,10 @@ line w ws = w ++ spaced ws ++ (lineFeed ∷ [])
 
 unfoldable pub gives : ℕ → Answer → List ℕ → List (List ℕ)
 gives code a s =
-    cond (eqb code 1) (hexadecimal (a .first) ∷ hexadecimal (a .second) ∷ [])
-    (cond (eqb code 8 || eqb code 9 || eqb code 11) (hexadecimal (a .first) ∷ [])
+    cond (eqb code 1) (hexadecimal (bytesIn (a .first)) ∷ hexadecimal (bytesIn (a .second)) ∷ [])
+    (cond (eqb code 8 || eqb code 9 || eqb code 11) (hexadecimal (bytesIn (a .first)) ∷ [])
     (cond (eqb code 5) (hexadecimal s ∷ [])
-    (cond (eqb code 7) (hexadecimal (a .first) ∷ decimal (a .count) ∷ []) [])))
+    (cond (eqb code 7) (hexadecimal (bytesIn (a .first)) ∷ decimal (a .count) ∷ []) [])))
 
 unfoldable pub told : ℕ → Answer → List ℕ → List (List ℕ)
 told code a s = cond (eqb (a .number) 0) (gives code a s) []

@@ -13,8 +13,9 @@ use sizes::NODE_MEMORY;
 ghost use Prim.Native.Nat.{_+_, _*_, _≤_, _<_};
 ghost use mathlib.Core.Path.{_≡_};
 ghost use mathlib.Core.List.{[], _∷_, _++_};
-ghost use lib.ListN.{length};
-ghost use Rattle.handle.specs.Sizes.{handleBytes};
+ghost use lib.ListN.{length, take};
+ghost use Rattle.handle.specs.Widths.{mostBytes};
+ghost use Rattle.handle.specs.Handles.{bytesIn};
 ghost use Rattle.lines.specs.Text as text;
 ghost use Rattle.lines.specs.Text.{decimal, hexadecimal};
 ghost use Rattle.lines.specs.Lines.{spaced, told, endWord, refusedWord};
@@ -27,7 +28,8 @@ const BYTE_DIGITS: usize = 3;
 // The most bytes of a call's line: three numbers with a space after each, the longest segment, the line feed.
 pub const LONGEST: usize = 3 * (BYTE_DIGITS + 1) + 2 * NODE_MEMORY + 1;
 
-// The most bytes of the line of any call but a read: three numbers and two handles, a space or the line feed after each.
+// The most bytes of the line of any call but a read: three numbers and two of the longest handles, a space or the line feed
+// after each.
 pub const BRIEF: usize = 3 * (BYTE_DIGITS + 1) + 2 * (2 * HANDLE_BYTES + 1);
 
 // The most bytes after the word of a line: a space, a number, the line feed.
@@ -119,13 +121,28 @@ fn put_bytes(out: &mut [u8], at: usize, bytes: &[u8]) -> usize
     put_hexadecimal(out, p, bytes)
 }
 
-// A space, and the bytes of a handle.
-fn put_handle(out: &mut [u8], at: usize, handle: HandleBytes) -> usize
-    requires { ⌜ at + (1 + 2 * handleBytes) ≤ length (now out) ⌝ }
-    ensures { λ r. ⌜ Put (now (out .entry)) (now (out .exit)) at r (spaced (hexadecimal handle ∷ [])) ⌝ }
-    ensures { λ r. ⌜ r ≡ at + (1 + 2 * handleBytes) ⌝ }
+// A space, and so many of the bytes that hold a handle; all of them where it is more.
+fn put_first(out: &mut [u8], at: usize, bytes: [u8; HANDLE_BYTES], size: usize) -> usize
+    requires { ⌜ at + (1 + 2 * mostBytes) ≤ length (now out) ⌝ }
+    ensures { λ r. ⌜ Put (now (out .entry)) (now (out .exit)) at r (spaced (hexadecimal (take size bytes) ∷ [])) ⌝ }
+    ensures { λ r. ⌜ r ≤ at + (1 + 2 * mostBytes) ⌝ }
 {
-    put_bytes(out, at, &handle)
+    if HANDLE_BYTES < size {
+        return put_bytes(out, at, &bytes);
+    }
+    put_bytes(out, at, &bytes[..size])
+}
+
+// A space, and the bytes of a handle, as many as its length tells.
+fn put_handle(out: &mut [u8], at: usize, handle: HandleBytes) -> usize
+    requires { ⌜ at + (1 + 2 * mostBytes) ≤ length (now out) ⌝ }
+    ensures { λ r. ⌜ Put (now (out .entry)) (now (out .exit)) at r
+        (spaced (hexadecimal (bytesIn handle) ∷ [])) ⌝ }
+    ensures { λ r. ⌜ r ≤ at + (1 + 2 * mostBytes) ⌝ }
+{
+    let bytes = handle.bytes;
+    let size = handle.length;
+    put_first(out, at, bytes, size)
 }
 
 // The three numbers that a call's line begins with.

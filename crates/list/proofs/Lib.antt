@@ -8,4 +8,6 @@ pub mod RoomLaws
 pub mod RunLaws
 pub mod OutputLaws
 pub mod MeaningLaws
+pub mod LengthLaws
+pub mod SoundRunLaws
 pub mod LiteralLaws

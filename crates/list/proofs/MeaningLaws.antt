@@ -17,7 +17,7 @@ use Rattle.store.specs.declared.Store.{Store}
 use Rattle.store.specs.Sound.{sound}
 use Rattle.calls.specs.Calls.{Copy, Kind, newCluster, deleteCluster, newSegment, deleteSegment, read, write, weaken}
 use Rattle.calls.specs.Calls.{reduce, newPassword, freeze, join, validate, look, code, isLook, among, Arguments, call, uses, writing}
-use Rattle.calls.specs.Numbers.{unsound, noPlace}
+use Rattle.calls.specs.Numbers.{badLength as wrongLength, unsound, noPlace}
 use Rattle.calls.specs.Steps.{Outcome}
 use Rattle.calls.specs.Answers.{copyOf, leftAlone}
 use Rattle.chain.specs.declared.Walked.{Walked}
@@ -36,6 +36,7 @@ use Rattle.list.specs.Texts.{badLength, checked, textOf, output}
 use Rattle.list.specs.Meanings.{ListMeans, LongRefused, LengthInWords, UnusedBytes, BadCode}
 use Rattle.list.specs.Meanings.{NoLook, MisfitInWords}
 use Rattle.calls.proofs.CallLaws.{or-left, or-right}
+use Rattle.list.proofs.FieldLaws.{handle-long}
 use Rattle.list.proofs.CheckLaws.{by-length, check-empty}
 use Rattle.list.proofs.PerformLaws.{write-misfit, perform-write, misfit-unsound, misfit-node, misfit-local}
 use Rattle.list.proofs.PerformLaws.{misfit-field, differ, among-first}
@@ -121,10 +122,10 @@ misfits-same k r q e d = go (among (6 ∷ []) k) refl
     go false a =
         ap (λ (t : Bool). t && ltb mostData (byte r 5)) a ∙ sym (ap (λ (t : Bool). t && ltb mostData (byte q 5)) a)
 
--- rows 1 and 2 look at used arguments alone
+-- the rows above row 3 look at used arguments alone
 rows-trimmed : (k : Kind) (g : Arguments) (c : Copy)
     → misfitRows (call k g) c ≡ misfitRows (call k (trimmed (uses k) g)) c
-unfolding unsound noPlace
+unfolding wrongLength unsound noPlace
 rows-trimmed newCluster g c = refl
 rows-trimmed deleteCluster g c = refl
 rows-trimmed newSegment g c = refl
@@ -212,7 +213,7 @@ no-look c e = true≢false (subst Other e (other (ownCalls ++ otherCalls) refl c
 
 -- ---- a write's data length above 32
 
-module _ (r : List ℕ) (b : Bench) where
+module _ (r : List ℕ) (b : Bench) (long : length r ≡ recordBytes) where
   abbrev s : Store
   s = b .copy .store
 
@@ -229,18 +230,21 @@ module _ (r : List ℕ) (b : Bench) where
   refused-with e l n en =
       sym
       (perform-write r s m (b .buffer) e m (leftAlone s n)
-      (write-misfit r s m h refl (byte r 5) refl l n en (leftAlone s n) refl))
+      (write-misfit r s m (byte r 5) refl l n en (leftAlone s n) refl))
+
+  unsound-told : not (sound s (length m)) ≡ true → 1 ≡ first
+  unsound-told = misfit-unsound s m h (handle-long r long) (decoded h) refl (sound s (length m)) refl
 
   module _ (t : not (sound s (length m)) ≡ false) where
     node-above : 3 < decoded h .node → 2 ≡ first
-    node-above = misfit-node s m h (decoded h) refl (sound s (length m)) refl t (decoded h .node) refl
+    node-above = misfit-node s m h (handle-long r long) (decoded h) refl (sound s (length m)) refl t (decoded h .node) refl
 
     module _ (n : decoded h .node < 4) where
       local-above : 7 < decoded h .local → 2 ≡ first
-      local-above = misfit-local s m h (decoded h) refl (sound s (length m)) refl t (decoded h .node) refl n
+      local-above = misfit-local s m h (handle-long r long) (decoded h) refl (sound s (length m)) refl t (decoded h .node) refl n
 
       neither-above : decoded h .local < 8 → 3 ≡ first
-      neither-above = misfit-field s m h (decoded h) refl (sound s (length m)) refl t (decoded h .node) refl n
+      neither-above = misfit-field s m h (handle-long r long) (decoded h) refl (sound s (length m)) refl t (decoded h .node) refl n
 
     either-above : (3 < decoded h .node) ⊎ (7 < decoded h .local) → 2 ≡ first
     either-above (inl p) = node-above p
@@ -251,9 +255,9 @@ module _ (r : List ℕ) (b : Bench) where
         go false e = local-above (leb-false 4 (decoded h .node) e) p
 
 pub misfit-in-words : MisfitInWords
-misfit-in-words r b e l =
+misfit-in-words r b z e l =
     record {
-      unsound = λ t. refused-with r b e l 1 (misfit-unsound (s r b) (m r b) (h r b) (decoded (h r b)) refl _ refl (ap not t));
-      no-place = λ t p. refused-with r b e l 2 (either-above r b (ap not t) p);
-      misfit = λ t n k. refused-with r b e l 3 (neither-above r b (ap not t) (omega arith) (omega arith));
+      unsound = λ t. refused-with r b z e l 1 (unsound-told r b z (ap not t));
+      no-place = λ t p. refused-with r b z e l 2 (either-above r b z (ap not t) p);
+      misfit = λ t n k. refused-with r b z e l 3 (neither-above r b z (ap not t) (omega arith) (omega arith));
     }

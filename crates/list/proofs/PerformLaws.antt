@@ -11,7 +11,6 @@ use borrow.Author.Tests.{lt-ltb, le-ltb, le-leb, lt-leb, ne-eqb}
 use lib.Dec.{eqb, leb, ltb}
 use lib.ListN.{length}
 use Rattle.sizes.specs.Sizes.{nodes, clusters, passwordBytes}
-use Rattle.handle.specs.Sizes.{handleBytes}
 use Rattle.handle.specs.declared.Handle.{Handle}
 use Rattle.handle.specs.Handles.{nodeOf, firstOf, noSuchPlace, decoded}
 use Rattle.handle.specs.Conversion.{product}
@@ -19,7 +18,7 @@ use Rattle.store.specs.declared.Store.{Store}
 use Rattle.store.specs.Sound.{sound}
 use Rattle.calls.specs.Calls.{Kind, newCluster, deleteCluster, newSegment, deleteSegment, read, write, weaken, reduce}
 use Rattle.calls.specs.Calls.{newPassword, freeze, join, code, Arguments, call, uses}
-use Rattle.calls.specs.Numbers.{unsound, noPlace}
+use Rattle.calls.specs.Numbers.{badLength, unsound, noPlace}
 use Rattle.calls.specs.Steps.{Outcome, aesStep}
 use Rattle.calls.specs.declared.Answer.{Answer}
 use Rattle.calls.specs.declared.Left.{Left}
@@ -28,10 +27,11 @@ use Rattle.calls.specs.Calls.{makingCluster, deletingCluster, makingSegment, de
 use Rattle.calls.specs.Calls.{weakeningBy, reducing, renewing, freezing, joining}
 use Rattle.isolation.specs.Checks.{trimmed}
 use Rattle.isolation.proofs.UnusedLaws.{unused-ignored}
-use Rattle.list.specs.Records.{mostData, byte, field, codeOf, dataLength, ownCalls, otherCalls, kindAmong, kindOf}
-use Rattle.list.specs.Records.{argumentsOf}
+use Rattle.list.specs.Records.{mostData, listWidth, handleBytes, byte, field, codeOf, dataLength, ownCalls}
+use Rattle.list.specs.Records.{otherCalls, kindAmong, kindOf, argumentsOf}
 use Rattle.list.specs.Runs.{bench, ran, Performed, misfits, misfitRows, refused, afterStep, stepped, performedAs}
 use Rattle.list.specs.Runs.{performed}
+use Rattle.list.proofs.FieldLaws.{width-eight}
 
 -- ---- a code that none of some kinds has
 
@@ -53,6 +53,12 @@ among-first (k ∷ ks) ls c h =
 -- ---- the calls
 
 module _ (r : List ℕ) (s : Store) (m : List ℕ) where
+  abbrev handle : List ℕ
+  handle = field r 8 handleBytes
+
+  abbrev other : List ℕ
+  other = field r 32 handleBytes
+
   chosen : Kind → List ℕ → Bool → Performed
   chosen k b u =
       elim u [
@@ -77,47 +83,47 @@ module _ (r : List ℕ) (s : Store) (m : List ℕ) where
 
   pub own-new-cluster : codeOf r ≡ 1 → (p : List ℕ) → p ≡ field r 32 passwordBytes → (q : List ℕ)
       → q ≡ field r 48 passwordBytes → (v : ℕ) → v ≡ byte r 2 → (l : ℕ) → l ≡ byte r 4 → (d : Left)
-      → ended (d .store) m (d .answer) [] ≡ aesStep (makingCluster v l p q) (copyOf s m)
+      → ended (d .store) m (d .answer) [] ≡ aesStep (makingCluster v l listWidth p q) (copyOf s m)
       → (b : List ℕ) → ran d m b ≡ performedAs (kindAmong ownCalls (codeOf r)) r (bench s m b)
   unfolding own
   own-new-cluster e p ep q eq v ev l el d ed b =
-      as-step newCluster (makingCluster v l p q .args) b refl (λ j. makingCluster (ev j) (el j) (ep j) (eq j) .args) _ ed
+      as-step newCluster (makingCluster v l listWidth p q .args) b refl
+      (λ j. makingCluster (ev j) (el j) listWidth (ep j) (eq j) .args) _ ed
       ∙ sym (ap (λ (c : ℕ). own c b) e)
 
-  module _ (h : List ℕ) (eh : h ≡ field r 8 handleBytes) where
-    pub own-delete-cluster : codeOf r ≡ 2 → (v : ℕ) → v ≡ byte r 2 → (d : Left)
-        → ended (d .store) m (d .answer) [] ≡ aesStep (deletingCluster v h) (copyOf s m)
-        → (b : List ℕ) → ran d m b ≡ performedAs (kindAmong ownCalls (codeOf r)) r (bench s m b)
-    unfolding own
-    own-delete-cluster e v ev d ed b =
-        as-step deleteCluster (deletingCluster v h .args) b refl (λ j. deletingCluster (ev j) (eh j) .args) _ ed
-        ∙ sym (ap (λ (c : ℕ). own c b) e)
+  pub own-delete-cluster : codeOf r ≡ 2 → (v : ℕ) → v ≡ byte r 2 → (d : Left)
+      → ended (d .store) m (d .answer) [] ≡ aesStep (deletingCluster v handle) (copyOf s m)
+      → (b : List ℕ) → ran d m b ≡ performedAs (kindAmong ownCalls (codeOf r)) r (bench s m b)
+  unfolding own
+  own-delete-cluster e v ev d ed b =
+      as-step deleteCluster (deletingCluster v handle .args) b refl (λ j. deletingCluster (ev j) handle .args) _ ed
+      ∙ sym (ap (λ (c : ℕ). own c b) e)
 
-    pub own-new-segment : codeOf r ≡ 3 → (z : ℕ) → z ≡ byte r 6 * 256 + byte r 7 → (v : ℕ) → v ≡ byte r 2 → (i : ℕ)
-        → i ≡ byte r 4 → (n : List ℕ) (d : Left)
-        → ended (d .store) n (d .answer) [] ≡ aesStep (makingSegment v i z h) (copyOf s m)
-        → (b : List ℕ) → ran d n b ≡ performedAs (kindAmong ownCalls (codeOf r)) r (bench s m b)
-    unfolding own
-    own-new-segment e z ez v ev i ei n d ed b =
-        as-step newSegment (makingSegment v i z h .args) b refl (λ j. makingSegment (ev j) (ei j) (ez j) (eh j) .args) _
-        ed
-        ∙ sym (ap (λ (c : ℕ). own c b) e)
+  pub own-new-segment : codeOf r ≡ 3 → (z : ℕ) → z ≡ byte r 6 * 256 + byte r 7 → (v : ℕ) → v ≡ byte r 2 → (i : ℕ)
+      → i ≡ byte r 4 → (n : List ℕ) (d : Left)
+      → ended (d .store) n (d .answer) [] ≡ aesStep (makingSegment v i z handle) (copyOf s m)
+      → (b : List ℕ) → ran d n b ≡ performedAs (kindAmong ownCalls (codeOf r)) r (bench s m b)
+  unfolding own
+  own-new-segment e z ez v ev i ei n d ed b =
+      as-step newSegment (makingSegment v i z handle .args) b refl (λ j. makingSegment (ev j) (ei j) (ez j) handle .args) _
+      ed
+      ∙ sym (ap (λ (c : ℕ). own c b) e)
 
-    pub own-delete-segment : codeOf r ≡ 4 → (v : ℕ) → v ≡ byte r 2 → (i : ℕ) → i ≡ byte r 4 → (d : Left)
-        → ended (d .store) m (d .answer) [] ≡ aesStep (deletingSegment v i h) (copyOf s m)
-        → (b : List ℕ) → ran d m b ≡ performedAs (kindAmong ownCalls (codeOf r)) r (bench s m b)
-    unfolding own
-    own-delete-segment e v ev i ei d ed b =
-        as-step deleteSegment (deletingSegment v i h .args) b refl (λ j. deletingSegment (ev j) (ei j) (eh j) .args) _ ed
-        ∙ sym (ap (λ (c : ℕ). own c b) e)
+  pub own-delete-segment : codeOf r ≡ 4 → (v : ℕ) → v ≡ byte r 2 → (i : ℕ) → i ≡ byte r 4 → (d : Left)
+      → ended (d .store) m (d .answer) [] ≡ aesStep (deletingSegment v i handle) (copyOf s m)
+      → (b : List ℕ) → ran d m b ≡ performedAs (kindAmong ownCalls (codeOf r)) r (bench s m b)
+  unfolding own
+  own-delete-segment e v ev i ei d ed b =
+      as-step deleteSegment (deletingSegment v i handle .args) b refl (λ j. deletingSegment (ev j) (ei j) handle .args) _ ed
+      ∙ sym (ap (λ (c : ℕ). own c b) e)
 
-    pub own-freeze : codeOf r ≡ 10 → (v : ℕ) → v ≡ byte r 2 → (i : ℕ) → i ≡ byte r 4 → (d : Left)
-        → ended (d .store) m (d .answer) [] ≡ aesStep (freezing v i h) (copyOf s m)
-        → (b : List ℕ) → ran d m b ≡ performedAs (kindAmong ownCalls (codeOf r)) r (bench s m b)
-    unfolding own
-    own-freeze e v ev i ei d ed b =
-        as-step freeze (freezing v i h .args) b refl (λ j. freezing (ev j) (ei j) (eh j) .args) _ ed
-        ∙ sym (ap (λ (c : ℕ). own c b) e)
+  pub own-freeze : codeOf r ≡ 10 → (v : ℕ) → v ≡ byte r 2 → (i : ℕ) → i ≡ byte r 4 → (d : Left)
+      → ended (d .store) m (d .answer) [] ≡ aesStep (freezing v i handle) (copyOf s m)
+      → (b : List ℕ) → ran d m b ≡ performedAs (kindAmong ownCalls (codeOf r)) r (bench s m b)
+  unfolding own
+  own-freeze e v ev i ei d ed b =
+      as-step freeze (freezing v i handle .args) b refl (λ j. freezing (ev j) (ei j) handle .args) _ ed
+      ∙ sym (ap (λ (c : ℕ). own c b) e)
 
   pub own-none : (codeOf r ≡ 1 → ⊥) → (codeOf r ≡ 2 → ⊥) → (codeOf r ≡ 3 → ⊥) → (codeOf r ≡ 4 → ⊥) → (codeOf r ≡ 10 → ⊥) → (d : Left)
       → d ≡ leftAlone s 3 → (b : List ℕ) → ran d m b ≡ performedAs (kindAmong ownCalls (codeOf r)) r (bench s m b)
@@ -128,25 +134,23 @@ module _ (r : List ℕ) (s : Store) (m : List ℕ) where
 
   -- ---- call 6
 
-  module _ (h : List ℕ) (eh : h ≡ field r 8 handleBytes) (z : ℕ) (ez : z ≡ dataLength r) where
+  module _ (z : ℕ) (ez : z ≡ dataLength r) where
     pub write-misfit : mostData < z → (n : ℕ)
-        → n ≡ firstOf (misfitRows (writing 0 h []) (copyOf s m)) → (d : Left) → d ≡ leftAlone s n
+        → n ≡ firstOf (misfitRows (writing 0 handle []) (copyOf s m)) → (d : Left) → d ≡ leftAlone s n
         → (b : List ℕ) → ran d m b ≡ performedAs (some write) r (bench s m b)
-    unfolding unsound noPlace chosen
+    unfolding badLength unsound noPlace chosen
     write-misfit l n en d ed b =
-        ap (λ (k : Left). ran k m b) ed
-        ∙ ap (λ (k : ℕ). ran (leftAlone s k) m b)
-        (en ∙ ap (λ (g : List ℕ). firstOf (misfitRows (writing 0 g []) (copyOf s m))) eh)
+        ap (λ (k : Left). ran k m b) ed ∙ ap (λ (k : ℕ). ran (leftAlone s k) m b) en
         ∙ sym (ap (chosen write b) (ap (ltb mostData) (sym ez) ∙ lt-ltb mostData z l))
 
     pub write-fits : z ≤ mostData → (i : ℕ) → i ≡ byte r 4 → (n : List ℕ) (a : Answer)
         → let w = field r 32 (32 + z - 32) in
-        ended s n a w ≡ aesStep (writing i h w) (copyOf s m)
+        ended s n a w ≡ aesStep (writing i handle w) (copyOf s m)
         → (b : List ℕ) → ran (record { store = s; answer = a }) n b ≡ performedAs (some write) r (bench s m b)
     write-fits l i ei n a ea b =
-        as-step write (writing i h (field r 32 (32 + z - 32)) .args) b
+        as-step write (writing i handle (field r 32 (32 + z - 32)) .args) b
         (ap (ltb mostData) (sym ez) ∙ le-ltb mostData z l)
-        (λ j. writing (ei j) (eh j) (field r 32 ((back ∙ ez) j)) .args) _ ea
+        (λ j. writing (ei j) handle (field r 32 ((back ∙ ez) j)) .args) _ ea
       where
         back : 32 + z - 32 ≡ z
         back = omega arith
@@ -163,14 +167,12 @@ module _ (r : List ℕ) (s : Store) (m : List ℕ) where
     unfolding by-code kindOf performed
     perform-write e n d f = f b ∙ sym (ap by-code e)
 
-    pub perform-new-password : codeOf r ≡ 9 → (h : List ℕ) → h ≡ field r 8 handleBytes → (p : List ℕ)
-        → p ≡ field r 32 passwordBytes → (w : ℕ) → w ≡ byte r 3 → (d : Left)
-        → ended (d .store) m (d .answer) [] ≡ aesStep (renewing w h p) (copyOf s m)
+    pub perform-new-password : codeOf r ≡ 9 → (p : List ℕ) → p ≡ field r 32 passwordBytes → (w : ℕ) → w ≡ byte r 3 → (d : Left)
+        → ended (d .store) m (d .answer) [] ≡ aesStep (renewing w handle p) (copyOf s m)
         → ran d m b ≡ performed r (bench s m b)
     unfolding by-code kindOf performed
-    perform-new-password e h eh p ep w ew d ed =
-        as-step newPassword (renewing w h p .args) b refl
-        (λ j. renewing (ew j) (eh j) (ep j) .args) _ ed
+    perform-new-password e p ep w ew d ed =
+        as-step newPassword (renewing w handle p .args) b refl (λ j. renewing (ew j) handle (ep j) .args) _ ed
         ∙ sym (ap by-code e)
 
     pub perform-own : (codeOf r ≡ 5 → ⊥) → (codeOf r ≡ 6 → ⊥) → (codeOf r ≡ 7 → ⊥) → (codeOf r ≡ 8 → ⊥)
@@ -184,57 +186,57 @@ module _ (r : List ℕ) (s : Store) (m : List ℕ) where
         (ap (λ (k : Option Kind). performedAs k r (bench s m b))
         (among-first ownCalls otherCalls (codeOf r) (t5, (t6, (t7, (t8, (t9, (t11, tt))))))))
 
-    module _ (h : List ℕ) (eh : h ≡ field r 8 handleBytes) (a : Answer) where
+    module _ (a : Answer) where
       abbrev answered : Left
       answered = record { store = s; answer = a }
 
       pub perform-read : codeOf r ≡ 5 → (i : ℕ) → i ≡ byte r 4 → (l : List ℕ)
-          → ended s m a l ≡ aesStep (reading i h b) (copyOf s m)
+          → ended s m a l ≡ aesStep (reading i handle b) (copyOf s m)
           → ran answered m l ≡ performed r (bench s m b)
       unfolding by-code kindOf performed
       perform-read e i ei l el =
-          as-step read (reading i h b .args) b refl (λ j. reading (ei j) (eh j) b .args) _ el
+          as-step read (reading i handle b .args) b refl (λ j. reading (ei j) handle b .args) _ el
           ∙ sym (ap by-code e)
 
-      pub perform-weaken : codeOf r ≡ 7
-          → ((t : Store) (n : List ℕ)
-          → ended t n a [] ≡ aesStep (weakeningBy (byte r 4) h) (copyOf t n))
+      pub perform-weaken : codeOf r ≡ 7 → (k : ℕ) → k ≡ byte r 4
+          → ((t : Store) (n : List ℕ) → ended t n a [] ≡ aesStep (weakeningBy k handle) (copyOf t n))
           → ran answered m b ≡ performed r (bench s m b)
       unfolding by-code kindOf performed
-      perform-weaken e f =
-          as-step weaken (weakeningBy (byte r 4) h .args) b refl
-          (λ j. weakeningBy (byte r 4) (eh j) .args) _ (f s m)
+      perform-weaken e k ek f =
+          as-step weaken (weakeningBy k handle .args) b refl (λ j. weakeningBy (ek j) handle .args) _ (f s m)
           ∙ sym (ap by-code e)
 
       pub perform-reduce : codeOf r ≡ 8 → (w : ℕ) → w ≡ byte r 3
-          → ended s m a [] ≡ aesStep (reducing w h) (copyOf s m)
+          → ended s m a [] ≡ aesStep (reducing w handle) (copyOf s m)
           → ran answered m b ≡ performed r (bench s m b)
       unfolding by-code kindOf performed
       perform-reduce e w ew ea =
-          as-step reduce (reducing w h .args) b refl
-          (λ j. reducing (ew j) (eh j) .args) _ ea
+          as-step reduce (reducing w handle .args) b refl (λ j. reducing (ew j) handle .args) _ ea
           ∙ sym (ap by-code e)
 
-      pub perform-join : codeOf r ≡ 11 → (k : List ℕ) → k ≡ field r 32 handleBytes → (w : ℕ) → w ≡ byte r 3
-          → ended s m a [] ≡ aesStep (joining w h k) (copyOf s m)
+      pub perform-join : codeOf r ≡ 11 → (w : ℕ) → w ≡ byte r 3
+          → ended s m a [] ≡ aesStep (joining w handle other) (copyOf s m)
           → ran answered m b ≡ performed r (bench s m b)
       unfolding by-code kindOf performed
-      perform-join e k ek w ew ea =
-          as-step join (joining w h k .args) b refl
-          (λ j. joining (ew j) (eh j) (ek j) .args) _ ea
+      perform-join e w ew ea =
+          as-step join (joining w handle other .args) b refl
+          (λ j. joining (ew j) handle other .args) _ ea
           ∙ sym (ap by-code e)
 
 -- ---- the number of a misfit
 
-module _ (s : Store) (m b : List ℕ) (h : Handle) (eh : h ≡ decoded b) (sd : Bool) (es : sd ≡ sound s (length m)) where
+module _ (s : Store) (m b : List ℕ) (long : length b ≡ handleBytes) (h : Handle) (eh : h ≡ decoded b) (sd : Bool)
+    (es : sd ≡ sound s (length m)) where
   abbrev first : ℕ
   first = firstOf (misfitRows (writing 0 b []) (copyOf s m))
 
   told : first ≡ cond (not sd) 1 (cond (noSuchPlace h) 2 3)
-  unfolding unsound noPlace
+  unfolding badLength unsound noPlace
   told =
       simp or-false
-      (sym (ap₂ (λ (t : Bool) (g : Handle). cond (not t) 1 (cond (noSuchPlace g) 2 3)) es eh))
+      (ap (λ (w : ℕ). cond (eqb w 0) 25 (cond (not (sound s (length m))) 1 (cond (noSuchPlace (decoded b)) 2 3)))
+      (width-eight b long)
+      ∙ sym (ap₂ (λ (t : Bool) (g : Handle). cond (not t) 1 (cond (noSuchPlace g) 2 3)) es eh))
 
   pub misfit-unsound : not sd ≡ true → 1 ≡ first
   misfit-unsound t = sym (told ∙ ap (λ (u : Bool). cond u 1 (cond (noSuchPlace h) 2 3)) t)

@@ -74,7 +74,7 @@ module _ (list : List ℕ) (total : ℕ) (e : checked list ≡ done total) where
             way = sym z;
           }
 
-  whole : 0 < total → Whole (count list recordBytes) (nextIn list recordBytes) 1 total
+  pub whole : 0 < total → Whole (count list recordBytes) (nextIn list recordBytes) 1 total
   whole h = number-whole (count list recordBytes) (nextIn list recordBytes) 1 (done total) (chained h .way) refl
 
   pub total-few : total ≤ 255

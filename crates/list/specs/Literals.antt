@@ -27,6 +27,7 @@ patternCall bs =
     record {
       current = 66;
       local = 68;
+      width = 8;
       mode = 67;
       segment = 68;
       size = 17991;

@@ -12,7 +12,7 @@
 --     NoLook                  no code is that of a look
 --     MisfitNumbers r b sd h  the record r is refused with 1 where sd, which says that the store is sound, is false; else
 --                             with 2 where the node of h is above 3 or its local number above 7; else with 3
---     MisfitInWords           so is a write whose data length is above 32, by its handle
+--     MisfitInWords           so is a write of 64 bytes whose data length is above 32, by its handle
 -- Assumes nothing.
 use mathlib.Core.Path.{_≡_}
 use mathlib.Core.Logic.{_≢_, _↔_, _⊎_}
@@ -74,5 +74,5 @@ pub record MisfitNumbers (r : List ℕ) (b : Bench) (sd : Bool) (h : Handle) : T
 
 abbrev pub MisfitInWords : Type 0
 MisfitInWords =
-    (r : List ℕ) (b : Bench) → byte r 1 ≡ 6 → 32 < byte r 5
+    (r : List ℕ) (b : Bench) → length r ≡ 64 → byte r 1 ≡ 6 → 32 < byte r 5
     → MisfitNumbers r b (sound (b .copy .store) (length (b .copy .memory))) (decoded (field r 8 23))

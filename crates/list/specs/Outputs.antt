@@ -46,7 +46,7 @@ sampleList =
     ++ replicate 4 0xff
     ++ replicate 33 0
 
-abbrev sampleText : List ℕ
+abbrev pub sampleText : List ℕ
 sampleText =
     ascii "1 1 0 00000211111111111111111111111111111111ffffffff 00000222222222222222222222222222222222ffffffff\n"
     ++ ascii "3 3 0\n"
@@ -56,7 +56,7 @@ sampleText =
 abbrev handled : List ℕ → ℕ → List ℕ → List ℕ
 handled fields b rest = fields ++ (0 ∷ 1 ∷ 4 ∷ []) ++ replicate 16 b ++ replicate 4 0xff ++ (0 ∷ []) ++ rest
 
-abbrev codesList : List ℕ
+abbrev pub codesList : List ℕ
 codesList =
     (2 ∷ 1 ∷ 1 ∷ 0 ∷ 4 ∷ 0 ∷ 0 ∷ 0 ∷ [])
     ++ replicate 24 0
@@ -75,7 +75,7 @@ codesList =
     ++ handled (13 ∷ 6 ∷ 0 ∷ 0 ∷ 6 ∷ 33 ∷ 0 ∷ 0 ∷ []) 0x22 (replicate 32 0)
     ++ handled (0 ∷ 7 ∷ 0 ∷ 0 ∷ 0 ∷ 0 ∷ 0 ∷ 0 ∷ []) 0x22 (replicate 32 0)
 
-abbrev codesText : List ℕ
+abbrev pub codesText : List ℕ
 codesText =
     ascii "1 1 0 00010411111111111111111111111111111111ffffffff 00010422222222222222222222222222222222ffffffff\n"
     ++ ascii "2 3 0\n"
@@ -108,7 +108,7 @@ frozenList =
     ++ handled (10 ∷ 10 ∷ 1 ∷ 0 ∷ 5 ∷ 0 ∷ 0 ∷ 0 ∷ []) 0x22 (replicate 32 0)
     ++ handled (0 ∷ 5 ∷ 0 ∷ 0 ∷ 6 ∷ 0 ∷ 0 ∷ 0 ∷ []) 0x11 (replicate 32 0)
 
-abbrev frozenText : List ℕ
+abbrev pub frozenText : List ℕ
 frozenText =
     ascii "1 1 0 00010411111111111111111111111111111111ffffffff 00010422222222222222222222222222222222ffffffff\n"
     ++ ascii "2 3 0\n"
@@ -139,7 +139,7 @@ joinedList =
     ++ handled (8 ∷ 11 ∷ 0 ∷ 3 ∷ 0 ∷ 0 ∷ 0 ∷ 0 ∷ []) 0x11 (second 4 0x11)
     ++ handled (0 ∷ 11 ∷ 0 ∷ 1 ∷ 0 ∷ 0 ∷ 0 ∷ 0 ∷ []) 0x11 (second 8 0x11)
 
-abbrev joinedText : List ℕ
+abbrev pub joinedText : List ℕ
 joinedText =
     ascii "1 1 0 00010411111111111111111111111111111111ffffffff 00010422222222222222222222222222222222ffffffff\n"
     ++ ascii "2 11 23\n"
@@ -151,7 +151,7 @@ joinedText =
     ++ ascii "8 11 2\n"
     ++ ascii "end 8\n"
 
-abbrev fullList : List ℕ
+abbrev pub fullList : List ℕ
 fullList =
     -- record 1
     (2 ∷ 1 ∷ 3 ∷ 0 ∷ 7 ∷ 0 ∷ 0 ∷ 0 ∷ [])
@@ -172,7 +172,7 @@ fullList =
     ++ replicate 33 0
 
 -- 48 is the digit 0
-abbrev fullText : List ℕ
+abbrev pub fullText : List ℕ
 fullText =
     ascii "1 1 0 00030711111111111111111111111111111111ffffffff 00030722222222222222222222222222222222ffffffff\n"
     ++ ascii "2 3 0\n"

@@ -1,11 +1,9 @@
 // The parts of a record of 64 bytes.
-use handle::HandleBytes;
 use sizes::Password;
 ghost use mathlib.Core.Path.{_≡_};
 ghost use Prim.Native.Nat.{_+_, _*_};
 ghost use lib.ListN.{length};
 ghost use Rattle.sizes.specs.Sizes.{passwordBytes};
-ghost use Rattle.handle.specs.Sizes.{handleBytes};
 ghost use Rattle.list.specs.Records as records;
 
 // The bytes of a record.
@@ -26,18 +24,21 @@ pub const SIZE_HIGH: usize = 6;
 
 pub const SIZE_LOW: usize = 7;
 
-const HANDLE: usize = 8;
+pub const HANDLE: usize = 8;
 
-const HANDLE_END: usize = 31;
+pub const HANDLE_END: usize = 31;
 
 pub const FIRST: usize = 32;
 
-const OTHER_END: usize = 55;
+pub const OTHER_END: usize = 55;
 
 const SECOND: usize = 48;
 
 // The most bytes of data that a record holds.
 pub const MOST_DATA: usize = 32;
+
+// The width of the clusters that a list makes.
+pub const WIDTH: usize = 8;
 
 // A byte as a number of any size.
 pub fn wide(byte: u8) -> usize
@@ -46,27 +47,18 @@ pub fn wide(byte: u8) -> usize
     byte as usize
 }
 
+// A byte as a mask.
+pub fn mask(byte: u8) -> u16
+    ensures { λ r. ⌜ r ≡ byte ⌝ }
+{
+    byte as u16
+}
+
 // Two bytes, the high one first.
 pub fn pair(high: u8, low: u8) -> usize
     ensures { λ r. ⌜ r ≡ high * 256 + low ⌝ }
 {
     bits::word(high, low) as usize
-}
-
-// The handle of a record.
-pub fn handle(record: &[u8]) -> HandleBytes
-    requires { ⌜ length (now «record») ≡ records.recordBytes ⌝ }
-    ensures { λ r. ⌜ r ≡ records.field (now («record» .entry)) 8 handleBytes ⌝ }
-{
-    handle::bytes_in(&record[HANDLE..HANDLE_END])
-}
-
-// The second handle of a record, which a join takes.
-pub fn other(record: &[u8]) -> HandleBytes
-    requires { ⌜ length (now «record») ≡ records.recordBytes ⌝ }
-    ensures { λ r. ⌜ r ≡ records.field (now («record» .entry)) 32 handleBytes ⌝ }
-{
-    handle::bytes_in(&record[FIRST..OTHER_END])
 }
 
 // The first password of a record, and the second.

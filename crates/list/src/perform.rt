@@ -4,13 +4,16 @@ use crate::fields::CURRENT;
 use crate::fields::DATA_LENGTH;
 use crate::fields::ENTRY;
 use crate::fields::FIRST;
+use crate::fields::HANDLE;
+use crate::fields::HANDLE_END;
 use crate::fields::MODE;
 use crate::fields::MOST_DATA;
+use crate::fields::OTHER_END;
 use crate::fields::SIZE_HIGH;
 use crate::fields::SIZE_LOW;
+use crate::fields::WIDTH;
 use crate::fields::first;
-use crate::fields::handle;
-use crate::fields::other;
+use crate::fields::mask;
 use crate::fields::pair;
 use crate::fields::second;
 use crate::fields::wide;
@@ -28,7 +31,6 @@ use calls::WEAKEN;
 use calls::WRITE;
 use calls::unchanged;
 use handle::Handle;
-use handle::HandleBytes;
 use numbers::FIELD;
 use numbers::NO_SUCH_PLACE;
 use numbers::UNSOUND;
@@ -46,9 +48,10 @@ ghost use Rattle.calls.specs.Answers.{copyOf};
 ghost use Rattle.list.specs.Records as records;
 ghost use Rattle.list.specs.Runs.{bench, ran, misfitRows, performedAs, performed};
 
-// The number of a write whose data length is above 32: 1, 2, or else 3.
-fn misfit(store: Store, memory: &[u8], bytes: HandleBytes) -> u8
-    ensures { λ r. ⌜ r ≡ firstOf (misfitRows (calls.writing 0 bytes []) (copyOf store (now (memory .entry)))) ⌝ }
+// The number of a write whose data length is above 32: 1, 2, or else 3. Its handle has the length of a list's handles.
+fn misfit(store: Store, memory: &[u8], bytes: &[u8]) -> u8
+    requires { ⌜ length (now bytes) ≡ records.handleBytes ⌝ }
+    ensures { λ r. ⌜ r ≡ firstOf (misfitRows (calls.writing 0 (now (bytes .entry)) []) (copyOf store (now (memory .entry)))) ⌝ }
 {
     let named = Handle::decode(bytes);
     if !store::sound(store, memory.len()) {
@@ -78,16 +81,17 @@ fn perform_own(store: Store, memory: &mut [u8], record: &[u8]) -> Left
             memory,
             wide(record[CURRENT]),
             wide(record[ENTRY]),
+            WIDTH,
             read,
             write,
         );
     }
     if code == DELETE_CLUSTER {
-        let bytes = handle(record);
+        let bytes = &record[HANDLE..HANDLE_END];
         return guard::delete_cluster(store, memory, wide(record[CURRENT]), bytes);
     }
     if code == NEW_SEGMENT {
-        let bytes = handle(record);
+        let bytes = &record[HANDLE..HANDLE_END];
         let size = pair(record[SIZE_HIGH], record[SIZE_LOW]);
         return guard::new_segment(
             store,
@@ -99,7 +103,7 @@ fn perform_own(store: Store, memory: &mut [u8], record: &[u8]) -> Left
         );
     }
     if code == DELETE_SEGMENT {
-        let bytes = handle(record);
+        let bytes = &record[HANDLE..HANDLE_END];
         return guard::delete_segment(
             store,
             memory,
@@ -109,7 +113,7 @@ fn perform_own(store: Store, memory: &mut [u8], record: &[u8]) -> Left
         );
     }
     if code == FREEZE {
-        let bytes = handle(record);
+        let bytes = &record[HANDLE..HANDLE_END];
         return guard::freeze(
             store,
             memory,
@@ -127,7 +131,7 @@ fn perform_write(store: Store, memory: &mut [u8], record: &[u8]) -> Left
     ensures { λ r. ⌜ ((b : List ℕ)
         → ran r (now (memory .exit)) b ≡ performedAs (some calls.Kind.write) (now («record» .entry)) (bench store (now (memory .entry)) b)) ⌝ }
 {
-    let bytes = handle(record);
+    let bytes = &record[HANDLE..HANDLE_END];
     let size = wide(record[DATA_LENGTH]);
     if MOST_DATA < size {
         let number = misfit(store, memory, bytes);
@@ -150,7 +154,7 @@ pub fn perform(store: Store, memory: &mut [u8], buffer: &mut [u8], record: &[u8]
 {
     let code = record[CODE];
     if code == READ {
-        let bytes = handle(record);
+        let bytes = &record[HANDLE..HANDLE_END];
         let answer = guard::read(store, memory, buffer, wide(record[ENTRY]), bytes);
         return Left { store, answer };
     }
@@ -158,23 +162,23 @@ pub fn perform(store: Store, memory: &mut [u8], buffer: &mut [u8], record: &[u8]
         return perform_write(store, memory, record);
     }
     if code == WEAKEN {
-        let bytes = handle(record);
-        let answer = guard::weaken(bytes, record[ENTRY]);
+        let bytes = &record[HANDLE..HANDLE_END];
+        let answer = guard::weaken(bytes, mask(record[ENTRY]));
         return Left { store, answer };
     }
     if code == REDUCE {
-        let bytes = handle(record);
+        let bytes = &record[HANDLE..HANDLE_END];
         let answer = guard::reduce(store, memory, wide(record[MODE]), bytes);
         return Left { store, answer };
     }
     if code == NEW_PASSWORD {
-        let bytes = handle(record);
+        let bytes = &record[HANDLE..HANDLE_END];
         let password = first(record);
         return guard::new_password(store, memory, wide(record[MODE]), bytes, password);
     }
     if code == JOIN {
-        let bytes = handle(record);
-        let second = other(record);
+        let bytes = &record[HANDLE..HANDLE_END];
+        let second = &record[FIRST..OTHER_END];
         let answer = guard::join(store, memory, wide(record[MODE]), bytes, second);
         return Left { store, answer };
     }

@@ -4,24 +4,22 @@ use mathlib.Core.Path.{_≡_, ap, _∙_}
 use mathlib.Core.Bool.{Bool}
 use mathlib.Core.List.{List}
 use Prim.Native.Nat.{ℕ}
-use Rattle.sizes.specs.Sizes.{segments}
 use Rattle.handle.specs.declared.Handle.{Handle}
+use Rattle.handle.specs.declared.HandleBytes.{HandleBytes}
 use Rattle.handle.specs.declared.Weakened.{Weakened}
-use Rattle.handle.specs.Handles.{decoded, encoded, validates, weakening}
-use Rattle.handle.specs.Conversion.{conversion, product}
+use Rattle.handle.specs.Handles.{decoded, written}
+use Rattle.measured.specs.Handles.{handed, validatedBy, weakenedBy, validated, weakened}
 
 module _ (b : List ℕ) (h : Handle) (e : h ≡ decoded b) where
-  pub validated : (p : List ℕ) (r : Bool) → r ≡ validates segments conversion p h
-      → r ≡ validates segments conversion p (decoded b)
-  validated p r d = d ∙ ap (validates segments conversion p) e
+  pub validates-so : (p : List ℕ) (r : Bool) → r ≡ validatedBy p h → r ≡ validated p b
+  validates-so p r d = d ∙ ap (validatedBy p) e
 
-  module _ (mask : ℕ) (w : Weakened) (d : w ≡ weakening segments conversion h mask) where
-    here : w ≡ weakening segments conversion (decoded b) mask
-    here = d ∙ ap (λ (k : Handle). weakening segments conversion k mask) e
+  module _ (mask : ℕ) (w : Weakened) (d : w ≡ weakenedBy h mask) where
+    here : w ≡ weakened b mask
+    here = d ∙ ap (λ (k : Handle). weakenedBy k mask) e
 
-    pub weakened-number : w .number ≡ weakening segments conversion (decoded b) mask .number
+    pub weakened-number : w .number ≡ weakened b mask .number
     weakened-number = ap (λ (v : Weakened). v .number) here
 
-    pub weakened-bytes : (out : List ℕ) → out ≡ encoded (w .handle)
-        → out ≡ encoded (weakening segments conversion (decoded b) mask .handle)
-    weakened-bytes out f = f ∙ ap (λ (v : Weakened). encoded (v .handle)) here
+    pub weakened-bytes : (g : HandleBytes) → g ≡ written (w .handle) → handed (g .bytes) (g .length) ≡ written (weakened b mask .handle)
+    weakened-bytes g f = f ∙ ap (λ (v : Weakened). written (v .handle)) here

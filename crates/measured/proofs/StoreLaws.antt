@@ -26,8 +26,21 @@ place-present base length h = sym (ap (chosen base length) (ne-eqb length 0 h))
 
 pub cluster-is : (bases lengths : List ℕ) (n : ℕ) (gs : List Segment)
     → gs ≡ tabulate segments (segmentFrom bases lengths n)
-    → record { active = true; read = replicate passwordBytes 0; write = replicate passwordBytes 0; segments = gs }
+    → record {
+      active = true;
+      width = segments;
+      read = replicate passwordBytes 0;
+      write = replicate passwordBytes 0;
+      segments = gs;
+    }
     ≡ clusterFrom bases lengths n
 unfolding clusterFrom
 cluster-is bases lengths n gs e =
-    λ j. record { active = true; read = replicate passwordBytes 0; write = replicate passwordBytes 0; segments = e j }
+    λ j.
+    record {
+      active = true;
+      width = segments;
+      read = replicate passwordBytes 0;
+      write = replicate passwordBytes 0;
+      segments = e j;
+    }

@@ -1,5 +1,5 @@
--- Stores to measure with: every cluster active with zero passwords, segment i of record n at entry n * 8 + i of two
--- tables, absent where its length is zero; none is frozen.
+-- Stores to measure with: every cluster active with sixteen segments and zero passwords, segment i of record n at entry
+-- n * 16 + i of two tables, absent where its length is zero; none is frozen.
 -- Assumes nothing.
 use Prim.Native.Nat.{ℕ, _+_, _*_}
 use mathlib.Core.Bool.{true, false}
@@ -26,6 +26,7 @@ unfoldable pub clusterFrom : List ℕ → List ℕ → ℕ → Cluster
 clusterFrom bases lengths n =
     record {
       active = true;
+      width = segments;
       read = replicate passwordBytes 0;
       write = replicate passwordBytes 0;
       segments = tabulate segments (segmentFrom bases lengths n);

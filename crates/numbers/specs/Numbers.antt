@@ -1,4 +1,4 @@
--- Document 01, "Numbers a call may be turned down with", and document 02, §1: the numbers that definitions below or above
+-- Document 01, "Numbers a call may be turned down with", and document 02, §1 and §8: the numbers that definitions below or above
 -- the table of the calls name by their words. The table itself is in `calls/specs/Numbers`, with the numbers written out.
 --     unsoundNumber    unsound
 --     placeNumber      no such place
@@ -10,6 +10,7 @@
 --     linkNumber       link
 --     loopNumber       loop
 --     emptyNumber      empty
+--     wrongLengthNumber    length
 -- Assumes nothing.
 use Prim.Native.Nat.{ℕ}
 
@@ -42,3 +43,6 @@ loopNumber = 20
 
 abbrev pub emptyNumber : ℕ
 emptyNumber = 21
+
+abbrev pub wrongLengthNumber : ℕ
+wrongLengthNumber = 25

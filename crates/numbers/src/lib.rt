@@ -47,3 +47,5 @@ pub const FROZEN: u8 = 22;
 pub const WHOLE: u8 = 23;
 
 pub const APART: u8 = 24;
+
+pub const LENGTH: u8 = 25;

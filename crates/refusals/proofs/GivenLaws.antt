@@ -11,7 +11,7 @@ use lib.Dec.{leb}
 use lib.ListN.{length}
 use Rattle.sizes.specs.Sizes.{nodes}
 use Rattle.handle.specs.declared.Handle.{Handle}
-use Rattle.handle.specs.Handles.{firstOf, noSuchPlace, decoded}
+use Rattle.handle.specs.Handles.{firstOf, noWidth, noSuchPlace, decoded}
 use Rattle.store.specs.declared.Cluster.{Cluster}
 use Rattle.store.specs.declared.Store.{Store}
 use Rattle.store.specs.Records.{clusterAt}
@@ -48,21 +48,24 @@ module _ (s : Store) (m b : List ℕ) where
   found-is e = ap (λ (t : Bool). cond t 0 (recordNamed shown)) e
 
   -- rows below the second, on the one record or on the other
-  pub either-record : (t far : Bool) (rest : Cluster → ℕ)
-      → cond t 1 (cond (noSuchPlace shown || far) 2 (rest named)) ≡ cond t 1 (cond (noSuchPlace shown || far) 2 (rest found))
-  either-record t far rest = go (noSuchPlace shown) refl
+  pub either-record : (l t far : Bool) (rest : Cluster → ℕ)
+      → cond l 25 (cond t 1 (cond (noSuchPlace shown || far) 2 (rest named)))
+      ≡ cond l 25 (cond t 1 (cond (noSuchPlace shown || far) 2 (rest found)))
+  either-record l t far rest = go (noSuchPlace shown) refl
     where
+      upper : Bool → Cluster → ℕ
+      upper q c = cond l 25 (cond t 1 (cond (q || far) 2 (rest c)))
+
       go : (p : Bool) → noSuchPlace shown ≡ p
-          → cond t 1 (cond (noSuchPlace shown || far) 2 (rest named)) ≡ cond t 1 (cond (noSuchPlace shown || far) 2 (rest found))
-      go true e =
-          ap (λ (q : Bool). cond t 1 (cond (q || far) 2 (rest named))) e
-          ∙ sym (ap (λ (q : Bool). cond t 1 (cond (q || far) 2 (rest found))) e)
-      go false e = ap (λ (i : ℕ). cond t 1 (cond (noSuchPlace shown || far) 2 (rest (clusterAt s i)))) (sym (found-is e))
+          → upper (noSuchPlace shown) named ≡ upper (noSuchPlace shown) found
+      go true e = ap (λ (q : Bool). upper q named) e ∙ sym (ap (λ (q : Bool). upper q found) e)
+      go false e = ap (λ (i : ℕ). upper (noSuchPlace shown) (clusterAt s i)) (sym (found-is e))
 
 -- ---- where none of the shared rows is told
 
--- the store is sound and the place exists
+-- the handle has a width, the store is sound and the place exists
 pub record Passed (sd : Bool) (h : Handle) : Type 0 where
+  pub known : noWidth h ≡ false
   pub sound : not sd ≡ false
   pub place : noSuchPlace h ≡ false
 
@@ -77,10 +80,15 @@ module _ (sd : Bool) (h : Handle) (c : Cluster) where
         first-clear (sharedRows sd h c far field away mode) (shared-numbered sd h c far field away mode) z
 
     pub shared-passed : Passed sd h
-    shared-passed = record { sound = none-told .0; place = or-left (noSuchPlace h) far (none-told .1 .0) }
+    shared-passed =
+        record {
+          known = none-told .0;
+          sound = none-told .1 .0;
+          place = or-left (noSuchPlace h) far (none-told .1 .1 .0);
+        }
 
     pub shared-field : field ≡ false
-    shared-field = none-told .1 .1 .0
+    shared-field = none-told .1 .1 .1 .0
 
   pub owner-numbered : (current : ℕ) (field : Bool) → Numbered (ownerRows sd h c current field)
   unfolding ownerRows
@@ -91,4 +99,8 @@ module _ (sd : Bool) (h : Handle) (c : Cluster) where
   owner-passed current field z =
       let clear : Clear (ownerRows sd h c current field) =
       first-clear (ownerRows sd h c current field) (owner-numbered current field) z in
-      record { sound = clear .0; place = or-left (noSuchPlace h) (leb nodes current) (clear .1 .0) }
+      record {
+        known = clear .0;
+        sound = clear .1 .0;
+        place = or-left (noSuchPlace h) (leb nodes current) (clear .1 .1 .0);
+      }

@@ -1,5 +1,5 @@
-// The refusals that calls share, by what their tests look at: 1 to 5, 8 and 9 of the calls that open a cluster by a
-// handle, and 10 of those that need the write primary handle on its own node; and those of a join, which takes two.
+// The refusals that calls share, by what their tests look at: 25 in its two places, 1 to 5, 8 and 9 of the calls that open a
+// cluster by a handle, and 10 of those that need the write primary handle on its own node; and those of a join, which takes two.
 mod pair; // pair.rt: the refusals of a join
 
 use aes::Tables;
@@ -8,6 +8,7 @@ use numbers::ELSEWHERE;
 use numbers::FIELD;
 use numbers::GAPPED;
 use numbers::INACTIVE;
+use numbers::LENGTH;
 use numbers::NO_SUCH_PLACE;
 use numbers::NOT_PRIMARY;
 use numbers::UNSOUND;
@@ -44,6 +45,9 @@ pub fn first_refusal(
     requires { ⌜ IsTables (now tables) ⌝ }
     ensures { λ r. ⌜ r ≡ firstOf (rows.sharedRows sound handle cluster far field away mode) ⌝ }
 {
+    if handle.has_width(0) {
+        return LENGTH;
+    }
     if !sound {
         return UNSOUND;
     }
@@ -68,6 +72,9 @@ pub fn first_refusal(
     let active = cluster.active;
     if !active {
         return INACTIVE;
+    }
+    if !handle.has_width(cluster.width) {
+        return LENGTH;
     }
     let password = store::primary(cluster, mode);
     if !handle.validates_with(tables, password) {

@@ -6,6 +6,7 @@ use numbers::APART;
 use numbers::FIELD;
 use numbers::GAPPED;
 use numbers::INACTIVE;
+use numbers::LENGTH;
 use numbers::NO_SUCH_PLACE;
 use numbers::UNSOUND;
 use numbers::VIOLATED;
@@ -38,6 +39,9 @@ pub fn pair_refusal(
     requires { ⌜ IsTables (now tables) ⌝ }
     ensures { λ r. ⌜ r ≡ firstOf (joinRows sound handle other cluster mode) ⌝ }
 {
+    if handle.has_width(0) | other.has_width(0) {
+        return LENGTH;
+    }
     if !sound {
         return UNSOUND;
     }
@@ -56,6 +60,10 @@ pub fn pair_refusal(
     let active = cluster.active;
     if !active {
         return INACTIVE;
+    }
+    let width = cluster.width;
+    if !handle.has_width(width) | !other.has_width(width) {
+        return LENGTH;
     }
     let password = store::primary(cluster, mode);
     if !handle.validates_with(tables, password) {

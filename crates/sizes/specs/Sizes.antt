@@ -2,7 +2,7 @@
 --     nodes            the nodes, numbered from 0
 --     clusters         the clusters of a node, their local numbers from 0
 --     records          the clusters of all nodes
---     segments         the segments of a cluster, numbered from 0
+--     segments         the segments that a cluster's record has room for, numbered from 0
 --     nodeMemory       the bytes of one node's shared memory
 --     memory           the bytes of the lent slice: the memories of all nodes
 --     passwordBytes    the bytes of a password
@@ -19,7 +19,7 @@ abbrev pub records : ℕ
 records = 32
 
 abbrev pub segments : ℕ
-segments = 8
+segments = 16
 
 abbrev pub nodeMemory : ℕ
 nodeMemory = 4096

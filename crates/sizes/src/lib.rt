@@ -1,11 +1,12 @@
 // The sizes that document 01 gives, named once for all code; `specs/` has the same for the definitions.
 
-// Nodes of the store, clusters of a node, segments of a cluster; the records are the clusters of all nodes.
+// Nodes of the store, clusters of a node, segments that a cluster's record has room for; the records are the clusters of
+// all nodes.
 pub const NODES: usize = 4;
 
 pub const CLUSTERS: usize = 8;
 
-pub const SEGMENTS: usize = 8;
+pub const SEGMENTS: usize = 16;
 
 pub const RECORDS: usize = 32;
 

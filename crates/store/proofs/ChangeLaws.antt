@@ -8,7 +8,8 @@ use mathlib.Core.List.{List}
 use mathlib.Core.Option.{some}
 use Prim.Native.Nat.{ℕ, _≤_, _<_}
 use native.Mathlib.Omega.{arith}
-use Rattle.loops.proofs.BelowLaws.{and-both}
+use lib.Dec.{ltb}
+use Rattle.loops.proofs.BelowLaws.{and-left, and-both, every-in}
 use native.Mathlib.Decide.{ℕ-discrete, decLt}
 use lib.ListN.{length, getD, set, replicate, getD-replicate}
 use lib.Seq.{getD-set-same, getD-set-other, set-out}
@@ -23,11 +24,12 @@ use Rattle.store.specs.Records.{Table, Tables, tableOf, recordOf, noClus
 use Rattle.store.specs.Records.{segmentOf, placeOf, placeAt, placeOn}
 use Rattle.store.specs.Records.{putRecord, withSegment, withPlace, withMark}
 use Rattle.store.specs.Sound.{inRanges, endsInside, inside, isAbsent, soundMark, soundSegment, apart, settled, sound}
+use Rattle.store.specs.Sound.{isWidth, soundWidth, allowed, below, sized}
 use Rattle.store.specs.Placement.{newBase}
 use Rattle.store.proofs.PlaceLaws.{apart-sym}
 use Rattle.store.proofs.PlacementLaws.{newBase-fits}
 use Rattle.store.proofs.SoundLaws.{Sound, segment-inside, segment-mark, segment-present, present-mark, sound-out, sound-in}
-use Rattle.store.proofs.SoundLaws.{settled-active, settled-inactive}
+use Rattle.store.proofs.SoundLaws.{settled-active, settled-inactive, sized-settled, sized-at, allowed-absent, allowed-below}
 
 -- ---- one record replaced
 
@@ -40,6 +42,39 @@ module _ (s : Store) (n : ℕ) (c : Cluster) where
 
   pub put-out : length (s .clusters) ≤ n → putRecord s n c ≡ s
   put-out h = ap (λ (l : List Cluster). record { clusters = l }) (set-out (s .clusters) n c h)
+
+-- ---- the width of a record
+
+-- a new cluster of one of the three widths
+pub sized-started : (w : ℕ) (read write : List ℕ) → isWidth w ≡ true → sized (started w read write) ≡ true
+unfolding sized below
+sized-started w read write e =
+    and-both (isWidth w) (below (started w read write)) e
+    (every-in segments _ (λ i h.
+    allowed-absent _ i w (ap (λ (g : Segment). g .place) (getD-replicate segments i absentSegment absentSegment h))))
+
+-- another segment in its place, which the width allows
+pub sized-with : (c : Cluster) (i : ℕ) (g : Segment) → sized c ≡ true
+    → (i < segments → allowed (g .place) i (c .width) ≡ true) → sized (withSegment c i g) ≡ true
+unfolding sized below
+sized-with c i g z t =
+    and-both (soundWidth (c .active) (c .width)) (below (withSegment c i g))
+    (and-left (soundWidth (c .active) (c .width)) (below c) z)
+    (every-in segments _ (λ k h. go k h (ℕ-discrete k i) (decLt i (length (c .segments)))))
+  where
+    go : (k : ℕ) → k < segments → Dec (k ≡ i) → Dec (i < length (c .segments))
+        → allowed (placeOf (tableOf (withSegment c i g)) k) k (c .width) ≡ true
+    go k h (no q) d =
+        ap (λ (x : Segment). allowed (x .place) k (c .width)) (getD-set-other (c .segments) i k g absentSegment q)
+        ∙ sized-at c z k h
+    go k h (yes q) (no d) =
+        ap (λ (l : List Segment). allowed (getD l k absentSegment .place) k (c .width))
+        (set-out (c .segments) i g (omega arith))
+        ∙ sized-at c z k h
+    go k h (yes q) (yes d) =
+        ap (λ (x : ℕ). allowed (getD (set (c .segments) i g) x absentSegment .place) x (c .width)) q
+        ∙ ap (λ (x : Segment). allowed (x .place) i (c .width)) (getD-set-same (c .segments) i g absentSegment d)
+        ∙ t (subst (λ (x : ℕ). x < segments) q h)
 
 -- how segment i of a new record at n comes about, where segment new may be another
 data Fate (s : Store) (node n new i : ℕ) (g : Segment) : Type 0 where
@@ -184,19 +219,23 @@ module _ (s : Store) (size : ℕ) (e : sound s size ≡ true) (node local : ℕ)
   pub sound-inactive : sound (putRecord s (recordOf node local) inactive) size ≡ true
   sound-inactive = sound-empty inactive settled-inactive refl
 
-  pub sound-started : (read write : List ℕ)
-      → sound (putRecord s (recordOf node local) (started read write)) size ≡ true
-  sound-started read write = sound-empty (started read write) (settled-active (started read write) refl) refl
+  pub sound-started : (w : ℕ) (read write : List ℕ) → isWidth w ≡ true
+      → sound (putRecord s (recordOf node local) (started w read write)) size ≡ true
+  sound-started w read write t =
+      sound-empty (started w read write) (settled-active (started w read write) refl (sized-started w read write t)) refl
 
   module _ (i : ℕ) (active : clusterAt s (recordOf node local) .active ≡ true) where
     abbrev c : Cluster
     c = clusterAt s (recordOf node local)
 
-    -- segment i replaced by one whose fate is good
-    one : (g : Segment) → Fate s node (recordOf node local) i i g
+    fitting : sized c ≡ true
+    fitting = sized-settled c (sound-out s size e .settling (recordOf node local) (omega arith))
+
+    -- segment i replaced by one that the width allows and whose fate is good
+    one : (g : Segment) → (i < segments → allowed (g .place) i (c .width) ≡ true) → Fate s node (recordOf node local) i i g
         → sound (putRecord s (recordOf node local) (withSegment c i g)) size ≡ true
-    one g f =
-        put i (withSegment c i g) (settled-active (withSegment c i g) active)
+    one g z f =
+        put i (withSegment c i g) (settled-active (withSegment c i g) active (sized-with c i g fitting z))
         (λ k h. fate k h (ℕ-discrete k i) (decLt i (length (c .segments))))
       where
         fate : (k : ℕ) → k < segments → Dec (k ≡ i) → Dec (i < length (c .segments))
@@ -211,21 +250,21 @@ module _ (s : Store) (size : ℕ) (e : sound s size ≡ true) (node local : ℕ)
                 ap (λ (x : ℕ). getD (set (c .segments) i g) x absentSegment) q
                 ∙ getD-set-same (c .segments) i g absentSegment d
 
-    -- a segment made at the base that placement gives: call 3
-    pub sound-made : (base length : ℕ) → newBase (tableAt s) node length ≡ some base
+    -- a segment below the width, made at the base that placement gives: call 3
+    pub sound-made : ltb i (c .width) ≡ true → (base length : ℕ) → newBase (tableAt s) node length ≡ some base
         → sound (putRecord s (recordOf node local) (withPlace (clusterAt s (recordOf node local)) i (Present base length)))
         size ≡ true
-    sound-made base length q =
+    sound-made z base length q =
         let f = newBase-fits (tableAt s) node length base q in
-        one (segmentAt (Present base length))
+        one (segmentAt (Present base length)) (λ h. allowed-below (Present base length) i (c .width) z)
         (fresh refl (segment-present (segmentAt (Present base length)) base length refl ∙ f .within) (f .free))
 
     -- a segment deleted: call 4
     pub sound-removed : sound (putRecord s (recordOf node local) (withPlace (clusterAt s (recordOf node local)) i Absent))
         size ≡ true
-    sound-removed = one absentSegment (gone refl)
+    sound-removed = one absentSegment (λ h. allowed-absent Absent i (c .width) refl) (gone refl)
 
     -- a present segment frozen: call 10
     pub sound-frozen : isAbsent (placeOf (tableOf c) i) ≡ false
         → sound (putRecord s (recordOf node local) (withMark c i)) size ≡ true
-    sound-frozen h = one _ (kept refl (present-mark _ h))
+    sound-frozen h = one _ (sized-at c fitting i) (kept refl (present-mark _ h))

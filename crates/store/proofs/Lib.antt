@@ -4,6 +4,7 @@ pub mod MapLaws
 pub mod JumpLaws
 pub mod PlacementLaws
 pub mod SoundLaws
+pub mod QuickLaws
 pub mod ClaimLaws
 pub mod ChangeLaws
 pub mod ExampleLaws

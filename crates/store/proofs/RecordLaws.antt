@@ -38,7 +38,7 @@ module _ (c : Cluster) (i : ℕ) (e : length (c .segments) ≡ segments) (h : se
   place-beyond = sym (ap (λ (g : Segment). g .place) (List·getD-eq-default (c .segments) absentSegment (rw e h)))
 
   pub beyond : (g : Segment) → c ≡ withSegment c i g
-  beyond g = ap (λ (l : List Segment). record { active = c .active; read = c .read; write = c .write; segments = l })
+  beyond g = ap (λ (l : List Segment). record { active = c .active; width = c .width; read = c .read; write = c .write; segments = l })
       (sym (set-out (c .segments) i g (rw e h)))
 
   pub with-beyond : (p : Place) → c ≡ withPlace c i p
@@ -69,18 +69,19 @@ module _ (c : Cluster) (mode : ℕ) where
     replacing b =
         record {
           active = c .active;
+          width = c .width;
           read = elim b [ true ↦ p | false ↦ c .read ];
           write = elim b [ true ↦ c .write | false ↦ p ];
           segments = c .segments;
         }
 
     pub replaced-read : mode ≡ readMode
-        → record { active = c .active; read = p; write = c .write; segments = c .segments } ≡ withPassword c mode p
+        → record { active = c .active; width = c .width; read = p; write = c .write; segments = c .segments } ≡ withPassword c mode p
     unfolding replacing
     replaced-read e = sym (ap replacing (eq-eqb mode readMode e))
 
     pub replaced-write : (mode ≡ readMode → ⊥)
-        → record { active = c .active; read = c .read; write = p; segments = c .segments } ≡ withPassword c mode p
+        → record { active = c .active; width = c .width; read = c .read; write = p; segments = c .segments } ≡ withPassword c mode p
     unfolding replacing
     replaced-write e = sym (ap replacing (ne-eqb mode readMode e))
 
@@ -98,5 +99,5 @@ put-itself s n = ap (λ (l : List Cluster). record { clusters = l }) (set-itself
 pub mark-itself : (c : Cluster) (i : ℕ) → frozenOf (tableOf c) i ≡ true → withMark c i ≡ c
 mark-itself c i e =
     ap (λ (t : Bool). withSegment c i (record { place = placeOf (tableOf c) i; frozen = t })) (sym e)
-    ∙ ap (λ (l : List Segment). record { active = c .active; read = c .read; write = c .write; segments = l })
+    ∙ ap (λ (l : List Segment). record { active = c .active; width = c .width; read = c .read; write = c .write; segments = l })
     (set-itself (c .segments) i absentSegment)

@@ -1,27 +1,27 @@
 -- Soundness as facts: one law out of it, `sound-out`, and one into it, `sound-in`, clause by clause; no other law looks
 -- inside `sound`. The starting store is sound: every record in it is inactive and every segment absent.
 -- Assumes nothing.
-use mathlib.Core.Path.{_≡_, refl, ap, ap₂, _∙_}
+use mathlib.Core.Path.{_≡_, refl, sym, ap, ap₂, _∙_}
 use mathlib.Core.Logic.{_≢_, _⊎_, inl, inr}
 use mathlib.Core.Bool.{Bool, true, false, not, _&&_, _||_, or-true, and-true}
 use Prim.Native.Nat.{ℕ, _<_}
 use native.Mathlib.Omega.{arith}
 use native.Mathlib.Decide.{ℕ-discrete}
-use lib.Dec.{eqb}
+use lib.Dec.{ltb, eqb}
 use lib.ListN.{getD-replicate}
 use borrow.Author.Tests.{eqb-true, eq-eqb}
 use Rattle.loops.specs.Below.{every}
 use Rattle.loops.proofs.BelowLaws.{and-left, and-right, and-both, every-in, every-at, every-pair-in, every-pair-at}
 use Rattle.store.specs.declared.Place.{Place}
-use Rattle.store.specs.declared.Place.the-variants.{Present}
+use Rattle.store.specs.declared.Place.the-variants.{Absent, Present}
 use Rattle.store.specs.declared.Segment.{Segment}
 use Rattle.store.specs.declared.Cluster.{Cluster}
 use Rattle.store.specs.declared.Store.{Store}
 use Rattle.sizes.specs.Sizes.{nodes, clusters, segments, records, memory}
 use Rattle.store.specs.Records.{absentSegment, inactive, startingStore}
-use Rattle.store.specs.Records.{tableOf, recordOf, noCluster, clusterAt, tableAt, segmentOf, placeOn}
+use Rattle.store.specs.Records.{tableOf, recordOf, noCluster, clusterAt, tableAt, segmentOf, placeOf, placeOn}
 use Rattle.store.specs.Sound.{inRanges, endsInside, inside, isAbsent, soundMark, soundSegment, apart, nodeApart}
-use Rattle.store.specs.Sound.{zeroBytes, idle, settled, sound}
+use Rattle.store.specs.Sound.{zeroBytes, idle, soundWidth, allowed, below, sized, settled, sound}
 
 -- the facts of soundness, in the order of its clauses
 pub record Sound (s : Store) (size : ℕ) : Type 0 where
@@ -52,12 +52,47 @@ unfolding soundSegment
 segment-present g base length e =
     ap₂ (λ (p : Place) (t : Bool). inside p && t) e (present-mark g (ap isAbsent e)) ∙ and-true (inside (Present base length))
 
-pub settled-active : (c : Cluster) → c .active ≡ true → settled c ≡ true
+-- the width that the code's test of the active byte asks for
+pub sound-width : (active b : Bool) (w : ℕ) → active ≡ b → soundWidth b w ≡ soundWidth active w
+sound-width active b w e = ap (λ (t : Bool). soundWidth t w) (sym e)
+
+pub settled-active : (c : Cluster) → c .active ≡ true → sized c ≡ true → settled c ≡ true
 unfolding settled
-settled-active c e = ap (λ (t : Bool). t || idle c) e
+settled-active c e z = ap₂ (λ (t u : Bool). (t || idle c) && u) e z
+
+pub sized-settled : (c : Cluster) → settled c ≡ true → sized c ≡ true
+unfolding settled
+sized-settled c e = and-right (c .active || idle c) (sized c) e
+
+-- what an inactive cluster is, and the width of one that is active or not
+module _ (c : Cluster) (e : settled c ≡ true) where
+  pub settled-idle : c .active ≡ false → idle c ≡ true
+  unfolding settled
+  settled-idle q = ap (λ (b : Bool). b || idle c) (sym q) ∙ and-left (c .active || idle c) (sized c) e
+
+  pub settled-width : (b : Bool) → c .active ≡ b → soundWidth b (c .width) ≡ true
+  unfolding sized
+  settled-width b q =
+      sound-width (c .active) b (c .width) q
+      ∙ and-left (soundWidth (c .active) (c .width)) (below c) (sized-settled c e)
+
+-- segment i of a record that is sized
+pub sized-at : (c : Cluster) → sized c ≡ true → (i : ℕ) → i < segments → allowed (placeOf (tableOf c) i) i (c .width) ≡ true
+unfolding sized below
+sized-at c z i h =
+    every-at segments (λ i. allowed (placeOf (tableOf c) i) i (c .width))
+    (and-right (soundWidth (c .active) (c .width)) (below c) z) i h
+
+-- what the width allows: an absent segment anywhere, any below it
+module _ (p : Place) (i w : ℕ) where
+  pub allowed-absent : p ≡ Absent → allowed p i w ≡ true
+  allowed-absent e = ap (λ (q : Place). allowed q i w) e ∙ or-true (ltb i w)
+
+  pub allowed-below : ltb i w ≡ true → allowed p i w ≡ true
+  allowed-below e = ap (λ (t : Bool). t || isAbsent p) e
 
 pub settled-inactive : settled inactive ≡ true
-unfolding settled idle zeroBytes every
+unfolding settled sized below idle zeroBytes every
 settled-inactive = refl
 
 -- ---- out of soundness, and into it

@@ -25,7 +25,7 @@ abbrev pub tells : Example → Placed
 tells e = placement (tableAt (e .store)) 0 (e .size)
 
 abbrev holding : ℕ → Place → Cluster
-holding i p = withPlace (started (replicate passwordBytes 0) (replicate passwordBytes 0)) i p
+holding i p = withPlace (started 8 (replicate passwordBytes 0) (replicate passwordBytes 0)) i p
 
 unfoldable pub twoSegments : Store
 twoSegments =

@@ -15,7 +15,7 @@ use Rattle.store.specs.SoundWords.{ByteOf}
 pub record Room (s : Store) (v size base : ℕ) : Type 0 where
   pub low : base ≤ 4095
   pub ends : base + size ≤ 4096
-  pub free : (l i k : ℕ) → l < 8 → i < 8 → base ≤ k → k < base + size → ByteOf k (placeAt (tableAt s) (v * 8 + l) i) → ⊥
+  pub free : (l i k : ℕ) → l < 8 → i < 16 → base ≤ k → k < base + size → ByteOf k (placeAt (tableAt s) (v * 8 + l) i) → ⊥
 
 pub record PlacementInWords (s : Store) (v size : ℕ) : Type 0 where
   pub at : (base : ℕ) → (placement (tableAt s) v size ≡ record { number = 0; base = base })

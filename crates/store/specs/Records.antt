@@ -1,9 +1,9 @@
--- Document 01, "The store": the nodes, the clusters' records and how a segment is found in them. With the mark of
--- document 02, §3: a segment is frozen or not.
+-- Document 01, "The store": the nodes, the clusters' records and how a segment is found in them. With document 02:
+-- a segment is frozen or not (§3), and a cluster has a width, 0 while it is inactive, and room for sixteen segments (§8).
 --     segmentAt, markedAt          a segment at a place, not frozen, and frozen
 --     absentSegment, inactive      an absent segment, and a cluster's record as in the starting store
 --     startingStore                all clusters inactive
---     started                      the record of a new cluster with these passwords
+--     started w read write         the record of a new cluster of width w with these passwords
 --     Table, tableOf, Tables       all of a cluster's record but its passwords; the tables of all records
 --     recordOf                     the number of the record of a node's cluster
 --     noCluster                    what a read past the last record gives: inactive, with no bytes and no segments
@@ -51,6 +51,7 @@ abbrev pub inactive : Cluster
 inactive =
     record {
       active = false;
+      width = 0;
       read = replicate passwordBytes 0;
       write = replicate passwordBytes 0;
       segments = replicate segments absentSegment;
@@ -59,18 +60,19 @@ inactive =
 abbrev pub startingStore : Store
 startingStore = record { clusters = replicate records inactive }
 
-abbrev pub started : List ℕ → List ℕ → Cluster
-started read write =
-    record { active = true; read = read; write = write; segments = replicate segments absentSegment }
+abbrev pub started : ℕ → List ℕ → List ℕ → Cluster
+started width read write =
+    record { active = true; width = width; read = read; write = write; segments = replicate segments absentSegment }
 
 -- ---- reading the records
 
 pub record Table : Type 0 where
   pub active : Bool
+  pub width : ℕ
   pub segments : List Segment
 
 abbrev pub tableOf : Cluster → Table
-tableOf c = record { active = c .active; segments = c .segments }
+tableOf c = record { active = c .active; width = c .width; segments = c .segments }
 
 abbrev pub Tables : Type 0
 Tables = ℕ → Table
@@ -79,7 +81,7 @@ abbrev pub recordOf : ℕ → ℕ → ℕ
 recordOf node local = node * clusters + local
 
 abbrev pub noCluster : Cluster
-noCluster = record { active = false; read = []; write = []; segments = [] }
+noCluster = record { active = false; width = 0; read = []; write = []; segments = [] }
 
 abbrev pub clusterAt : Store → ℕ → Cluster
 clusterAt s n = getD (s .clusters) n noCluster
@@ -139,7 +141,8 @@ abbrev pub putRecord : Store → ℕ → Cluster → Store
 putRecord s n c = record { clusters = set (s .clusters) n c }
 
 abbrev pub withSegment : Cluster → ℕ → Segment → Cluster
-withSegment c i g = record { active = c .active; read = c .read; write = c .write; segments = set (c .segments) i g }
+withSegment c i g =
+    record { active = c .active; width = c .width; read = c .read; write = c .write; segments = set (c .segments) i g }
 
 abbrev pub withPlace : Cluster → ℕ → Place → Cluster
 withPlace c i p = withSegment c i (segmentAt p)
@@ -151,6 +154,7 @@ abbrev pub withPassword : Cluster → ℕ → List ℕ → Cluster
 withPassword c mode p =
     record {
       active = c .active;
+      width = c .width;
       read = elim (eqb mode readMode) [ true ↦ p | false ↦ c .read ];
       write = elim (eqb mode readMode) [ true ↦ c .write | false ↦ p ];
       segments = c .segments;

@@ -1,10 +1,13 @@
 -- Document 01, "The store", the sentence that begins "Sound:", as computed lists: a table for each way to break it, and
--- tables that go to its bounds.
+-- tables that go to its bounds; with the clauses of document 02, §3 and §8.
 --     Case, told           records and a slice's size, and whether they are sound; what `sound` tells
 --     sixteen b            a password of sixteen bytes, of which the last is b and the others are zero
---     last p               an active cluster whose segment 7 is p, the others absent
---     holding p q          an active cluster whose segment 0 is p and segment 7 is q
+--     fresh w              an active cluster of width w with no segment
+--     last p               an active cluster of width 8 whose segment 7 is p, the others absent
+--     holding p q          an active cluster of width 8 whose segment 0 is p and segment 7 is q
 --     quiet r w            an inactive cluster with two passwords and no segment
+--     wide w i             an active cluster of width w whose segment i has the first byte of the node, the others absent
+--     idle w               an inactive cluster of width w, as in the starting store otherwise
 --     on n c               the starting store with record n replaced
 --     both n c m d         and with record m replaced too
 --     damaged, whole       tables that are unsound, each by what the comment above it says, and such as are sound
@@ -31,14 +34,24 @@ told c = sound (c .store) (c .size)
 abbrev sixteen : ℕ → List ℕ
 sixteen b = set (replicate 16 0) 15 b
 
+abbrev fresh : ℕ → Cluster
+fresh w = started w (sixteen 1) (sixteen 2)
+
 abbrev last : Place → Cluster
-last p = withPlace (started (sixteen 1) (sixteen 2)) 7 p
+last p = withPlace (fresh 8) 7 p
 
 abbrev holding : Place → Place → Cluster
 holding p q = withPlace (last q) 0 p
 
 abbrev quiet : ℕ → ℕ → Cluster
-quiet r w = record { active = false; read = sixteen r; write = sixteen w; segments = inactive .segments }
+quiet r w = record { active = false; width = 0; read = sixteen r; write = sixteen w; segments = inactive .segments }
+
+abbrev wide : ℕ → ℕ → Cluster
+wide w i = withPlace (fresh w) i (Present 0 1)
+
+abbrev idle : ℕ → Cluster
+idle w =
+    record { active = false; width = w; read = sixteen 0; write = sixteen 0; segments = inactive .segments }
 
 abbrev on : ℕ → Cluster → Store
 on n c = putRecord startingStore n c
@@ -72,8 +85,24 @@ damaged =
     ∷ unsound (on 31 (withPlace inactive 7 (Present 0 1)))
     -- frozen and absent: beside a present segment, in a cluster with none, in an inactive one
     ∷ unsound (on 31 (withMark (last (Present 0 1)) 0))
-    ∷ unsound (on 0 (withMark (started (sixteen 1) (sixteen 2)) 7))
+    ∷ unsound (on 0 (withMark (fresh 8) 7))
     ∷ unsound (on 31 (withMark inactive 7))
+    -- active with a width that is none of the three
+    ∷ unsound (on 31 (fresh 0))
+    ∷ unsound (on 0 (fresh 5))
+    ∷ unsound (on 31 (fresh 15))
+    ∷ unsound (on 31 (fresh 17))
+    ∷ unsound (on 31 (fresh 255))
+    -- inactive with a width, one of the three and another
+    ∷ unsound (on 31 (idle 8))
+    ∷ unsound (on 0 (idle 1))
+    -- a segment at or above the width: the first above and the last that there is room for
+    ∷ unsound (on 31 (wide 4 4))
+    ∷ unsound (on 31 (wide 4 15))
+    ∷ unsound (on 31 (wide 8 8))
+    ∷ unsound (on 0 (wide 8 15))
+    -- a byte shared by two segments of the upper half
+    ∷ unsound (on 31 (withPlace (wide 16 15) 8 (Present 0 10)))
     ∷ []
 
 unfoldable pub whole : List Case
@@ -87,4 +116,10 @@ whole =
     -- frozen and present, the last segment of the last cluster and the first of the first
     ∷ fine (on 31 (withMark (last (Present 0 4096)) 7))
     ∷ fine (on 0 (withMark (holding (Present 0 1) (Present 1 1)) 0))
+    -- the three widths, each with its last segment
+    ∷ fine (on 31 (wide 4 3))
+    ∷ fine (on 31 (wide 8 7))
+    ∷ fine (on 31 (wide 16 15))
+    -- clusters of three widths on one node
+    ∷ fine (putRecord (both 24 (wide 4 3) 25 (fresh 8)) 31 (withPlace (fresh 16) 8 (Present 1 4095)))
     ∷ []

@@ -1,6 +1,6 @@
 -- Document 01, "The store", the sentence that begins "Sound:", in its own words and with its own numbers; `sound` is held
 -- to it both ways. Records are numbered by node: the cluster of node v and local number l is record v * 8 + l. With
--- document 02, §3, at the end.
+-- document 02, §3 and §8, at the end: a record has room for sixteen segments.
 --     ByteOf k p               byte k of a node's memory is one of the place's, which is present: one of the length
 --                              bytes from the base on
 --     ZeroPassword p           each of the sixteen bytes is zero
@@ -12,10 +12,13 @@
 --       noRead, noWrite          an inactive cluster has zero passwords
 --       noSegment                and only absent segments
 --       noMark                   an absent segment is never frozen
+--       widths                   an active cluster has one of the three widths
+--       noWidth                  an inactive one has 0
+--       noneAbove                no segment at or above the width is present
 -- Assumes nothing.
 use mathlib.Core.Path.{_≡_}
 use mathlib.Core.Logic.{_≢_, _⊎_}
-use mathlib.Core.Bool.{false}
+use mathlib.Core.Bool.{true, false}
 use mathlib.Core.List.{List}
 use Prim.Native.Nat.{ℕ, _+_, _*_, _≤_, _<_}
 use lib.ListN.{getD}
@@ -33,14 +36,18 @@ ZeroPassword p = (k : ℕ) → k < 16 → getD p k 0 ≡ 0
 
 pub record SoundInWords (s : Store) (size : ℕ) : Type 0 where
   pub slice : size ≡ 16384
-  pub bases : (n i base length : ℕ) → n < 32 → i < 8 → placeAt (tableAt s) n i ≡ Present base length → base ≤ 4095
-  pub lengths : (n i base length : ℕ) → n < 32 → i < 8 → placeAt (tableAt s) n i ≡ Present base length
+  pub bases : (n i base length : ℕ) → n < 32 → i < 16 → placeAt (tableAt s) n i ≡ Present base length → base ≤ 4095
+  pub lengths : (n i base length : ℕ) → n < 32 → i < 16 → placeAt (tableAt s) n i ≡ Present base length
       → (1 ≤ length) × (length ≤ 4096)
-  pub ends : (n i base length : ℕ) → n < 32 → i < 8 → placeAt (tableAt s) n i ≡ Present base length
+  pub ends : (n i base length : ℕ) → n < 32 → i < 16 → placeAt (tableAt s) n i ≡ Present base length
       → base + length ≤ 4096
-  pub apart : (v l i m j : ℕ) → v < 4 → l < 8 → i < 8 → m < 8 → j < 8 → (l ≢ m) ⊎ (i ≢ j)
+  pub apart : (v l i m j : ℕ) → v < 4 → l < 8 → i < 16 → m < 8 → j < 16 → (l ≢ m) ⊎ (i ≢ j)
       → (k : ℕ) → ByteOf k (placeAt (tableAt s) (v * 8 + l) i) → ByteOf k (placeAt (tableAt s) (v * 8 + m) j) → ⊥
   pub noRead : (n : ℕ) → n < 32 → clusterAt s n .active ≡ false → ZeroPassword (clusterAt s n .read)
   pub noWrite : (n : ℕ) → n < 32 → clusterAt s n .active ≡ false → ZeroPassword (clusterAt s n .write)
-  pub noSegment : (n i : ℕ) → n < 32 → i < 8 → clusterAt s n .active ≡ false → placeAt (tableAt s) n i ≡ Absent
-  pub noMark : (n i : ℕ) → n < 32 → i < 8 → placeAt (tableAt s) n i ≡ Absent → segmentOf (tableAt s n) i .frozen ≡ false
+  pub noSegment : (n i : ℕ) → n < 32 → i < 16 → clusterAt s n .active ≡ false → placeAt (tableAt s) n i ≡ Absent
+  pub noMark : (n i : ℕ) → n < 32 → i < 16 → placeAt (tableAt s) n i ≡ Absent → segmentOf (tableAt s n) i .frozen ≡ false
+  pub widths : (n : ℕ) → n < 32 → clusterAt s n .active ≡ true
+      → (clusterAt s n .width ≡ 4) ⊎ ((clusterAt s n .width ≡ 8) ⊎ (clusterAt s n .width ≡ 16))
+  pub noWidth : (n : ℕ) → n < 32 → clusterAt s n .active ≡ false → clusterAt s n .width ≡ 0
+  pub noneAbove : (n i : ℕ) → n < 32 → i < 16 → clusterAt s n .width ≤ i → placeAt (tableAt s) n i ≡ Absent

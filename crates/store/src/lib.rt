@@ -11,6 +11,7 @@ pub use records::absent;
 pub use records::base_of;
 pub use records::frozen_of;
 pub use records::inactive_cluster;
+pub use records::is_width;
 pub use records::length_of;
 pub use records::none_frozen;
 pub use records::password_in;
@@ -40,9 +41,11 @@ pub struct Segment {
     pub frozen: bool,
 }
 
-// A cluster's record: whether it is active, its two primary passwords, its segments.
+// A cluster's record: whether it is active, its width (4, 8 or 16 segments, 0 while it is inactive), its two primary
+// passwords, its segments. In a sound store those at or above the width are absent.
 pub struct Cluster {
     pub active: bool,
+    pub width: u8,
     pub read: Password,
     pub write: Password,
     pub segments: [Segment; SEGMENTS],

@@ -40,7 +40,7 @@ pub fn past(place: Place, base: usize, size: usize) -> usize
     }
 }
 
-// The base to try after the eight segments of a cluster.
+// The base to try after the segments of a cluster.
 fn past_cluster(cluster: Cluster, base: usize, size: usize) -> usize
     ensures { λ r. ⌜ r ≡ passes.climb segments (placeOf (tableOf cluster)) size base ⌝ }
 {

@@ -5,7 +5,7 @@ ghost use lib.ListN.{length};
 ghost use Rattle.loops.specs.First.{firstBytes};
 ghost use Rattle.sizes.specs.Sizes as sizes;
 ghost use Rattle.store.specs.Records as spec;
-ghost use Rattle.store.specs.Sound.{isAbsent};
+ghost use Rattle.store.specs.Sound.{isAbsent, isWidth};
 use crate::Cluster;
 use crate::Place;
 use crate::Segment;
@@ -32,6 +32,7 @@ pub fn inactive_cluster() -> Cluster
     };
     Cluster {
         active: false,
+        width: 0,
         read: [0; PASSWORD_BYTES],
         write: [0; PASSWORD_BYTES],
         segments: [segment; SEGMENTS],
@@ -49,14 +50,22 @@ pub fn starting() -> Store
 }
 
 // The record of a new cluster.
-pub fn started(read: Password, write: Password) -> Cluster
-    ensures { λ r. ⌜ r ≡ spec.started read write ⌝ }
+pub fn started(width: u8, read: Password, write: Password) -> Cluster
+    ensures { λ r. ⌜ r ≡ spec.started width read write ⌝ }
 {
     let mut cluster = inactive_cluster();
     cluster.active = true;
+    cluster.width = width;
     cluster.read = read;
     cluster.write = write;
     cluster
+}
+
+// Whether a number is one of the three widths that a cluster can have.
+pub fn is_width(width: usize) -> bool
+    ensures { λ r. ⌜ r ≡ isWidth width ⌝ }
+{
+    (width == 4) | ((width == 8) | (width == 16))
 }
 
 // The number of a cluster's record, or 0 where there is no such place, so that the record can be looked up before the

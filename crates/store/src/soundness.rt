@@ -13,6 +13,7 @@ use crate::Place;
 use crate::Segment;
 use crate::Store;
 use crate::absent;
+use crate::is_width;
 use sizes::CLUSTERS;
 use sizes::MEMORY;
 use sizes::NODES;
@@ -84,13 +85,55 @@ fn empty(cluster: Cluster) -> bool
     ok
 }
 
-// An inactive cluster has zero passwords and only absent segments.
+// Whether segment i of a cluster of that width may have this place: below the width any, else only that of an absent one.
+fn allowed(place: Place, i: usize, width: usize) -> bool
+    ensures { λ r. ⌜ r ≡ sound-spec.allowed place i width ⌝ }
+{
+    (i < width) | absent(place)
+}
+
+// Whether no segment at or above the width is present.
+fn below(cluster: Cluster) -> bool
+    ensures { λ r. ⌜ r ≡ sound-spec.below cluster ⌝ }
+{
+    let width = cluster.width as usize;
+    let mut ok = true;
+    let mut i: usize = 0;
+    while i < SEGMENTS {
+        let segment = cluster.segments[i];
+        let place = segment.place;
+        ok = allowed(place, i, width) & ok;
+        i += 1;
+    }
+    ok
+}
+
+// An active cluster has one of the three widths, an inactive one 0.
+fn sound_width(active: bool, width: usize) -> bool
+    ensures { λ r. ⌜ r ≡ sound-spec.soundWidth active width ⌝ }
+{
+    if active {
+        return is_width(width);
+    }
+    width == 0
+}
+
+// The width is sound, and no segment at or above it is present.
+fn sized(cluster: Cluster) -> bool
+    ensures { λ r. ⌜ r ≡ sound-spec.sized cluster ⌝ }
+{
+    let active = cluster.active;
+    let width = cluster.width as usize;
+    sound_width(active, width) & below(cluster)
+}
+
+// An inactive cluster has zero passwords and only absent segments; and the width is as it has to be.
 fn settled(cluster: Cluster) -> bool
     ensures { λ r. ⌜ r ≡ sound-spec.settled cluster ⌝ }
 {
     let read = cluster.read;
     let write = cluster.write;
-    cluster.active | ((zero(read) & zero(write)) & empty(cluster))
+    (cluster.active | ((zero(read) & zero(write)) & empty(cluster))) & sized(cluster)
 }
 
 // Whether the records are sound with a slice of `size` bytes: the clusters of each node are settled, and its map takes

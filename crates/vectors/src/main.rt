@@ -1,7 +1,8 @@
 // The AES-128 vectors that FIPS 197 publishes, run: the expansion of the key of appendix A.1 word by word, the cipher
-// example of appendix B and the example vector of appendix C.1. `stdout` has what the standard prints. Then one conversion:
-// the password 2b7e..4f3c by the parameter f3, as `openssl enc -aes-128-ecb -nopad -K 2b7e151628aed2a6abf7158809cf4f3c`
-// encrypts fifteen zero bytes and the byte f3, and as docs/vectors/handles.txt has it.
+// example of appendix B and the example vector of appendix C.1. `stdout` has what the standard prints. Then two conversions:
+// the password 2b7e..4f3c by the parameters f3 and 8ef3, as `openssl enc -aes-128-ecb -nopad -K
+// 2b7e151628aed2a6abf7158809cf4f3c` encrypts fifteen zero bytes and the byte f3, and fourteen and the bytes 8e, f3; the first
+// is in docs/vectors/handles.txt too.
 use libc::STDOUT_FILENO;
 
 // The lower-case hexadecimal digit of a number below 16.
@@ -44,7 +45,7 @@ fn write_words(bytes: [u8; 16]) {
 }
 
 // Writes what a parameter turns a password into.
-fn write_conversion(password: [u8; 16], parameter: u8) {
+fn write_conversion(password: [u8; 16], parameter: u16) {
     let tables = aes::tables();
     write_block(handle::convert_with(&tables, password, parameter));
 }
@@ -132,4 +133,5 @@ fn main() {
     write_block(aes::encrypt(counting, pairs));
     io::write_all(STDOUT_FILENO, b"conversion\n");
     write_conversion(key, 0xf3);
+    write_conversion(key, 0x8ef3);
 }

@@ -1,39 +1,48 @@
 //! Many validations by one call, against one call each and against the model.
 
 use crate::chance::damage::{inflict, Damage, LAST_PLACE};
-use crate::chance::handles::{handle, Wish};
+use crate::chance::handles::{at_width, handle, Wish};
 use crate::chance::stores::{self, Fill};
-use crate::chance::{below, bytes, cases};
+use crate::chance::{below, bytes, cases, width};
 use crate::compare::{ask, same_bytes, Sides};
 use crate::damages::Where;
 use crate::guard;
 use crate::question::{Held, Question, BATCH, BEYOND, READ_MODE, WRITE_MODE};
 use crate::tally::Tally;
 use model::call::Call;
-use model::handle::{Handle, HandleBytes};
+use model::handle::Width;
 use model::random::Random;
-use model::sizes::{CLUSTERS, HANDLE_BYTES, NODES};
+use model::sizes::{CLUSTERS, NODES, SEGMENTS};
 use model::store::{Mode, Store};
 
-/// Something that validates many handles; [`guard::validate_all`] is the one to be compared.
-pub type BatchGuard = fn(&mut Held, usize, &[u8], &mut [u8]) -> usize;
+/// Something that validates many handles, given the mode and the width; [`guard::validate_all`] is the one to be
+/// compared.
+pub type BatchGuard = fn(&mut Held, usize, usize, &[u8], &mut [u8]) -> usize;
 
 const MOST_HANDLES: usize = 40;
 
 /// One batch by chance.
+#[derive(Clone)]
 struct Batch {
     held: Held,
     mode: usize,
+    width: usize,
     handles: Vec<u8>,
     /// What the places for the numbers hold before.
     numbers: Vec<u8>,
 }
 
 impl Batch {
+    /// The handles that are whole; none where the width is none.
+    fn whole(&self) -> Vec<&[u8]> {
+        let width = Width::of_segments(self.width);
+        let chunks = width.map(|width| self.handles.chunks_exact(width.handle_bytes()));
+        chunks.into_iter().flatten().collect()
+    }
+
     /// As many as there are whole handles and places for.
     fn expected_count(&self) -> usize {
-        let whole = self.handles.len() / HANDLE_BYTES;
-        whole.min(self.numbers.len())
+        self.whole().len().min(self.numbers.len())
     }
 }
 
@@ -53,10 +62,41 @@ pub fn compare(
         let damage = if sound { None } else { damages.next() };
         let batch = by_chance(random, damage, tally);
         tally.note_mode(BATCH, narrow(batch.mode));
+        tally.note_width(BATCH, batch.width);
         validations += batch.expected_count() as u64;
-        one(guard, &batch)
+        one(guard, &batch, tally)
     })?;
     Ok(validations)
+}
+
+/// Batches of every width up to a little above the greatest, and of some that are right in their low bytes alone; and
+/// bytes of every length up to that of two handles. Gives how many batches there were.
+pub fn every_width(guard: BatchGuard, seed: u64) -> Result<u64, String> {
+    let mut batches = 0;
+    let mut widths = Width::ALL.into_iter();
+    cases(seed, Width::ALL.len() as u64, |random| {
+        let own = widths.next().expect("there are as many cases");
+        let tally = &mut Tally::default();
+        let batch = by_chance(random, None, tally);
+        let right = own.segments();
+        let high = [8, 16, 32, 48, 63].map(|bit| right + (1 << bit));
+        for width in (0..2 * SEGMENTS).chain(high).chain([usize::MAX]) {
+            let mut batch = batch.clone();
+            batch.width = width;
+            one(guard, &batch, tally)?;
+            batches += 1;
+        }
+        for length in 0..=2 * own.handle_bytes() {
+            let mut batch = batch.clone();
+            batch.width = right;
+            batch.handles = bytes(random, length);
+            batch.numbers = bytes(random, 3);
+            one(guard, &batch, tally)?;
+            batches += 1;
+        }
+        Ok(())
+    })?;
+    Ok(batches)
 }
 
 /// A mode as the model takes it.
@@ -64,38 +104,39 @@ fn narrow(mode: usize) -> u32 {
     u32::try_from(mode).unwrap_or(BEYOND)
 }
 
-fn one(guard: BatchGuard, batch: &Batch) -> Result<(), String> {
+fn one(guard: BatchGuard, batch: &Batch, tally: &mut Tally) -> Result<(), String> {
     let mut held = batch.held.clone();
     let mut found = batch.numbers.clone();
-    let count = guard(&mut held, batch.mode, &batch.handles, &mut found);
+    let (mode, width) = (batch.mode, batch.width);
+    let count = guard(&mut held, mode, width, &batch.handles, &mut found);
     let expected_count = batch.expected_count();
     if count != expected_count {
         return Err(format!(
-            "{count} numbers are told, {expected_count} are due"
+            "{count} numbers are told for width {width}, {expected_count} are due"
         ));
     }
     let mut expected = batch.numbers.clone();
-    let handles = batch.handles.chunks_exact(HANDLE_BYTES);
-    for (number, bytes) in expected.iter_mut().zip(handles) {
-        *number = validated_alone(batch, bytes)?;
+    for (number, bytes) in expected.iter_mut().zip(batch.whole()) {
+        *number = validated_alone(batch, bytes, tally)?;
     }
-    same_bytes("numbers of a batch", &expected, &found)?;
+    same_bytes("numbers of a batch", &expected, &found)
+        .map_err(|what| format!("width {width}, {what}"))?;
     same_bytes("image after a batch", &batch.held.image, &held.image)?;
     same_bytes("memory after a batch", &batch.held.memory, &held.memory)
 }
 
 /// The number on which the library's single validation and the model agree.
-fn validated_alone(batch: &Batch, bytes: &[u8]) -> Result<u8, String> {
-    let bytes = HandleBytes::try_from(bytes).map_err(|_| "not a whole handle")?;
+fn validated_alone(batch: &Batch, bytes: &[u8], tally: &mut Tally) -> Result<u8, String> {
     let call = Call::Validate {
         mode: narrow(batch.mode),
-        handle: Handle::from_bytes(&bytes),
+        handle: bytes.to_vec(),
     };
     let question = Question {
         beyond: batch.mode,
         ..Question::of(call)
     };
     let answer = ask(guard::ask, &mut Sides::both(batch.held.clone()), &question)?;
+    tally.note_widths(BATCH, &batch.held, &question, &answer);
     Ok(answer.reply.number)
 }
 
@@ -117,10 +158,12 @@ fn by_chance(random: &mut Random, damage: Option<Damage>, tally: &mut Tally) -> 
         1 => count + 1 + below(random, MOST_HANDLES),
         _ => count,
     };
+    let width = width(random);
     Batch {
         held,
         mode: mode(random),
-        handles: handles(random, &store, count),
+        width: asked_width(random, width),
+        handles: handles(random, &store, width, count),
         numbers: bytes(random, places),
     }
 }
@@ -140,8 +183,21 @@ fn mode(random: &mut Random) -> usize {
     }
 }
 
-/// The handles one after the other, and often some bytes of one more.
-fn handles(random: &mut Random, store: &Store, count: usize) -> Vec<u8> {
+/// The handles' own, and sometimes another or none.
+fn asked_width(random: &mut Random, own: Width) -> usize {
+    let right = own.segments();
+    match random.below(16) {
+        0 => below(random, SEGMENTS + 5),
+        1 => right + (1 << 8),
+        2 => right + (1 << 16),
+        3 => right + (1 << (32 + random.below(32))),
+        4 => width(random).segments(),
+        _ => right,
+    }
+}
+
+/// The handles one after the other, all of this width, and often some bytes of one more.
+fn handles(random: &mut Random, store: &Store, width: Width, count: usize) -> Vec<u8> {
     let mut joined = Vec::new();
     for _ in 0..count {
         let wish = Wish {
@@ -151,11 +207,17 @@ fn handles(random: &mut Random, store: &Store, count: usize) -> Vec<u8> {
                 Mode::Write
             },
             primary: false,
-            segments: true,
+            segments: random.one_in(2),
+            width: Some(width).filter(|_| !random.one_in(8)),
         };
-        joined.extend(handle(random, store, &[], wish).to_bytes());
+        let handle = handle(random, store, &[], wish);
+        let handle = match handle.width() == width {
+            true => handle,
+            false => at_width(&handle, width),
+        };
+        joined.extend(handle.to_bytes());
     }
-    let more = below(random, HANDLE_BYTES);
+    let more = below(random, width.handle_bytes());
     joined.extend(bytes(random, more));
     joined
 }

@@ -5,7 +5,7 @@ use crate::question::{Answer, Held, Question};
 use model::call::{Call, Reply};
 use model::model::run;
 use model::store::Store;
-use model::table::UNSOUND;
+use model::table::{refusal_above, Found, UNSOUND};
 
 /// Something that answers questions; [`crate::guard::ask`] is the one to be compared.
 pub type Guard = fn(&mut Held, &Question) -> Answer;
@@ -27,14 +27,14 @@ impl Sides {
 }
 
 /// The model's answer. The model has no store for a damaged image: every call that looks at the
-/// store is refused with 1 then.
+/// store is refused with 1 then, or with what comes before it.
 pub fn by_model(held: &mut Held, question: &Question) -> Answer {
     let mut buffer = question.buffer.clone();
     let (image, memory) = (&mut held.image, &mut held.memory);
     let needs_no_store = matches!(question.call, Call::Weaken { .. });
     let reply = match decode(image) {
         None if needs_no_store => run(&mut Store::starting(), memory, &mut buffer, &question.call),
-        None => Reply::refused(UNSOUND),
+        None => Reply::refused(before_the_store(&question.call).unwrap_or(UNSOUND)),
         Some(mut store) => {
             let reply = run(&mut store, memory, &mut buffer, &question.call);
             *image = encode(&store);
@@ -42,6 +42,16 @@ pub fn by_model(held: &mut Held, question: &Question) -> Answer {
         }
     };
     Answer { reply, buffer }
+}
+
+/// What is looked at before the store, and so whatever there is in its place.
+fn before_the_store(call: &Call) -> Option<u8> {
+    let found = Found {
+        store: &Store::starting(),
+        memory_bytes: 0,
+        buffer_bytes: 0,
+    };
+    refusal_above(UNSOUND, call, &found)
 }
 
 /// Whether the model holds the store for sound; a damaged image has no sound store.
@@ -95,7 +105,7 @@ fn changes_nothing_where_due(
     after: &Held,
     found: &Answer,
 ) -> Result<(), String> {
-    let kind = match (found.reply.is_done(), question.call) {
+    let kind = match (found.reply.is_done(), &question.call) {
         (false, _) => "a refusal",
         (true, Call::Look { .. }) => "a look",
         (true, Call::Join { .. }) => "a join",

@@ -1,7 +1,12 @@
 //! The functions of `include/gelmuszta.h`, in its order and with its names.
 
 use crate::image::Image;
-use model::handle::{HandleBytes, Password};
+use model::handle::Password;
+
+/// Room for a handle of any width.
+pub const GIVEN_BYTES: usize = 27;
+/// Where the bytes of a handle that is given go; its length goes elsewhere.
+pub type GivenBytes = [u8; GIVEN_BYTES];
 
 extern "C" {
     pub fn gelmuszta_start(image: *mut Image);
@@ -14,10 +19,13 @@ extern "C" {
         memory_length: usize,
         current: usize,
         local: usize,
+        width: usize,
         read: *const Password,
         write: *const Password,
-        first: *mut HandleBytes,
-        second: *mut HandleBytes,
+        first: *mut GivenBytes,
+        first_length: *mut usize,
+        second: *mut GivenBytes,
+        second_length: *mut usize,
     ) -> u8;
 
     pub fn gelmuszta_delete_cluster(
@@ -25,7 +33,8 @@ extern "C" {
         memory: *const u8,
         memory_length: usize,
         current: usize,
-        handle: *const HandleBytes,
+        handle: *const u8,
+        handle_length: usize,
     ) -> u8;
 
     pub fn gelmuszta_new_segment(
@@ -35,7 +44,8 @@ extern "C" {
         current: usize,
         segment: usize,
         size: usize,
-        handle: *const HandleBytes,
+        handle: *const u8,
+        handle_length: usize,
     ) -> u8;
 
     pub fn gelmuszta_delete_segment(
@@ -44,7 +54,8 @@ extern "C" {
         memory_length: usize,
         current: usize,
         segment: usize,
-        handle: *const HandleBytes,
+        handle: *const u8,
+        handle_length: usize,
     ) -> u8;
 
     pub fn gelmuszta_read(
@@ -52,7 +63,8 @@ extern "C" {
         memory: *const u8,
         memory_length: usize,
         segment: usize,
-        handle: *const HandleBytes,
+        handle: *const u8,
+        handle_length: usize,
         buffer: *mut u8,
         buffer_length: usize,
         length: *mut usize,
@@ -63,15 +75,18 @@ extern "C" {
         memory: *mut u8,
         memory_length: usize,
         segment: usize,
-        handle: *const HandleBytes,
+        handle: *const u8,
+        handle_length: usize,
         data: *const u8,
         data_length: usize,
     ) -> u8;
 
     pub fn gelmuszta_weaken(
-        handle: *const HandleBytes,
-        mask: u8,
-        given: *mut HandleBytes,
+        handle: *const u8,
+        handle_length: usize,
+        mask: u16,
+        given: *mut GivenBytes,
+        given_length: *mut usize,
         count: *mut u8,
     ) -> u8;
 
@@ -80,8 +95,10 @@ extern "C" {
         memory: *const u8,
         memory_length: usize,
         mode: usize,
-        handle: *const HandleBytes,
-        given: *mut HandleBytes,
+        handle: *const u8,
+        handle_length: usize,
+        given: *mut GivenBytes,
+        given_length: *mut usize,
     ) -> u8;
 
     pub fn gelmuszta_new_password(
@@ -89,9 +106,11 @@ extern "C" {
         memory: *const u8,
         memory_length: usize,
         mode: usize,
-        handle: *const HandleBytes,
+        handle: *const u8,
+        handle_length: usize,
         password: *const Password,
-        given: *mut HandleBytes,
+        given: *mut GivenBytes,
+        given_length: *mut usize,
     ) -> u8;
 
     pub fn gelmuszta_freeze(
@@ -100,7 +119,8 @@ extern "C" {
         memory_length: usize,
         current: usize,
         segment: usize,
-        handle: *const HandleBytes,
+        handle: *const u8,
+        handle_length: usize,
     ) -> u8;
 
     pub fn gelmuszta_join(
@@ -108,9 +128,12 @@ extern "C" {
         memory: *const u8,
         memory_length: usize,
         mode: usize,
-        handle: *const HandleBytes,
-        other: *const HandleBytes,
-        given: *mut HandleBytes,
+        handle: *const u8,
+        handle_length: usize,
+        other: *const u8,
+        other_length: usize,
+        given: *mut GivenBytes,
+        given_length: *mut usize,
     ) -> u8;
 
     pub fn gelmuszta_look(
@@ -119,7 +142,8 @@ extern "C" {
         memory_length: usize,
         current: usize,
         segment: usize,
-        handle: *const HandleBytes,
+        handle: *const u8,
+        handle_length: usize,
         from: *mut usize,
         length: *mut usize,
     ) -> u8;
@@ -129,7 +153,8 @@ extern "C" {
         memory: *const u8,
         memory_length: usize,
         mode: usize,
-        handle: *const HandleBytes,
+        handle: *const u8,
+        handle_length: usize,
     ) -> u8;
 
     pub fn gelmuszta_validate_all(
@@ -137,11 +162,12 @@ extern "C" {
         memory: *const u8,
         memory_length: usize,
         mode: usize,
+        width: usize,
         handles: *const u8,
         handles_length: usize,
         numbers: *mut u8,
         numbers_length: usize,
     ) -> usize;
 
-    pub fn gelmuszta_convert(password: *const Password, parameter: u8, converted: *mut Password);
+    pub fn gelmuszta_convert(password: *const Password, parameter: u16, converted: *mut Password);
 }

@@ -5,7 +5,8 @@ use model::sizes::{CLUSTERS, NODES, PASSWORD_BYTES, SEGMENTS};
 use model::store::{Cluster, Mode, Place, Segment, Store};
 use std::ops::Range;
 
-pub const READ_AT: usize = 1;
+pub const WIDTH_AT: usize = 1;
+pub const READ_AT: usize = 2;
 pub const WRITE_AT: usize = READ_AT + PASSWORD_BYTES;
 pub const SEGMENTS_AT: usize = WRITE_AT + PASSWORD_BYTES;
 /// Base and length, two bytes each, and the mark.
@@ -22,7 +23,7 @@ const FROZEN: u8 = 1;
 
 pub type Image = [u8; IMAGE_BYTES];
 
-/// Where a cluster's record lies; its first byte tells whether the cluster is active.
+/// Where a cluster's record lies; its first byte tells whether the cluster is active, and its second the width.
 pub fn record_at(node: usize, local: usize) -> Range<usize> {
     let start = (node * CLUSTERS + local) * RECORD_BYTES;
     start..start + RECORD_BYTES
@@ -63,6 +64,7 @@ pub fn encode(store: &Store) -> Image {
 
 fn encode_cluster(cluster: &Cluster, record: &mut [u8]) {
     record[0] = if cluster.active { ACTIVE } else { INACTIVE };
+    record[WIDTH_AT] = cluster.width;
     record[READ_AT..WRITE_AT].copy_from_slice(&cluster.read);
     record[WRITE_AT..SEGMENTS_AT].copy_from_slice(&cluster.write);
     let places = record[SEGMENTS_AT..].chunks_exact_mut(SEGMENT_BYTES);
@@ -81,7 +83,8 @@ fn encode_segment(segment: &Segment) -> [u8; SEGMENT_BYTES] {
     [b0, b1, l0, l1, mark]
 }
 
-/// The store of an image; `None` where a record encodes no cluster.
+/// The store of an image; `None` where a record encodes no cluster. Any byte is a width: whether it may be one is a
+/// matter of soundness.
 pub fn decode(image: &Image) -> Option<Store> {
     let mut store = Store::starting();
     let clusters = store.clusters.as_flattened_mut();
@@ -105,6 +108,7 @@ fn decode_cluster(record: &[u8]) -> Option<Cluster> {
     }
     Some(Cluster {
         active,
+        width: record[WIDTH_AT],
         read: password(READ_AT)?,
         write: password(WRITE_AT)?,
         segments,

@@ -6,7 +6,7 @@ use crate::chance::stores::{self, Fill};
 use crate::compare::Guard;
 use crate::question::{Answer, Held, Question};
 use model::call::{Call, Reply, JOIN};
-use model::handle::{Handle, FLAT};
+use model::handle::{Handle, HandleBytes};
 use model::random::Random;
 
 /// Gives how many joins were done.
@@ -34,7 +34,7 @@ fn one(guard: Guard, random: &mut Random) -> Result<bool, String> {
         mode,
         handle,
         other,
-    } = question.call
+    } = question.call.clone()
     else {
         return Err("another call was made".to_string());
     };
@@ -44,8 +44,8 @@ fn one(guard: Guard, random: &mut Random) -> Result<bool, String> {
         question,
         mode,
     };
-    let answer = join.asked(handle, other);
-    join.holds(&answer, handle, other)
+    let answer = join.asked(&handle, &other);
+    join.holds(&answer, &handle, &other)
         .map_err(|what| format!("{what}\n  asked:   {}\n  library: {answer}", join.question))?;
     Ok(answer.reply.is_done())
 }
@@ -66,21 +66,20 @@ impl Join {
         (self.guard)(&mut self.held.clone(), &question)
     }
 
-    fn asked(&self, handle: Handle, other: Handle) -> Answer {
-        let mode = self.mode;
+    fn asked(&self, handle: &HandleBytes, other: &HandleBytes) -> Answer {
         self.call(Call::Join {
-            mode,
-            handle,
-            other,
+            mode: self.mode,
+            handle: handle.clone(),
+            other: other.clone(),
         })
     }
 
-    fn reduced(&self, handle: Handle) -> Reply {
-        let mode = self.mode;
+    fn reduced(&self, handle: &HandleBytes) -> Reply {
+        let (mode, handle) = (self.mode, handle.clone());
         self.call(Call::Reduce { mode, handle }).reply
     }
 
-    fn holds(&self, answer: &Answer, one: Handle, other: Handle) -> Result<(), String> {
+    fn holds(&self, answer: &Answer, one: &HandleBytes, other: &HandleBytes) -> Result<(), String> {
         let told = |holds: bool, what: &str| match holds {
             true => Ok(()),
             false => Err(what.to_string()),
@@ -90,17 +89,26 @@ impl Join {
             exchanged == *answer,
             "a join hangs on which handle comes first",
         )?;
-        for handle in [one, other] {
-            let itself = self.asked(handle, handle).reply;
-            let reduced = self.reduced(handle);
-            let expected = itself == reduced || handle.selector.is_primary();
+        let read = [one, other].map(|bytes| Handle::from_bytes(bytes));
+        for (bytes, handle) in [one, other].into_iter().zip(&read) {
+            let itself = self.asked(bytes, bytes).reply;
+            let primary = handle.is_some_and(|handle| handle.selector.is_primary());
+            let expected = itself == self.reduced(bytes) || primary;
             told(expected, "a handle with itself does not give its reduction")?;
         }
         if !answer.reply.is_done() {
             return Ok(());
         }
-        let given = Handle::from_bytes(&answer.reply.first);
-        let again = Reply::with_handle(&given);
+        let given = &answer.reply.first;
+        let [Some(first), Some(second)] = read else {
+            return told(false, "bytes are joined that are no handle");
+        };
+        let is_as_wide = given.len() == one.len() && given.len() == other.len();
+        told(is_as_wide, "what is given has another width")?;
+        let again = Reply {
+            first: given.clone(),
+            ..Reply::DONE
+        };
         told(
             self.reduced(given) == again,
             "what is given is not valid, or not in the form of a reduced handle",
@@ -109,15 +117,19 @@ impl Join {
             let joined = self.asked(given, handle).reply;
             told(joined == again, "what was joined is not in what is given")?;
         }
+        let primary = Handle::from_bytes(given).is_some_and(|given| given.selector.is_primary());
         told(
-            !given.selector.is_primary() && self.counts(given, one.union(&other)),
+            !primary && self.counts(given, first.union(&second)),
             "what is given references other segments",
         )
     }
 
     /// Whether weakening tells so many segments, and takes none of these away. It gives no handle to nothing.
-    fn counts(&self, handle: Handle, segments: u8) -> bool {
-        let count = |mask| self.call(Call::Weaken { mask, handle }).reply.count;
-        count(FLAT) == segments.count_ones() && count(segments) == segments.count_ones()
+    fn counts(&self, handle: &HandleBytes, segments: u16) -> bool {
+        let count = |mask| {
+            let handle = handle.clone();
+            self.call(Call::Weaken { mask, handle }).reply.count
+        };
+        count(u16::MAX) == segments.count_ones() && count(segments) == segments.count_ones()
     }
 }

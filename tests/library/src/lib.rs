@@ -10,8 +10,8 @@
 //!   new password does not tell, and that those who write learn nothing of what lies there, judged by the library's side
 //!   alone.
 //! - [`pairs`]: what comparisons of two copies share.
-//! - [`tally`], [`damages`], [`sights`]: which answers, fills, selectors, modes, damages, ways to nothing,
-//!   frozen segments, looks, freezes, joins and new passwords were met.
+//! - [`tally`], [`damages`], [`sights`], [`widths`]: which answers, fills, selectors, modes, damages, ways to nothing,
+//!   frozen segments, looks, freezes, joins, new passwords and widths were met.
 
 pub mod batch;
 pub mod chance;
@@ -32,4 +32,5 @@ pub mod single;
 pub mod stays;
 pub mod tally;
 pub mod untold;
+pub mod widths;
 pub mod writers;

@@ -35,7 +35,7 @@ impl Pair {
     /// Whether some handle of the question does.
     pub fn names_apart(&self, question: &Question) -> bool {
         let mut presented = question.call.presented();
-        presented.any(|handle| self.is_apart(handle))
+        presented.any(|handle| self.is_apart(&handle))
     }
 }
 
@@ -67,9 +67,13 @@ pub fn does(store: &Store, call: &Call, buffer_bytes: usize) -> bool {
     refusal(call, &found).is_none()
 }
 
-/// Whether the handle validates in one of the modes in one of the stores, as the model judges.
-pub fn validates(stores: &[Store; 2], &handle: &Handle, modes: &[Mode]) -> bool {
-    let validates = |store: &Store, mode: u32| does(store, &Call::Validate { mode, handle }, 0);
+/// Whether the handle validates in one of the modes in one of the stores, as the model judges. One of another width than
+/// its cluster's does not.
+pub fn validates(stores: &[Store; 2], handle: &Handle, modes: &[Mode]) -> bool {
+    let validates = |store: &Store, mode: u32| {
+        let handle = handle.to_bytes();
+        does(store, &Call::Validate { mode, handle }, 0)
+    };
     let mut stores = stores.iter();
     stores.any(|store| modes.iter().any(|mode| validates(store, mode.number())))
 }

@@ -4,11 +4,11 @@ use crate::guard;
 use crate::image::encode;
 use crate::question::{Held, Question, READ_MODE, WRITE_MODE};
 use model::call::{Call, Reply};
-use model::handle::{Handle, HandleBytes, Password, FLAT};
+use model::handle::{HandleBytes, Password, Width};
 use model::hexadecimal::decode;
 use model::sizes::MEMORY_BYTES;
 use model::store::{Cluster, Store};
-use model::table::{APART, DONE, EMPTY, SPENT, WHOLE};
+use model::table::{APART, DONE, EMPTY, LENGTH, SPENT, WHOLE};
 use std::collections::HashMap;
 
 /// What `docs/vectors/README.md` explains.
@@ -56,23 +56,26 @@ impl<'a> Line<'a> {
             "apart" => self.not_joined(APART),
             "empty" => self.refused(EMPTY),
             "spent" => self.refused(SPENT),
+            "length" if self.values.contains_key("old") => self.refused(LENGTH),
+            "length" => self.not_joined(LENGTH),
             "validation" => self.validation(),
             _ => None,
         }
     }
 
     fn conversion(&self) -> Option<bool> {
-        let converted = guard::convert(&self.password("password")?, self.byte("parameter")?);
+        let converted = guard::convert(&self.password("password")?, self.bits("parameter")?);
         Some(converted == self.password("outcome")?)
     }
 
     /// The handle is what making the cluster gives for the mode.
     fn primary(&self) -> Option<bool> {
         let handle = self.handle("handle")?;
-        let cluster = self.cluster()?;
+        let cluster = self.cluster(&handle)?;
         let call = Call::NewCluster {
             node: u32::from_str_radix(self.values.get("node")?, 16).ok()?,
             local: u32::from_str_radix(self.values.get("local")?, 16).ok()?,
+            width: cluster.width.into(),
             read: cluster.read,
             write: cluster.write,
         };
@@ -83,24 +86,26 @@ impl<'a> Line<'a> {
         };
         Some(
             made.number == DONE
-                && given == handle.to_bytes()
+                && given == handle
                 && self.counts(&handle)?
-                && self.validates(handle)? == DONE,
+                && self.validates(&handle)? == DONE,
         )
     }
 
     fn weakened(&self) -> Option<bool> {
         let (old, new) = (self.handle("old")?, self.handle("new")?);
-        let mask = self.byte("mask")?;
         let expected = Reply {
             count: self.number("count")?.into(),
-            ..Reply::with_handle(&new)
+            ..giving(&new)
         };
-        let call = Call::Weaken { mask, handle: old };
+        let call = Call::Weaken {
+            mask: self.bits("mask")?,
+            handle: old.clone(),
+        };
         Some(
             ask(&mut held(&Store::starting()), call) == expected
-                && self.validates(old)? == DONE
-                && self.validates(new)? == DONE,
+                && self.validates(&old)? == DONE
+                && self.validates(&new)? == DONE,
         )
     }
 
@@ -108,49 +113,57 @@ impl<'a> Line<'a> {
         let (old, new) = (self.handle("old")?, self.handle("new")?);
         let call = Call::Reduce {
             mode: self.mode()?,
-            handle: old,
+            handle: old.clone(),
         };
         Some(
-            ask(&mut held(&self.store(&old)?), call) == Reply::with_handle(&new)
+            ask(&mut held(&self.store(&[&old])?), call) == giving(&new)
                 && self.counts(&new)?
-                && self.validates(new)? == DONE,
+                && self.validates(&new)? == DONE,
         )
     }
 
     /// In either order, and what is given validates, as do the two.
     fn joined(&self) -> Option<bool> {
         let new = self.handle("new")?;
-        let given = Reply::with_handle(&new);
-        Some(self.joining(given)? && self.counts(&new)? && self.validates(new)? == DONE)
+        Some(
+            self.joining(giving(&new))?
+                && self.both_validate()?
+                && self.counts(&new)?
+                && self.validates(&new)? == DONE,
+        )
     }
 
-    /// A join that is refused, with the number that goes with the line's kind.
+    /// A join that is refused, with the number that goes with the line's kind. Both validate, unless it is for the
+    /// length of one.
     fn not_joined(&self, number: u8) -> Option<bool> {
-        Some(self.joining(Reply::refused(number))? && self.number("number")? == number)
+        let due = self.joining(Reply::refused(number))? && self.number("number")? == number;
+        Some(due && self.both_validate()? == (number != LENGTH))
     }
 
-    /// Whether joining the two is replied to in this way, where each of them validates.
+    /// Whether joining the two is replied to in this way, in either order.
     fn joining(&self, reply: Reply) -> Option<bool> {
         let (mode, one, two) = (self.mode()?, self.handle("one")?, self.handle("two")?);
-        let mut store = self.store(&one)?;
-        store.clusters[usize::from(two.node)][usize::from(two.local)] = self.cluster()?;
-        let join = |handle, other| Call::Join {
-            mode,
-            handle,
-            other,
+        let store = self.store(&[&one, &two])?;
+        let join = |handle: &HandleBytes, other: &HandleBytes| {
+            let call = Call::Join {
+                mode,
+                handle: handle.clone(),
+                other: other.clone(),
+            };
+            ask(&mut held(&store), call)
         };
-        Some(
-            ask(&mut held(&store), join(one, two)) == reply
-                && ask(&mut held(&store), join(two, one)) == reply
-                && self.validates(one)? == DONE
-                && self.validates(two)? == DONE,
-        )
+        Some(join(&one, &two) == reply && join(&two, &one) == reply)
+    }
+
+    fn both_validate(&self) -> Option<bool> {
+        let (one, two) = (self.handle("one")?, self.handle("two")?);
+        Some(self.validates(&one)? == DONE && self.validates(&two)? == DONE)
     }
 
     /// A weakening that is refused, with the number that goes with the line's kind.
     fn refused(&self, number: u8) -> Option<bool> {
         let call = Call::Weaken {
-            mask: self.byte("mask")?,
+            mask: self.bits("mask")?,
             handle: self.handle("old")?,
         };
         let reply = ask(&mut held(&Store::starting()), call);
@@ -158,46 +171,57 @@ impl<'a> Line<'a> {
     }
 
     fn validation(&self) -> Option<bool> {
-        Some(self.validates(self.handle("handle")?)? == self.number("number")?)
+        Some(self.validates(&self.handle("handle")?)? == self.number("number")?)
     }
 
     /// The number that validating in the line's mode gives.
-    fn validates(&self, handle: Handle) -> Option<u8> {
-        let mode = self.mode()?;
-        let call = Call::Validate { mode, handle };
-        Some(ask(&mut held(&self.store(&handle)?), call).number)
+    fn validates(&self, handle: &HandleBytes) -> Option<u8> {
+        let call = Call::Validate {
+            mode: self.mode()?,
+            handle: handle.clone(),
+        };
+        Some(ask(&mut held(&self.store(&[handle])?), call).number)
     }
 
     /// Whether the handle references as many segments as the line says: a mask that excludes
     /// nothing makes weakening tell it.
-    fn counts(&self, handle: &Handle) -> Option<bool> {
+    fn counts(&self, handle: &HandleBytes) -> Option<bool> {
         let call = Call::Weaken {
-            mask: FLAT,
-            handle: *handle,
+            mask: u16::MAX,
+            handle: handle.clone(),
         };
         let reply = ask(&mut held(&Store::starting()), call);
-        let unchanged = reply.number == DONE && reply.first == handle.to_bytes();
+        let unchanged = reply.number == DONE && reply.first == *handle;
         Some(unchanged && reply.count == self.number("count")?.into())
     }
 
-    /// A store in which the handle's cluster is active and has the line's primary password.
-    fn store(&self, handle: &Handle) -> Option<Store> {
+    /// A store in which the handles' clusters are active and have the line's primary password.
+    fn store(&self, handles: &[&HandleBytes]) -> Option<Store> {
         let mut store = Store::starting();
-        let clusters = store.clusters.get_mut(usize::from(handle.node))?;
-        *clusters.get_mut(usize::from(handle.local))? = self.cluster()?;
+        for handle in handles {
+            let (node, local) = name(handle);
+            let clusters = store.clusters.get_mut(node)?;
+            *clusters.get_mut(local)? = self.cluster(handle)?;
+        }
         Some(store)
     }
 
-    /// Active, with the line's primary password for its mode and another one for the other mode.
-    fn cluster(&self) -> Option<Cluster> {
+    /// Active, of the line's width or else of the handle's, with the line's primary password for its mode and another
+    /// one for the other mode.
+    fn cluster(&self, handle: &HandleBytes) -> Option<Cluster> {
         let primary = self.password("primary")?;
         let other = primary.map(|byte| !byte);
         let (read, write) = match self.mode()? {
             READ_MODE => (primary, other),
             _ => (other, primary),
         };
+        let width = match self.values.contains_key("width") {
+            true => Width::of_segments(self.number("width")?.into())?,
+            false => Width::of_handle_bytes(handle.len())?,
+        };
         Some(Cluster {
             active: true,
+            width: width.number(),
             read,
             write,
             ..Cluster::INACTIVE
@@ -216,17 +240,31 @@ impl<'a> Line<'a> {
         decode(self.values.get(key)?)?.try_into().ok()
     }
 
-    fn handle(&self, key: &str) -> Option<Handle> {
-        let bytes: HandleBytes = decode(self.values.get(key)?)?.try_into().ok()?;
-        Some(Handle::from_bytes(&bytes))
+    /// The bytes of a handle, be they as many as one has or not.
+    fn handle(&self, key: &str) -> Option<HandleBytes> {
+        decode(self.values.get(key)?)
     }
 
-    fn byte(&self, key: &str) -> Option<u8> {
-        u8::from_str_radix(self.values.get(key)?, 16).ok()
+    /// A mask or a parameter, of two digits or of four.
+    fn bits(&self, key: &str) -> Option<u16> {
+        u16::from_str_radix(self.values.get(key)?, 16).ok()
     }
 
     fn number(&self, key: &str) -> Option<u8> {
         self.values.get(key)?.parse().ok()
+    }
+}
+
+/// Node and local number, where there are bytes for them, and else zeros.
+fn name(handle: &HandleBytes) -> (usize, usize) {
+    let byte = |at: usize| usize::from(handle.get(at).copied().unwrap_or(0));
+    (byte(0) << 8 | byte(1), byte(2))
+}
+
+fn giving(handle: &HandleBytes) -> Reply {
+    Reply {
+        first: handle.clone(),
+        ..Reply::DONE
     }
 }
 

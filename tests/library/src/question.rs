@@ -2,7 +2,7 @@
 
 use crate::image::{encode, Image};
 use model::call::{self, Call, Reply, CALLS};
-use model::handle::Handle;
+use model::handle::{Handle, HandleBytes};
 use model::store::Store;
 use std::fmt;
 
@@ -84,8 +84,8 @@ impl Question {
         }
     }
 
-    /// The handle that the call presents; the first, where it presents two.
-    pub fn handle_mut(&mut self) -> Option<&mut Handle> {
+    /// The bytes of the handle that the call presents; of the first, where it presents two.
+    pub fn handle_mut(&mut self) -> Option<&mut HandleBytes> {
         match &mut self.call {
             Call::NewCluster { .. } => None,
             Call::DeleteCluster { handle, .. }
@@ -103,8 +103,8 @@ impl Question {
         }
     }
 
-    /// Every handle that the call presents.
-    pub fn presented_mut(&mut self) -> Vec<&mut Handle> {
+    /// The bytes of every handle that the call presents.
+    pub fn presented_mut(&mut self) -> Vec<&mut HandleBytes> {
         match self.call {
             Call::Join {
                 ref mut handle,
@@ -113,6 +113,23 @@ impl Question {
             } => vec![handle, other],
             _ => self.handle_mut().into_iter().collect(),
         }
+    }
+
+    /// The same with every handle changed that the call presents.
+    pub fn with_handles(&self, mut change: impl FnMut(&mut Handle)) -> Question {
+        let mut changed = self.clone();
+        for bytes in changed.presented_mut() {
+            change_handle(bytes, &mut change);
+        }
+        changed
+    }
+}
+
+/// Changes the handle that these bytes are of. Where their length is none of a handle's they stay.
+pub fn change_handle(bytes: &mut HandleBytes, change: impl FnOnce(&mut Handle)) {
+    if let Some(mut handle) = Handle::from_bytes(bytes) {
+        change(&mut handle);
+        *bytes = handle.to_bytes();
     }
 }
 
@@ -150,8 +167,12 @@ impl Answer {
             call::WEAKEN | call::REDUCE | call::NEW_PASSWORD | call::JOIN => 1,
             _ => 0,
         };
-        let handles = [self.reply.first, self.reply.second];
-        handles[..count].iter().map(Handle::from_bytes).collect()
+        let handles = [&self.reply.first, &self.reply.second]
+            .into_iter()
+            .take(count);
+        handles
+            .filter_map(|bytes| Handle::from_bytes(bytes))
+            .collect()
     }
 }
 

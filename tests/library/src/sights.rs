@@ -1,15 +1,18 @@
 //! Which looks and freezes were met: what they came to, and what stood against those that were refused. Beside
-//! them, where 22 met its neighbours, and each number of a join the next one.
+//! them, where 22 and 25 met their neighbours, and each number of a join the next one.
 
 use crate::compare::by_model;
 use crate::image::decode;
-use crate::question::{name, Answer, Held, Question, BEYOND, LOOK};
-use model::call::{Call, Reply, DELETE_CLUSTER, DELETE_SEGMENT, FREEZE, JOIN, WRITE};
+use crate::question::{name, Answer, Held, Question, BEYOND, LOOK, VALIDATION};
+use model::call::{
+    Call, Reply, DELETE_CLUSTER, DELETE_SEGMENT, FREEZE, JOIN, NEW_PASSWORD, NEW_SEGMENT, READ,
+    REDUCE, WRITE,
+};
 use model::handle::Handle;
-use model::sizes::{MEMORY_BYTES, NODES, NODE_BYTES};
+use model::sizes::{MEMORY_BYTES, NODES, NODE_BYTES, SEGMENTS};
 use model::table::{
-    refusal_below, Found, ABSENT, APART, ELSEWHERE, FIELD, FROZEN, GAPPED, INACTIVE, NOT_PRIMARY,
-    NOT_REFERENCED, NO_SUCH_PLACE, SHORT, UNSOUND, VIOLATED_PROTECTION, WHOLE,
+    refusal_below, Found, ABSENT, APART, ELSEWHERE, FIELD, FROZEN, GAPPED, INACTIVE, LENGTH,
+    NOT_PRIMARY, NOT_REFERENCED, NO_SUCH_PLACE, SHORT, UNSOUND, VIOLATED_PROTECTION, WHOLE,
 };
 use std::collections::BTreeMap;
 use std::fmt;
@@ -52,31 +55,44 @@ const WRONG_NODES: [Sight; 5] = [
     Sight::NodeBeyond,
 ];
 
-/// Numbers of which each has to meet the next.
+/// Numbers of which each has to meet the next. 25 comes first, and again between 8 and 9.
 #[rustfmt::skip]
 const NEIGHBOURS: [(u8, &[u8]); 8] = [
     (LOOK, &[
-        UNSOUND, NO_SUCH_PLACE, FIELD, GAPPED, ELSEWHERE, INACTIVE, VIOLATED_PROTECTION,
-        NOT_REFERENCED, ABSENT,
+        LENGTH, UNSOUND, NO_SUCH_PLACE, FIELD, GAPPED, ELSEWHERE, INACTIVE, LENGTH,
+        VIOLATED_PROTECTION, NOT_REFERENCED, ABSENT,
     ]),
     (FREEZE, &[
-        UNSOUND, NO_SUCH_PLACE, FIELD, GAPPED, ELSEWHERE, INACTIVE, VIOLATED_PROTECTION,
-        NOT_PRIMARY, ABSENT,
+        LENGTH, UNSOUND, NO_SUCH_PLACE, FIELD, GAPPED, ELSEWHERE, INACTIVE, LENGTH,
+        VIOLATED_PROTECTION, NOT_PRIMARY, ABSENT,
     ]),
     (JOIN, &[
-        UNSOUND, NO_SUCH_PLACE, FIELD, GAPPED, APART, INACTIVE, VIOLATED_PROTECTION, WHOLE,
+        LENGTH, UNSOUND, NO_SUCH_PLACE, FIELD, GAPPED, APART, INACTIVE, LENGTH,
+        VIOLATED_PROTECTION, WHOLE,
     ]),
-    (DELETE_CLUSTER, &[VIOLATED_PROTECTION, NOT_PRIMARY, FROZEN]),
-    (DELETE_SEGMENT, &[VIOLATED_PROTECTION, NOT_PRIMARY, FROZEN]),
+    (DELETE_CLUSTER, &[INACTIVE, LENGTH, VIOLATED_PROTECTION, NOT_PRIMARY, FROZEN]),
+    (DELETE_SEGMENT, &[INACTIVE, LENGTH, VIOLATED_PROTECTION, NOT_PRIMARY, FROZEN]),
     (DELETE_SEGMENT, &[NOT_PRIMARY, ABSENT]),
-    (WRITE, &[VIOLATED_PROTECTION, NOT_REFERENCED, FROZEN, SHORT]),
+    (WRITE, &[INACTIVE, LENGTH, VIOLATED_PROTECTION, NOT_REFERENCED, FROZEN, SHORT]),
     (WRITE, &[NOT_REFERENCED, ABSENT]),
 ];
+/// Of the rest, what has 25 at its two places.
+const FIRST: [u8; 8] = [
+    DELETE_CLUSTER,
+    DELETE_SEGMENT,
+    WRITE,
+    NEW_SEGMENT,
+    READ,
+    REDUCE,
+    NEW_PASSWORD,
+    VALIDATION,
+];
+const SECOND: [u8; 5] = [NEW_SEGMENT, READ, REDUCE, NEW_PASSWORD, VALIDATION];
 
 /// Everything that has to be met, with the code of what comes to it.
 fn due() -> impl Iterator<Item = (u8, Sight)> {
     let shown = SHOWN.map(|sight| (LOOK, sight)).into_iter();
-    let marked = (0..8).map(|segment| (FREEZE, Sight::Marked(segment)));
+    let marked = (0..SEGMENTS as u32).map(|segment| (FREEZE, Sight::Marked(segment)));
     let local = [LOOK, FREEZE].into_iter().flat_map(|code| {
         let nodes = (0..NODES).map(Sight::InNode).chain(WRONG_NODES);
         nodes.map(move |sight| (code, sight))
@@ -85,7 +101,13 @@ fn due() -> impl Iterator<Item = (u8, Sight)> {
         let pairs = numbers.windows(2);
         pairs.map(move |pair| (code, Sight::Both(pair[0], pair[1])))
     });
-    shown.chain(marked).chain(local).chain(both)
+    let first = FIRST.map(|code| (code, Sight::Both(LENGTH, UNSOUND)));
+    let second = SECOND.into_iter().flat_map(|code| {
+        let pairs = [(INACTIVE, LENGTH), (LENGTH, VIOLATED_PROTECTION)];
+        pairs.map(|(given, next)| (code, Sight::Both(given, next)))
+    });
+    let all = shown.chain(marked).chain(local);
+    all.chain(both).chain(first).chain(second)
 }
 
 /// How often each was met, by code.
@@ -93,12 +115,9 @@ fn due() -> impl Iterator<Item = (u8, Sight)> {
 pub struct Sights(BTreeMap<(u8, Sight), u64>);
 
 impl Sights {
-    /// Nothing is noted of other calls. `held` is what the call was put to.
+    /// `held` is what the call was put to.
     pub fn note(&mut self, held: &Held, question: &Question, answer: &Answer) {
         let code = question.code();
-        if !NEIGHBOURS.iter().any(|(noted, _)| *noted == code) {
-            return;
-        }
         let sights = match answer.reply.is_done() {
             true => done(held, &question.call, &answer.reply),
             false => refused(held, question, answer.reply.number),
@@ -133,19 +152,15 @@ impl fmt::Display for Sights {
 }
 
 fn done(held: &Held, call: &Call, reply: &Reply) -> Vec<Sight> {
-    match *call {
-        Call::Look { .. } => shown(reply),
-        Call::Freeze {
-            node,
-            segment,
-            handle,
-        } => {
+    match (call, call.handle()) {
+        (Call::Look { .. }, _) => shown(reply),
+        (Call::Freeze { node, segment, .. }, Some(handle)) => {
+            let (node, segment) = (*node as usize, *segment);
             let store = decode(&held.image);
-            let cluster =
-                store.map(|store| store.clusters[node as usize][usize::from(handle.local)]);
+            let cluster = store.map(|store| store.clusters[node][usize::from(handle.local)]);
             let was_frozen = cluster.is_some_and(|own| own.segments[segment as usize].frozen);
             let marked = (!was_frozen).then_some(Sight::Marked(segment));
-            let in_node = Sight::InNode(node as usize);
+            let in_node = Sight::InNode(node);
             marked.into_iter().chain([in_node]).collect()
         }
         _ => Vec::new(),
@@ -169,18 +184,24 @@ fn shown(reply: &Reply) -> Vec<Sight> {
 fn refused(held: &Held, question: &Question, number: u8) -> Vec<Sight> {
     let mut sights: Vec<Sight> = both(held, question, number).into_iter().collect();
     let local = match question.call {
-        Call::Look { node, handle, .. } | Call::Freeze { node, handle, .. } => Some((node, handle)),
+        Call::Look { node, .. } | Call::Freeze { node, .. } => Some(node),
         _ => None,
     };
-    if let Some((node, handle)) = local.filter(|_| is_done_at_home(held, question)) {
+    let local = local.filter(|_| is_done_at_home(held, question));
+    if let (Some(node), Some(handle)) = (local, question.call.handle()) {
         sights.extend(wrong_node(node, &handle));
     }
     sights
 }
 
-/// The number that was given, and the next one that applies; a damaged image has no store to ask.
+/// The number that was given, and the next one that applies, where that is looked for; a damaged image has no store to
+/// ask.
 fn both(held: &Held, question: &Question, number: u8) -> Option<Sight> {
-    let store = decode(&held.image)?;
+    let code = question.code();
+    let is_due = |due: (u8, Sight)| {
+        due.0 == code && matches!(due.1, Sight::Both(given, _) if given == number)
+    };
+    let store = decode(&held.image).filter(|_| due().any(is_due))?;
     let found = Found {
         store: &store,
         memory_bytes: held.memory.len(),
@@ -193,7 +214,10 @@ fn both(held: &Held, question: &Question, number: u8) -> Option<Sight> {
 /// Whether the same call is done where its handle's node is the current one.
 fn is_done_at_home(held: &Held, question: &Question) -> bool {
     let mut at_home = question.clone();
-    if let Call::Look { node, handle, .. } | Call::Freeze { node, handle, .. } = &mut at_home.call {
+    let Some(handle) = question.call.handle() else {
+        return false;
+    };
+    if let Call::Look { node, .. } | Call::Freeze { node, .. } = &mut at_home.call {
         *node = handle.node.into();
     }
     by_model(&mut held.clone(), &at_home).reply.is_done()

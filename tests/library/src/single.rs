@@ -90,7 +90,11 @@ fn same_soundness(held: &mut Held) -> Result<(), String> {
 }
 
 fn same_conversion(random: &mut Random) -> Result<(), String> {
-    let (password, parameter) = (password(random), random.byte());
+    let parameter = match random.one_in(2) {
+        true => random.byte().into(),
+        false => random.number() as u16,
+    };
+    let password = password(random);
     let expected = convert(&password, parameter);
     let found = guard::convert(&password, parameter);
     match found == expected {

@@ -9,9 +9,8 @@ use crate::image::decode;
 use crate::question::{Held, Question};
 use model::call::Call;
 use model::frozen::Watch;
-use model::handle::Handle;
 use model::random::Random;
-use model::store::{Cluster, Store};
+use model::store::{Cluster, Mode, Store};
 use model::table::FROZEN;
 
 /// Calls of one row.
@@ -86,9 +85,8 @@ fn question(random: &mut Random, store: &Store) -> Question {
     let mut question = maker.question(&CHANGING);
     let frozen = handles::place(random, store, Cluster::has_frozen);
     if let (Some((at, local)), true) = (frozen, random.one_in(2)) {
-        let write = store.clusters[at][local].write;
         if let Some(handle) = question.handle_mut() {
-            *handle = Handle::primary(at as u16, local as u8, write);
+            *handle = handles::primary(store, (at, local), Mode::Write).to_bytes();
         }
         if let Call::DeleteCluster { node, .. }
         | Call::NewSegment { node, .. }

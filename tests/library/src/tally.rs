@@ -1,5 +1,5 @@
-//! Which answers, fills, damages, selectors, ways to nothing, frozen segments, looks, freezes, joins and new passwords
-//! were met, and which still have to be.
+//! Which answers, fills, damages, selectors, ways to nothing, frozen segments, looks, freezes, joins, new passwords and
+//! widths were met, and which still have to be.
 
 use crate::chance::damage::Damage;
 use crate::chance::stores::Fill;
@@ -7,17 +7,17 @@ use crate::damages::{Damages, Where};
 use crate::image::decode;
 use crate::question::{name, Answer, Held, Question, BATCH, BEYOND, LOOK, VALIDATION};
 use crate::sights::Sights;
+use crate::widths::Widths;
 use model::call::{self, Call};
 use model::frozen::Case;
-use model::handle::FLAT;
 use model::joins::Meeting;
 use model::nothing::Way;
 use model::renewals::Renewal;
 use model::sizes::SUBSELECTORS;
 use model::table::{
     word, Found, ABSENT, APART, DONE, ELSEWHERE, EMPTY, FIELD, FROZEN, GAPPED, INACTIVE, IN_USE,
-    NOT_PRIMARY, NOT_REFERENCED, NO_ROOM, NO_SUCH_PLACE, OLD_PASSWORD, PRESENT, SHORT, SPENT,
-    TWINS, UNSOUND, VIOLATED_PROTECTION, WHOLE,
+    LENGTH, NOT_PRIMARY, NOT_REFERENCED, NO_ROOM, NO_SUCH_PLACE, OLD_PASSWORD, PRESENT, SHORT,
+    SPENT, TWINS, UNSOUND, VIOLATED_PROTECTION, WHOLE,
 };
 use std::collections::{BTreeMap, BTreeSet};
 use std::fmt;
@@ -25,53 +25,54 @@ use std::fmt;
 /// The numbers that the table of refusals allows each call, 0 for done among them.
 #[rustfmt::skip]
 const ALLOWED: [(u8, &[u8]); 13] = [
-    (call::NEW_CLUSTER, &[DONE, UNSOUND, NO_SUCH_PLACE, IN_USE, TWINS]),
+    (call::NEW_CLUSTER, &[DONE, UNSOUND, NO_SUCH_PLACE, FIELD, IN_USE, TWINS]),
     (call::DELETE_CLUSTER, &[
-        DONE, UNSOUND, NO_SUCH_PLACE, GAPPED, ELSEWHERE, INACTIVE, VIOLATED_PROTECTION, NOT_PRIMARY,
-        FROZEN,
+        DONE, LENGTH, UNSOUND, NO_SUCH_PLACE, GAPPED, ELSEWHERE, INACTIVE, VIOLATED_PROTECTION,
+        NOT_PRIMARY, FROZEN,
     ]),
     (call::NEW_SEGMENT, &[
-        DONE, UNSOUND, NO_SUCH_PLACE, FIELD, GAPPED, ELSEWHERE, INACTIVE, VIOLATED_PROTECTION,
-        NOT_PRIMARY, PRESENT, NO_ROOM,
+        DONE, LENGTH, UNSOUND, NO_SUCH_PLACE, FIELD, GAPPED, ELSEWHERE, INACTIVE,
+        VIOLATED_PROTECTION, NOT_PRIMARY, PRESENT, NO_ROOM,
     ]),
     (call::DELETE_SEGMENT, &[
-        DONE, UNSOUND, NO_SUCH_PLACE, FIELD, GAPPED, ELSEWHERE, INACTIVE, VIOLATED_PROTECTION,
-        NOT_PRIMARY, ABSENT, FROZEN,
+        DONE, LENGTH, UNSOUND, NO_SUCH_PLACE, FIELD, GAPPED, ELSEWHERE, INACTIVE,
+        VIOLATED_PROTECTION, NOT_PRIMARY, ABSENT, FROZEN,
     ]),
     (call::READ, &[
-        DONE, UNSOUND, NO_SUCH_PLACE, FIELD, GAPPED, INACTIVE, VIOLATED_PROTECTION, NOT_REFERENCED,
-        ABSENT, SHORT,
+        DONE, LENGTH, UNSOUND, NO_SUCH_PLACE, FIELD, GAPPED, INACTIVE, VIOLATED_PROTECTION,
+        NOT_REFERENCED, ABSENT, SHORT,
     ]),
     (call::WRITE, &[
-        DONE, UNSOUND, NO_SUCH_PLACE, FIELD, GAPPED, INACTIVE, VIOLATED_PROTECTION, NOT_REFERENCED,
-        ABSENT, FROZEN, SHORT,
+        DONE, LENGTH, UNSOUND, NO_SUCH_PLACE, FIELD, GAPPED, INACTIVE, VIOLATED_PROTECTION,
+        NOT_REFERENCED, ABSENT, FROZEN, SHORT,
     ]),
     (call::WEAKEN, WEAKENING),
     (call::REDUCE, VALIDATING),
     (call::NEW_PASSWORD, &[
-        DONE, UNSOUND, NO_SUCH_PLACE, FIELD, GAPPED, INACTIVE, VIOLATED_PROTECTION, NOT_PRIMARY,
-        OLD_PASSWORD,
+        DONE, LENGTH, UNSOUND, NO_SUCH_PLACE, FIELD, GAPPED, INACTIVE, VIOLATED_PROTECTION,
+        NOT_PRIMARY, OLD_PASSWORD,
     ]),
     (call::FREEZE, &[
-        DONE, UNSOUND, NO_SUCH_PLACE, FIELD, GAPPED, ELSEWHERE, INACTIVE, VIOLATED_PROTECTION,
-        NOT_PRIMARY, ABSENT,
+        DONE, LENGTH, UNSOUND, NO_SUCH_PLACE, FIELD, GAPPED, ELSEWHERE, INACTIVE,
+        VIOLATED_PROTECTION, NOT_PRIMARY, ABSENT,
     ]),
     (call::JOIN, &[
-        DONE, UNSOUND, NO_SUCH_PLACE, FIELD, GAPPED, APART, INACTIVE, VIOLATED_PROTECTION, WHOLE,
+        DONE, LENGTH, UNSOUND, NO_SUCH_PLACE, FIELD, GAPPED, APART, INACTIVE, VIOLATED_PROTECTION,
+        WHOLE,
     ]),
     (VALIDATION, VALIDATING),
     (LOOK, &[
-        DONE, UNSOUND, NO_SUCH_PLACE, FIELD, GAPPED, ELSEWHERE, INACTIVE, VIOLATED_PROTECTION,
-        NOT_REFERENCED, ABSENT,
+        DONE, LENGTH, UNSOUND, NO_SUCH_PLACE, FIELD, GAPPED, ELSEWHERE, INACTIVE,
+        VIOLATED_PROTECTION, NOT_REFERENCED, ABSENT,
     ]),
 ];
 
 /// Weakening looks at no store: it has to come to each of these on damaged ones, too.
-const WEAKENING: &[u8] = &[DONE, NO_SUCH_PLACE, GAPPED, EMPTY, SPENT];
+const WEAKENING: &[u8] = &[DONE, LENGTH, NO_SUCH_PLACE, GAPPED, EMPTY, SPENT];
 
 #[rustfmt::skip]
 const VALIDATING: &[u8] = &[
-    DONE, UNSOUND, NO_SUCH_PLACE, FIELD, GAPPED, INACTIVE, VIOLATED_PROTECTION,
+    DONE, LENGTH, UNSOUND, NO_SUCH_PLACE, FIELD, GAPPED, INACTIVE, VIOLATED_PROTECTION,
 ];
 
 /// Modes above a byte: right in the lowest byte, in the lowest two, or perhaps in the lowest four.
@@ -94,7 +95,7 @@ pub struct Tally {
     modes: BTreeSet<(u8, u32)>,
     /// Calls done, by how many subselectors of a handle that they present are not flat.
     weakened: [u64; SUBSELECTORS + 1],
-    masks: BTreeSet<u8>,
+    widths: Widths,
     ways: BTreeMap<Way, u64>,
     cases: BTreeMap<Case, u64>,
     meetings: BTreeMap<Meeting, u64>,
@@ -109,12 +110,9 @@ impl Tally {
         let pair = (question.code(), answer.reply.number);
         *self.pairs.entry(pair).or_default() += 1;
         for handle in question.call.presented() {
-            let subselectors = handle.selector.0.iter();
-            let converting = subselectors.filter(|&&subselector| subselector != FLAT);
+            let (subselectors, flat) = (handle.selector.subselectors, handle.width().flat());
+            let converting = subselectors.iter().filter(|part| **part != flat);
             self.weakened[converting.count()] += u64::from(answer.reply.is_done());
-        }
-        if let Call::Weaken { mask, .. } = question.call {
-            self.masks.insert(mask);
         }
         if let Some(way) = Way::of(&question.call, answer.reply.number) {
             *self.ways.entry(way).or_default() += 1;
@@ -127,6 +125,7 @@ impl Tally {
     /// What a question came to that hangs on what it was put to, which is `held`.
     pub fn note_held(&mut self, held: &Held, question: &Question, answer: &Answer) {
         self.sights.note(held, question, answer);
+        self.note_widths(question.code(), held, question, answer);
         let Some(store) = decode(&held.image) else {
             return;
         };
@@ -144,6 +143,16 @@ impl Tally {
         if let Some(renewal) = Renewal::of(&found, &question.call, answer.reply.number) {
             *self.renewals.entry(renewal).or_default() += 1;
         }
+    }
+
+    /// The same of widths, for calls with this code or for the handles of a batch.
+    pub fn note_widths(&mut self, code: u8, held: &Held, question: &Question, answer: &Answer) {
+        self.widths.note(code, held, question, answer);
+    }
+
+    /// A width that a batch was asked with.
+    pub fn note_width(&mut self, code: u8, width: usize) {
+        self.widths.note_asked(code, width);
     }
 
     pub fn note_mode(&mut self, code: u8, mode: u32) {
@@ -199,9 +208,6 @@ impl Tally {
         let weakened = (0..=SUBSELECTORS)
             .filter(|&count| self.weakened[count] == 0)
             .map(|count| format!("not done: a call with {count} subselectors not flat"));
-        let masks = (0..=u8::MAX)
-            .filter(|mask| !self.masks.contains(mask))
-            .map(|mask| format!("not tried: mask {mask}"));
         let ways = Way::ALL
             .into_iter()
             .filter(|way| !self.ways.contains_key(way))
@@ -224,7 +230,7 @@ impl Tally {
             .chain(modes)
             .chain(self.damages.missing())
             .chain(weakened)
-            .chain(masks)
+            .chain(self.widths.missing())
             .chain(ways)
             .chain(beside_damage)
             .chain(cases)
@@ -241,7 +247,7 @@ fn in_words(&(code, number): &(u8, u8)) -> String {
 
 impl fmt::Display for Tally {
     fn fmt(&self, to: &mut fmt::Formatter) -> fmt::Result {
-        let numbers = || (0..=SPENT).chain(EMPTY..=APART);
+        let numbers = || (0..=SPENT).chain(EMPTY..=LENGTH);
         let heads: String = numbers().map(|number| format!("{number:>7}")).collect();
         writeln!(to, "{:<15}{heads}", "call \\ number")?;
         for (code, _) in ALLOWED {
@@ -256,7 +262,7 @@ impl fmt::Display for Tally {
         write!(to, "{}", self.damages)?;
         let modes = self.modes.len();
         writeln!(to, "wide modes, each in a call that names one: {modes}")?;
-        writeln!(to, "masks: {}", self.masks.len())?;
+        writeln!(to, "{}", self.widths)?;
         writeln!(to, "ways to nothing: {:?}", self.ways)?;
         writeln!(to, "something frozen: {:?}", self.cases)?;
         writeln!(to, "joins: {:?}", self.meetings)?;

@@ -3,13 +3,13 @@
 
 use crate::chance::handles::{self, Wish};
 use crate::chance::stores::{self, active, Fill};
-use crate::chance::{below, cases, password};
+use crate::chance::{below, bits, cases, password};
 use crate::compare::{same_bytes, Guard};
 use crate::image::password_at;
 use crate::pairs::ask_both;
 use crate::question::{Held, Question};
 use model::call::Call;
-use model::handle::{Handle, Password};
+use model::handle::{HandleBytes, Password, Width};
 use model::random::Random;
 use model::sizes::{CLUSTERS, NODES};
 use model::store::{Mode, Store};
@@ -17,7 +17,7 @@ use model::table::OLD_PASSWORD;
 
 /// How many new passwords were asked for, how many were done and how many refused with 12. Of those done, by mode: how
 /// many were the other mode's in one of the images, and how many were put to a pair of which one image had equal
-/// passwords.
+/// passwords. Of all that were done, by the width of their cluster, how many.
 #[derive(Debug, Default)]
 pub struct Count {
     pub asked: u64,
@@ -25,6 +25,7 @@ pub struct Count {
     pub old: u64,
     pub guessed: [u64; 2],
     pub equal: [u64; 2],
+    pub widths: [u64; 3],
 }
 
 impl Count {
@@ -38,7 +39,9 @@ impl Count {
             (read.1, "one for reading, the two equal in one image"),
             (write.1, "one for writing, the two equal in one image"),
         ];
-        let missing = due.iter().filter(|(count, _)| *count == 0);
+        let widths = ["width 4", "width 8", "width 16"];
+        let due = due.into_iter().chain(self.widths.into_iter().zip(widths));
+        let missing = due.filter(|(count, _)| *count == 0);
         missing
             .map(|(_, what)| format!("not tried: new passwords in two images, {what}"))
             .collect()
@@ -49,6 +52,7 @@ impl Count {
 struct Pair {
     images: [Held; 2],
     place: (usize, usize),
+    width: Width,
     mode: Mode,
     own: Password,
     others: [Password; 2],
@@ -70,7 +74,7 @@ fn one(guard: Guard, random: &mut Random, count: &mut Count) -> Result<(), Strin
     for password in [pair.own, first, second, password(random)] {
         let call = Call::NewPassword {
             mode: pair.mode.number(),
-            handle,
+            handle: handle.clone(),
             password,
         };
         let number = pair.asked(guard, &Question::of(call))?;
@@ -88,6 +92,7 @@ impl Count {
         self.old += u64::from(number == OLD_PASSWORD);
         self.guessed[mode] += u64::from(done && pair.others.contains(password));
         self.equal[mode] += u64::from(done && pair.others.contains(&pair.own));
+        self.widths[pair.width as usize] += u64::from(done);
     }
 }
 
@@ -100,6 +105,7 @@ fn by_chance(random: &mut Random, store: &mut Store) -> Pair {
     }
     let mode = Mode::ALL[below(random, Mode::ALL.len())];
     let own = *cluster.primary(mode);
+    let width = cluster.known_width().expect("it is active");
     let mut others = [password(random), password(random)];
     if random.one_in(3) {
         others[below(random, 2)] = own;
@@ -116,6 +122,7 @@ fn by_chance(random: &mut Random, store: &mut Store) -> Pair {
     Pair {
         images,
         place,
+        width,
         mode,
         own,
         others,
@@ -124,24 +131,30 @@ fn by_chance(random: &mut Random, store: &mut Store) -> Pair {
 
 impl Pair {
     /// Mostly the mode's primary handle; else a weaker one, one of the other mode in either image, or any.
-    fn handle(&self, random: &mut Random, store: &Store) -> Handle {
-        let (node, local) = (self.place.0 as u16, self.place.1 as u8);
-        let primary = |password| Handle::primary(node, local, password);
-        match random.below(8) {
-            0 => primary(self.own)
-                .weaken(random.byte())
-                .unwrap_or(primary(self.own)),
-            1 => primary(self.others[below(random, 2)]),
+    fn handle(&self, random: &mut Random, store: &Store) -> HandleBytes {
+        let mut primary = handles::primary(store, self.place, self.mode);
+        let handle = match random.below(8) {
+            0 => {
+                let mask = bits(random, primary.width());
+                primary.weaken(mask).unwrap_or(primary)
+            }
+            1 => {
+                primary.password = self.others[below(random, 2)];
+                primary
+            }
             2 => {
                 let wish = Wish {
                     mode: self.mode,
                     primary: true,
                     segments: true,
+                    width: None,
                 };
                 handles::handle(random, store, &[], wish)
             }
-            _ => primary(self.own),
-        }
+            3 => return handles::presented(random, &primary),
+            _ => primary,
+        };
+        handle.to_bytes()
     }
 
     /// The number that both images get.

@@ -6,12 +6,13 @@ use library::chance::stores::{extents, gaps, held, store, Fill};
 use library::chance::words::WORD;
 use library::compare::is_sound;
 use library::copies::{Count, Kept};
+use library::ffi::GIVEN_BYTES;
 use library::image::{decode, encode, IMAGE_BYTES};
 use library::question::LOOK;
 use library::tally::Tally;
 use library::{stays, untold};
 use model::random::Random;
-use model::sizes::{CLUSTERS, MEMORY_BYTES, NODES, NODE_BYTES, NODE_SEGMENTS};
+use model::sizes::{CLUSTERS, MEMORY_BYTES, NODES, NODE_BYTES};
 use model::store::Store;
 
 const HEADER: &str = include_str!("../../../include/gelmuszta.h");
@@ -19,8 +20,9 @@ const TIMES: usize = 200;
 
 #[test]
 fn images_have_the_header_s_size_and_read_back() {
-    assert_eq!(IMAGE_BYTES, 2336);
+    assert_eq!(IMAGE_BYTES, 3648);
     assert!(HEADER.contains(&format!("#define GELMUSZTA_IMAGE {IMAGE_BYTES}\n")));
+    assert!(HEADER.contains(&format!("#define GELMUSZTA_HANDLE {GIVEN_BYTES}\n")));
     assert_eq!(encode(&Store::starting()), [0; IMAGE_BYTES]);
     let mut random = Random::from_seed(1);
     for _ in 0..TIMES {
@@ -34,7 +36,7 @@ fn images_have_the_header_s_size_and_read_back() {
 #[test]
 fn stores_are_sound_and_as_full_as_they_say() {
     let mut random = Random::from_seed(2);
-    let (mut marks, mut equal) = ([0; 3], [0; 2]);
+    let (mut marks, mut equal, mut widths) = ([0; 3], [0; 2], [0; 3]);
     for _ in 0..TIMES {
         for fill in Fill::ALL {
             let store = store(&mut random, fill);
@@ -43,6 +45,8 @@ fn stores_are_sound_and_as_full_as_they_say() {
             let active = store.clusters.as_flattened().iter();
             for cluster in active.filter(|cluster| cluster.active) {
                 equal[usize::from(cluster.has_equal_passwords())] += 1;
+                let width = cluster.known_width().expect("it is active");
+                widths[width as usize] += 1;
             }
             for node in 0..NODES {
                 let taken: usize = extents(&store, node).iter().map(|part| part.length).sum();
@@ -54,7 +58,9 @@ fn stores_are_sound_and_as_full_as_they_say() {
                     Fill::AtWords => assert!(borders(&store, node).all(about_a_word)),
                     Fill::NoByteFree => assert_eq!(free, 0),
                     Fill::NoSegmentAbsent => {
-                        assert_eq!(extents(&store, node).len(), NODE_SEGMENTS)
+                        let clusters = store.clusters[node].iter();
+                        let all: usize = clusters.map(|own| usize::from(own.width)).sum();
+                        assert_eq!(extents(&store, node).len(), all);
                     }
                 }
             }
@@ -62,6 +68,7 @@ fn stores_are_sound_and_as_full_as_they_say() {
     }
     assert!(marks.iter().all(|&count| count > TIMES / 8), "{marks:?}");
     assert!(equal[0] > 2 * equal[1] && equal[1] > TIMES, "{equal:?}");
+    assert!(widths.iter().all(|&count| count > 20 * TIMES), "{widths:?}");
 }
 
 /// Counts stores with segments none of which is frozen, with some that are, and with all of them frozen.
@@ -116,7 +123,7 @@ fn what_is_not_reached_is_told() {
             .iter()
             .filter(|fault| fault.starts_with("not reached"))
             .count(),
-        114
+        127
     );
     for fault in [
         "not reached: new segment with 16 (no room)",
@@ -140,6 +147,42 @@ fn what_is_not_reached_is_told() {
         "not tried: damage AbsentWithMark, freeze",
         "not tried: something frozen, LastAlone",
         "not tried: freeze, Marked(7)",
+        "not tried: freeze, Marked(15)",
+        "not reached: new cluster with 3 (field)",
+        "not reached: weaken with 25 (length)",
+        "not reached: validation with 25 (length)",
+        "not tried: weaken with 25 (length), damaged",
+        "not tried: damage ActiveOfNoWidth, batch",
+        "not tried: damage InactiveWithAnotherWidth, ItsRecord",
+        "not tried: damage PresentAtTheWidth, read",
+        "not tried: look, Both(25, 1)",
+        "not tried: look, Both(8, 25)",
+        "not tried: look, Both(25, 9)",
+        "not tried: reduce, Both(25, 9)",
+        "not tried: new segment, Both(25, 1)",
+        "not tried: a join, NoLength(Second)",
+        "not tried: a join, OtherWidth(First)",
+        "not tried: widths, read, Seen(Done(Four))",
+        "not tried: widths, weaken, Seen(Done(Sixteen))",
+        "not tried: widths, join, OnDamaged",
+        "not tried: widths, weaken, OnUnsound",
+        "not tried: widths, look, NoLengthBefore(2)",
+        "not tried: widths, reduce, NoLengthBefore(3)",
+        "not tried: widths, freeze, Seen(Other(Eight, Four))",
+        "not tried: widths, write, Seen(OtherMadeFrom)",
+        "not tried: widths, new password, Seen(OtherForged)",
+        "not tried: widths, read, NoSegment(Eight, 15)",
+        "not tried: widths, read, NoSegment(Sixteen, 16)",
+        "not tried: widths, delete segment, Segment(Sixteen, 8)",
+        "not tried: widths, batch, Seen(Other(Sixteen, Eight))",
+        "not tried: widths, KeptAbove",
+        "not tried: widths, UpperSet",
+        "not tried: a handle of 22 bytes",
+        "not tried: a handle of 0 bytes",
+        "not tried: a new cluster of width 0",
+        "not tried: a new cluster of width 12",
+        "not tried: new cluster of a width that is right in 1 bytes",
+        "not tried: batch of a width that is right in 4 bytes",
         "not tried: freeze, NodeOfOneByte",
         "not tried: freeze, Both(9, 10)",
         "not tried: delete cluster, Both(10, 22)",
@@ -176,6 +219,10 @@ fn what_is_not_reached_is_told() {
     assert!(tally
         .faults()
         .contains(&"not allowed: join with 10 (not primary)".to_string()));
+    tally.pairs.insert((1, 25), 1);
+    assert!(tally
+        .faults()
+        .contains(&"not allowed: new cluster with 25 (length)".to_string()));
     tally.pairs.insert((LOOK, 15), 1);
     assert!(tally
         .faults()
@@ -185,10 +232,11 @@ fn what_is_not_reached_is_told() {
 #[test]
 fn what_two_copies_do_not_come_to_is_told() {
     let mut count = Count::default();
-    assert_eq!(count.faults().len(), 18);
+    assert_eq!(count.faults().len(), 28);
     (count.calls, count.done, count.naming) = (4, 2, 1);
     (count.frozen, count.frozen_apart, count.by_the_first) = (1, 1, 1);
     (count.made_equal, count.by_both) = (1, 1);
+    (count.widths, count.other_width, count.by_width) = ([1; 3], [1; 3], [1, 0, 1]);
     let kept = |apart| Kept { done: 1, apart };
     (count.looks, count.freezes, count.joins) = (kept(0), kept(0), kept(0));
     count.renewals = kept(0);
@@ -202,11 +250,14 @@ fn what_two_copies_do_not_come_to_is_told() {
         "not tried: two copies, a cluster set apart with equal passwords in one copy alone".into(),
         "not tried: two copies, a new password that the cluster set apart has in one copy alone"
             .into(),
+        "not tried: two copies, a call done by a handle of width 8".into(),
+        "not tried: two copies, a length that no handle has".into(),
     ];
     assert_eq!(count.faults(), expected);
     (count.looks, count.freezes, count.joins) = (kept(1), kept(1), kept(1));
     (count.renewals, count.by_the_second) = (kept(1), 1);
     (count.equal_in_one, count.guessed) = (1, 1);
+    (count.by_width, count.no_length) = ([1; 3], 1);
     assert!(count.faults().is_empty());
 }
 
@@ -223,15 +274,16 @@ fn what_rows_on_frozen_segments_do_not_come_to_is_told() {
 #[test]
 fn what_new_passwords_in_two_images_do_not_come_to_is_told() {
     let mut count = untold::Count::default();
-    assert_eq!(count.faults().len(), 5);
+    assert_eq!(count.faults().len(), 8);
     (count.asked, count.done, count.old) = (4, 2, 1);
-    (count.guessed, count.equal) = ([1, 0], [0, 1]);
+    (count.guessed, count.equal, count.widths) = ([1, 0], [0, 1], [1, 1, 0]);
     let told = |what| format!("not tried: new passwords in two images, {what}");
     let expected = [
         told("the read password taken for writing"),
         told("one for reading, the two equal in one image"),
+        told("width 16"),
     ];
     assert_eq!(count.faults(), expected);
-    (count.guessed, count.equal) = ([1, 1], [1, 1]);
+    (count.guessed, count.equal, count.widths) = ([1, 1], [1, 1], [1; 3]);
     assert!(count.faults().is_empty());
 }

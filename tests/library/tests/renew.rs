@@ -1,8 +1,8 @@
 //! New passwords, asked of the library itself: 12 by the mode's own password and by no other, the two of a cluster made
 //! equal, one handle for both modes, and every number in its place. What is expected is told without the model.
 
-#[path = "../../tests/support/renewed.rs"]
-mod renewed;
+#[path = "../../tests/support/mod.rs"]
+mod support;
 
 use library::chance::bytes;
 use library::chance::damage::{inflict, Damage, LAST_PLACE};
@@ -10,35 +10,39 @@ use library::image::{encode, password_at, record_at};
 use library::question::{Answer, Held, Question, READ_MODE, WRITE_MODE};
 use library::{copies, guard, untold};
 use model::call::{Call, Reply};
-use model::handle::{Handle, Password};
+use model::handle::{Handle, Password, Width};
 use model::random::Random;
 use model::sizes::MEMORY_BYTES;
 use model::store::{Cluster, Mode, Segment, Store};
-use renewed::{Renewed, LOCAL, NODE};
+use support::renewed::{self, Renewed, LOCAL, NODE};
 
 const PASSWORDS: [Password; 2] = [[0x11; 16], [0x22; 16]];
 /// Where the cluster is whose passwords are replaced.
 const PLACE: (usize, usize) = (1, 2);
 
-/// A store with a cluster that has segment 5, four bytes at 100, and with these passwords.
-fn held([read, write]: [Password; 2]) -> Held {
+/// The segment that is there.
+const SEGMENT: u32 = 2;
+
+/// A store with a cluster that has segment 2, four bytes at 100, and with these passwords.
+fn held(width: Width, [read, write]: [Password; 2]) -> Held {
     let mut store = Store::starting();
     let cluster = &mut store.clusters[PLACE.0][PLACE.1];
     *cluster = Cluster {
         active: true,
+        width: width.number(),
         read,
         write,
         ..Cluster::INACTIVE
     };
-    cluster.segments[5] = Segment::present(100, 4);
+    cluster.segments[SEGMENT as usize] = Segment::present(100, 4);
     Held {
         image: encode(&store),
         memory: vec![0x77; MEMORY_BYTES],
     }
 }
 
-fn primary(password: Password) -> Handle {
-    Handle::primary(PLACE.0 as u16, PLACE.1 as u8, password)
+fn primary(width: Width, password: Password) -> Handle {
+    Handle::primary(width, PLACE.0 as u16, PLACE.1 as u8, password)
 }
 
 /// Asks the library, which works on what is held.
@@ -53,7 +57,7 @@ fn asked(held: &mut Held, call: Call, buffer: &[u8]) -> Answer {
 fn renew(held: &mut Held, mode: Mode, handle: Handle, password: Password) -> Reply {
     let call = Call::NewPassword {
         mode: mode.number(),
-        handle,
+        handle: handle.to_bytes(),
         password,
     };
     asked(held, call, &[]).reply
@@ -68,17 +72,19 @@ fn with(held: &Held, (node, local): (usize, usize), mode: Mode, password: &Passw
 
 /// In which modes a handle validates, and whether it reads and writes there; nothing else changes.
 fn opens(held: &Held, handle: Handle) -> [bool; 2] {
+    let bytes = handle.to_bytes();
     let validates = [READ_MODE, WRITE_MODE].map(|mode| {
-        let mut after = held.clone();
-        let number = asked(&mut after, Call::Validate { mode, handle }, &[])
-            .reply
-            .number;
+        let (mut after, handle) = (held.clone(), bytes.clone());
+        let validate = Call::Validate { mode, handle };
+        let number = asked(&mut after, validate, &[]).reply.number;
         assert!(after == *held && (number == 0 || number == 9));
         number == 0
     });
     let mut after = held.clone();
-    let (segment, data) = (5, *b"milk");
+    let (segment, data) = (SEGMENT, *b"milk");
+    let handle = bytes.clone();
     let written = asked(&mut after, Call::Write { segment, handle }, &data).reply;
+    let handle = bytes;
     let read = asked(&mut after, Call::Read { segment, handle }, &[0; 4]);
     let expected = match validates[1] {
         true => data,
@@ -94,45 +100,54 @@ fn opens(held: &Held, handle: Handle) -> [bool; 2] {
 
 /// The primary handle, and what the library makes from it: weakened, weakened twice, reduced, joined.
 fn family(held: &Held, mode: Mode, primary: Handle) -> Vec<Handle> {
-    let given = |call| {
-        let reply = asked(&mut held.clone(), call, &[]).reply;
+    let given = |call: Call| {
+        let reply = asked(&mut held.clone(), call.clone(), &[]).reply;
         assert_eq!(reply.number, 0, "{call:?}");
-        Handle::from_bytes(&reply.first)
+        let given = Handle::from_bytes(&reply.first).expect("it is one");
+        assert_eq!(given.width(), primary.width());
+        given
     };
     let mode = mode.number();
-    let weaken = |handle, mask| given(Call::Weaken { mask, handle });
-    let once = weaken(primary, 0xfe);
-    let twice = weaken(once, 0x60);
+    let weaken = |handle: Handle, mask| {
+        let handle = handle.to_bytes();
+        given(Call::Weaken { mask, handle })
+    };
+    let once = weaken(primary, !0x0001);
+    let twice = weaken(once, 0x6066);
     let reduced = given(Call::Reduce {
         mode,
-        handle: twice,
+        handle: twice.to_bytes(),
     });
     let joined = given(Call::Join {
         mode,
-        handle: twice,
-        other: weaken(primary, 0x08),
+        handle: twice.to_bytes(),
+        other: weaken(primary, 0x0008).to_bytes(),
     });
     vec![primary, once, twice, reduced, joined]
+}
+
+fn each_width<T: Copy>(all: impl Iterator<Item = T>) -> impl Iterator<Item = (Width, T)> {
+    all.flat_map(|one| Width::ALL.map(|width| (width, one)))
 }
 
 /// The mode's own password with every bit changed by itself, the other mode's likewise, and sixteen equal bytes.
 #[test]
 fn by_the_mode_s_own_password_alone() {
-    let before = held(PASSWORDS);
     let alike = (0..=255).map(|byte| [byte; 16]);
     let near = PASSWORDS.into_iter().flat_map(|password| {
         (0..128).map(move |bit| (u128::from_be_bytes(password) ^ 1 << bit).to_be_bytes())
     });
     let all: Vec<Password> = alike.chain(near).collect();
-    for (mode, own) in Mode::ALL.into_iter().zip(PASSWORDS) {
+    for (width, (mode, own)) in each_width(Mode::ALL.into_iter().zip(PASSWORDS)) {
+        let before = held(width, PASSWORDS);
         for password in &all {
             let mut after = before.clone();
-            let reply = renew(&mut after, mode, primary(own), *password);
+            let reply = renew(&mut after, mode, primary(width, own), *password);
             if *password == own {
                 assert_eq!(reply, Reply::refused(12));
                 assert!(after == before);
             } else {
-                assert_eq!(reply, Reply::with_handle(&primary(*password)));
+                assert_eq!(reply, Reply::with_handle(&primary(width, *password)));
                 assert!(after == with(&before, PLACE, mode, password));
             }
         }
@@ -142,11 +157,12 @@ fn by_the_mode_s_own_password_alone() {
 /// Either mode takes the other's; one handle opens both then, until one of the two is changed.
 #[test]
 fn one_handle_for_both_modes_and_its_end() {
-    for (made, changed) in Mode::ALL
+    let modes = Mode::ALL
         .into_iter()
-        .flat_map(|made| Mode::ALL.map(|mode| (made, mode)))
-    {
-        let mut held = held(PASSWORDS);
+        .flat_map(|made| Mode::ALL.map(|mode| (made, mode)));
+    for (width, (made, changed)) in each_width(modes) {
+        let primary = |password| primary(width, password);
+        let mut held = held(width, PASSWORDS);
         let [own, other] = [made, made.other()].map(|mode| PASSWORDS[mode as usize]);
         assert_eq!(
             opens(&held, primary(own)),
@@ -178,12 +194,18 @@ fn one_handle_for_both_modes_and_its_end() {
 /// Call 1 refuses twins, and a cluster whose passwords became equal is deleted as any other.
 #[test]
 fn call_1_still_refuses_twins() {
-    let [read, _] = PASSWORDS;
-    let mut held = held([read; 2]);
-    let (node, local) = PLACE;
+    for width in Width::ALL {
+        refuses_twins(width);
+    }
+}
+
+fn refuses_twins(width: Width) {
+    let ([read, _], (node, local)) = (PASSWORDS, PLACE);
+    let mut held = held(width, [read; 2]);
     let new_cluster = |local: usize, write| Call::NewCluster {
         node: node as u32,
         local: local as u32,
+        width: width.segments(),
         read,
         write,
     };
@@ -192,7 +214,7 @@ fn call_1_still_refuses_twins() {
     assert_eq!(number(new_cluster(local + 1, read)), 7);
     let delete = Call::DeleteCluster {
         node: node as u32,
-        handle: primary(read),
+        handle: primary(width, read).to_bytes(),
     };
     assert_eq!(number(delete), 0);
     assert_eq!(number(new_cluster(local, read)), 7);
@@ -221,11 +243,8 @@ fn numbers_in_their_order() {
             number => (Reply::refused(number), before.clone()),
         };
         let mut after = before;
-        assert_eq!(
-            asked(&mut after, renewed.call, &[]).reply,
-            expected,
-            "{renewed:?}"
-        );
+        let reply = asked(&mut after, renewed.call.clone(), &[]).reply;
+        assert_eq!(reply, expected, "{renewed:?}");
         assert!(after == left, "{renewed:?}");
     }
 }
@@ -240,7 +259,7 @@ fn nothing_of_a_damaged_store() {
             let mut held = put_to(random, &renewed);
             inflict(random, &mut held, damage, LAST_PLACE);
             let before = held.clone();
-            let reply = asked(&mut held, renewed.call, &[]).reply;
+            let reply = asked(&mut held, renewed.call.clone(), &[]).reply;
             assert_eq!(reply, Reply::refused(1), "{damage:?}");
             assert!(held == before);
         }
@@ -254,10 +273,14 @@ fn equal_passwords_are_sound_where_the_cluster_is_active() {
         for local in 0..8 {
             let mut image = encode(&Store::starting());
             let record = record_at(node, local);
-            image[record.start + 1..record.start + 33].fill(0x11);
+            image[record.start + 2..record.start + 34].fill(0x11);
             assert!(!guard::is_sound(&mut image, MEMORY_BYTES));
             image[record.start] = 1;
-            assert!(guard::is_sound(&mut image, MEMORY_BYTES));
+            for width in 0..=u8::MAX {
+                image[record.start + 1] = width;
+                let sound = [4, 8, 16].contains(&width);
+                assert_eq!(guard::is_sound(&mut image, MEMORY_BYTES), sound);
+            }
         }
     }
 }

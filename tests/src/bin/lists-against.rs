@@ -55,7 +55,7 @@ impl Tally {
         let cases = Case::in_lists()
             .filter(|case| !self.cases.contains_key(case))
             .map(|case| format!("something frozen, {case:?}"));
-        let meetings = Meeting::all()
+        let meetings = Meeting::in_lists()
             .filter(|meeting| !self.meetings.contains_key(meeting))
             .map(|meeting| format!("a join, {meeting:?}"));
         let renewals = Renewal::in_lists()

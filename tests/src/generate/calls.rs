@@ -3,16 +3,19 @@
 use super::handles::{self, is_inactive, Wish};
 use super::joins;
 use crate::call::{self, Reply};
-use crate::handle::{Handle, Password, FLAT};
+use crate::handle::{Handle, Password};
 use crate::list::{
-    Record, Session, CODE_AT, DATA_AT, DATA_LENGTH_AT, FIRST_PASSWORD_AT, HANDLE_AT, MODE_AT,
-    MOST_DATA_BYTES, NODE_AT, OTHER_HANDLE_AT, RECORD_BYTES, SECOND_PASSWORD_AT, SEGMENT_AT,
-    SIZE_AT,
+    Record, Session, CODE_AT, DATA_AT, DATA_LENGTH_AT, FIRST_PASSWORD_AT, HANDLE_AT, HANDLE_BYTES,
+    MODE_AT, MOST_DATA_BYTES, NODE_AT, OTHER_HANDLE_AT, RECORD_BYTES, SECOND_PASSWORD_AT,
+    SEGMENT_AT, SIZE_AT, WIDTH,
 };
 use crate::random::Random;
-use crate::sizes::{CLUSTERS, HANDLE_BYTES, NODES, NODE_BYTES, PASSWORD_BYTES, SEGMENTS};
+use crate::sizes::{CLUSTERS, NODES, NODE_BYTES, PASSWORD_BYTES};
 use crate::store::Mode;
 
+const SEGMENTS: usize = WIDTH.segments();
+/// A mask that keeps everything.
+const ALL: u8 = WIDTH.flat() as u8;
 /// Few passwords, so that equal ones meet.
 const PASSWORDS: u64 = 5;
 /// Node and local number in a handle.
@@ -90,9 +93,10 @@ impl Maker {
                 call::WEAKEN | call::REDUCE | call::NEW_PASSWORD | call::JOIN => 1,
                 _ => 0,
             };
-            let handles = [reply.first, reply.second];
+            let handles = [&reply.first, &reply.second];
+            let handles = handles[..count].iter();
             self.given
-                .extend(handles[..count].iter().map(Handle::from_bytes));
+                .extend(handles.filter_map(|bytes| Handle::from_bytes(bytes)));
         }
     }
 
@@ -116,7 +120,7 @@ impl Maker {
     fn put_handle(&mut self, record: &mut Record, wish: Wish) -> Handle {
         let store = &self.session.store;
         let handle = handles::handle(&mut self.random, store, &self.given, wish);
-        put(record, HANDLE_AT, &handle);
+        put(record, HANDLE_AT, &handle.to_bytes());
         handle
     }
 
@@ -201,12 +205,13 @@ impl Maker {
             segments: true,
         };
         let handle = self.put_handle(record, wish);
-        record[SEGMENT_AT] = match (self.random.below(8), handle.selector.referenced()) {
+        let referenced = handle.selector.referenced() as u8;
+        record[SEGMENT_AT] = match (self.random.below(8), referenced) {
             (0, _) => self.random.byte(),
             (1 | 2, _) => !(1 << self.random.below(8)),
             (3, _) => 1 << self.random.below(8),
             // Keeps nothing; not even 255 does where nothing is referenced.
-            (4 | 5, 0) => FLAT,
+            (4 | 5, 0) => ALL,
             (4, referenced) => self.random.byte() & !referenced,
             _ => self.random.byte() | self.random.byte(),
         };
@@ -274,14 +279,14 @@ impl Maker {
             .collect();
         let handle = match self.random.pick(&given) {
             Some(handle) => *handle,
-            None => Handle::from_bytes(&self.random.bytes()),
+            None => handles::any(&mut self.random),
         };
-        put(record, OTHER_HANDLE_AT, &handle);
+        put(record, OTHER_HANDLE_AT, &handle.to_bytes());
     }
 }
 
-fn put(record: &mut Record, at: usize, handle: &Handle) {
-    record[at..at + HANDLE_BYTES].copy_from_slice(&handle.to_bytes());
+fn put(record: &mut Record, at: usize, handle: &[u8]) {
+    record[at..at + HANDLE_BYTES].copy_from_slice(handle);
 }
 
 fn number_of(mode: Mode) -> u8 {

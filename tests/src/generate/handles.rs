@@ -1,9 +1,11 @@
 //! Handles by chance: right ones for the store as it is, old ones, and ones with something wrong.
 
-use crate::handle::{Handle, Selector, FLAT};
+use crate::handle::{Handle, HandleBytes, Selector};
+use crate::list;
 use crate::random::Random;
 use crate::sizes::{CLUSTERS, NODES, SUBSELECTORS};
 use crate::store::{Cluster, Mode, Store};
+use crate::width::Width;
 
 /// What the call that a handle is made for would like.
 #[derive(Clone, Copy)]
@@ -60,28 +62,50 @@ pub fn handle(random: &mut Random, store: &Store, given: &[Handle], wish: Wish) 
     }
 }
 
+/// A handle of a list, of bytes without any sense.
+pub fn any(random: &mut Random) -> Handle {
+    let bytes: [u8; list::HANDLE_BYTES] = random.bytes();
+    Handle::from_bytes(&bytes).expect("a list's handles have a width")
+}
+
+/// The cluster's width; that of lists where the cluster is inactive.
+pub fn width_of(cluster: &Cluster) -> Width {
+    cluster.known_width().unwrap_or(list::WIDTH)
+}
+
+/// The bits of a subselector, or a mask, by chance.
+pub fn bits(random: &mut Random, width: Width) -> u16 {
+    random.number() as u16 & width.flat()
+}
+
+/// One of these bits.
+pub fn bit(random: &mut Random, width: Width) -> u16 {
+    1 << random.below(width.segments() as u64)
+}
+
 /// A handle that validates, mostly in the mode that is wished for, if any cluster is active.
 fn right(random: &mut Random, store: &Store, wish: Wish) -> Handle {
     let Some((node, local)) = active_place(random, store, wish) else {
-        return Handle::from_bytes(&random.bytes());
+        return any(random);
     };
     let cluster = &store.clusters[usize::from(node)][usize::from(local)];
+    let width = width_of(cluster);
     let mode = match (wish.mode, random.one_in(10)) {
         (Mode::Read, true) | (Mode::Write, false) => Mode::Write,
         _ => Mode::Read,
     };
     let primary = *cluster.primary(mode);
-    let mut handle = Handle::primary(node, local, primary);
+    let mut handle = Handle::primary(width, node, local, primary);
     let times = if wish.primary && !random.one_in(6) {
         0
     } else {
         random.below(6)
     };
     if times > 0 && random.one_in(8) {
-        return Handle::converted(node, local, &primary, to_nothing(random));
+        return Handle::converted(node, local, &primary, to_nothing(random, width));
     }
     for _ in 0..times {
-        let mask = random.byte() | random.byte() | random.byte();
+        let mask = bits(random, width) | bits(random, width) | bits(random, width);
         handle = handle.weaken(mask).unwrap_or(handle);
     }
     if random.one_in(6) {
@@ -93,18 +117,22 @@ fn right(random: &mut Random, store: &Store, wish: Wish) -> Handle {
 
 /// A handle with one thing changed.
 fn wrong(random: &mut Random, store: &Store, mut handle: Handle) -> Handle {
+    let width = handle.width();
     match random.below(9) {
         0 => handle.password[random.below(16) as usize] ^= 1 << random.below(8),
         1 => handle.password = random.bytes(),
         2 => handle.node = random.number() as u16,
         3 => handle.node = random.below(6) as u16,
         4 => handle.local = random.below(10) as u8,
-        5 => handle.selector = gapped(random),
-        6 => handle.selector.0.reverse(),
-        7 => handle.selector.0[random.below(SUBSELECTORS as u64) as usize] = random.byte(),
+        5 => handle.selector = gapped(random, width),
+        6 => handle.selector.subselectors.reverse(),
+        7 => {
+            let at = random.below(SUBSELECTORS as u64) as usize;
+            handle.selector.subselectors[at] = bits(random, width);
+        }
         _ => {
             if let Some((node, local)) = place(random, store, is_inactive) {
-                handle = Handle::primary(node, local, [0; 16]);
+                handle = Handle::primary(width, node, local, [0; 16]);
             }
         }
     }
@@ -112,22 +140,53 @@ fn wrong(random: &mut Random, store: &Store, mut handle: Handle) -> Handle {
 }
 
 /// A selector without gaps that references nothing; one to four subselectors are not flat.
-pub fn to_nothing(random: &mut Random) -> Selector {
-    let mut selector = [FLAT; SUBSELECTORS];
+pub fn to_nothing(random: &mut Random, width: Width) -> Selector {
+    let mut selector = Selector::primary(width);
     let last = random.below(SUBSELECTORS as u64) as usize;
-    for subselector in &mut selector[..=last] {
-        *subselector = (random.byte() | random.byte()) & !(1 << random.below(8));
+    for subselector in &mut selector.subselectors[..=last] {
+        *subselector = (bits(random, width) | bits(random, width)) & !bit(random, width);
     }
-    selector[last] &= !Selector(selector).referenced();
-    Selector(selector)
+    selector.subselectors[last] &= !selector.referenced();
+    selector
 }
 
-pub fn gapped(random: &mut Random) -> Selector {
-    let mut selector = [FLAT; SUBSELECTORS];
+pub fn gapped(random: &mut Random, width: Width) -> Selector {
+    let mut selector = Selector::primary(width);
     let at = 1 + random.below(SUBSELECTORS as u64 - 1) as usize;
-    selector[at] = random.byte() & 0xfe;
+    selector.subselectors[at] = bits(random, width) & !1;
     if random.one_in(2) {
-        selector[0] = random.byte();
+        selector.subselectors[0] = bits(random, width);
     }
-    Selector(selector)
+    selector
+}
+
+/// A selector without gaps that references just these segments; one to four subselectors are not flat, but none where
+/// it references all.
+pub fn noting(random: &mut Random, width: Width, segments: u16) -> Selector {
+    let mut selector = Selector::primary(width);
+    if segments == width.flat() {
+        return selector;
+    }
+    let last = random.below(SUBSELECTORS as u64) as usize;
+    for subselector in &mut selector.subselectors[..=last] {
+        let taken = not_of(random, width, segments);
+        *subselector = (segments | bits(random, width) | bits(random, width)) & !taken;
+    }
+    selector.subselectors[last] &= segments | !selector.referenced();
+    selector
+}
+
+/// The bit of one segment that is none of these.
+fn not_of(random: &mut Random, width: Width, segments: u16) -> u16 {
+    let bits = (0..width.segments()).map(|segment| 1 << segment);
+    let others: Vec<u16> = bits.filter(|bit| segments & bit == 0).collect();
+    random.pick(&others).copied().unwrap_or(0)
+}
+
+/// Bytes of a length that no handle has: cut, or with more bytes after them.
+pub fn of_no_length(random: &mut Random, mut bytes: HandleBytes) -> HandleBytes {
+    let lengths = [0, 1, 2, 16, 19, 20, 22, 24, 25, 26, 28, 31, 46, 64];
+    let length = random.pick(&lengths).expect("there are lengths");
+    bytes.resize_with(*length, || random.byte());
+    bytes
 }

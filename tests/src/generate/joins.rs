@@ -1,10 +1,10 @@
 //! Joins by chance. What speaks against a join seldom meets by itself, so that most of them are made from two handles
 //! of one cluster, each of them valid: none, one or two things are made wrong in them.
 
-use super::handles::{gapped, is_inactive, place};
-use crate::handle::{Handle, Selector, FLAT};
+use super::handles::{bits, gapped, is_inactive, noting, of_no_length, place, width_of};
+use crate::handle::{Handle, HandleBytes, Selector, Width};
 use crate::random::Random;
-use crate::sizes::{CLUSTERS, NODES, PASSWORD_BYTES, SEGMENTS, SUBSELECTORS};
+use crate::sizes::{CLUSTERS, NODES, PASSWORD_BYTES};
 use crate::store::{Cluster, Mode, Store};
 
 /// What a join is asked with.
@@ -12,7 +12,7 @@ pub struct Join {
     pub mode: Mode,
     /// False where it has to be asked with a number that is no mode's.
     pub is_a_mode: bool,
-    pub handles: [Handle; 2],
+    pub handles: [HandleBytes; 2],
 }
 
 /// In the order in which two of them are put into one join.
@@ -20,10 +20,12 @@ pub struct Join {
 enum Fault {
     Inactive,
     Apart,
+    OtherWidth,
     Gapped,
     NotValid,
     Nowhere,
     NoMode,
+    NoLength,
 }
 
 /// Which of the two handles it is done to.
@@ -34,19 +36,38 @@ enum To {
     Both,
 }
 
-impl Fault {
-    const ALL: [Fault; 6] = [
-        Fault::Inactive,
-        Fault::Apart,
-        Fault::Gapped,
-        Fault::NotValid,
-        Fault::Nowhere,
-        Fault::NoMode,
-    ];
+/// What lists can have; they have one width.
+const IN_LISTS: [Fault; 6] = [
+    Fault::Inactive,
+    Fault::Apart,
+    Fault::Gapped,
+    Fault::NotValid,
+    Fault::Nowhere,
+    Fault::NoMode,
+];
+
+const ALL: [Fault; 8] = [
+    Fault::Inactive,
+    Fault::Apart,
+    Fault::OtherWidth,
+    Fault::Gapped,
+    Fault::NotValid,
+    Fault::Nowhere,
+    Fault::NoMode,
+    Fault::NoLength,
+];
+
+/// A join of a list; none where no cluster is active. Sometimes the cluster is one whose handles open both modes.
+pub fn join(random: &mut Random, store: &Store) -> Option<Join> {
+    join_with(random, store, &IN_LISTS)
 }
 
-/// None where no cluster is active. Sometimes the cluster is one whose handles open both modes.
-pub fn join(random: &mut Random, store: &Store) -> Option<Join> {
+/// The same with handles of every width, of another width than their cluster's and of lengths that no handle has.
+pub fn join_of_widths(random: &mut Random, store: &Store) -> Option<Join> {
+    join_with(random, store, &ALL)
+}
+
+fn join_with(random: &mut Random, store: &Store, faults: &[Fault]) -> Option<Join> {
     let equal = match random.one_in(5) {
         true => place(random, store, Cluster::has_equal_passwords),
         false => None,
@@ -56,24 +77,25 @@ pub fn join(random: &mut Random, store: &Store) -> Option<Join> {
         true => Mode::Read,
         false => Mode::Write,
     };
-    let mut join = Join {
+    let mut making = Making {
         mode,
         is_a_mode: true,
         handles: two(random, store, (node, local), mode),
+        has_length: [true; 2],
     };
-    let mut faults = faults(random);
+    let mut faults = chosen(random, faults);
     faults.sort_by_key(|(fault, _)| *fault as u8);
     for (fault, to) in faults {
-        join.spoil(random, store, fault, to);
+        making.spoil(random, store, fault, to);
     }
-    Some(join)
+    Some(making.finished(random))
 }
 
 /// None, one or two, and one of them may be there twice.
-fn faults(random: &mut Random) -> Vec<(Fault, To)> {
+fn chosen(random: &mut Random, faults: &[Fault]) -> Vec<(Fault, To)> {
     let count = random.below(4).min(2);
     let fault = |_| {
-        let fault = random.pick(&Fault::ALL).expect("there are faults");
+        let fault = random.pick(faults).expect("there are faults");
         let to = random.pick(&[To::First, To::Second, To::First, To::Second, To::Both]);
         (*fault, *to.expect("there are two handles"))
     };
@@ -82,69 +104,66 @@ fn faults(random: &mut Random) -> Vec<(Fault, To)> {
 
 /// Two handles of an active cluster, in either order.
 fn two(random: &mut Random, store: &Store, place: (u16, u8), mode: Mode) -> [Handle; 2] {
+    let cluster = &store.clusters[usize::from(place.0)][usize::from(place.1)];
+    let width = width_of(cluster);
+    let flat = width.flat();
     let one = match random.below(8) {
-        0 => FLAT,
+        0 => flat,
         1 => 0,
-        _ => random.byte(),
+        _ => bits(random, width),
     };
-    let handle = valid(random, store, place, mode, one);
+    let valid = |random: &mut Random, segments| {
+        let selector = noting(random, width, segments);
+        Handle::converted(place.0, place.1, cluster.primary(mode), selector)
+    };
+    let handle = valid(random, one);
     let two = match random.below(8) {
         0 => return [handle; 2],
-        1 => !one,
-        2 => !one & random.byte(),
-        3 => one & random.byte(),
+        1 => flat & !one,
+        2 => !one & bits(random, width),
+        3 => one & bits(random, width),
         4 => one,
-        5 => FLAT,
+        5 => flat,
         6 => 0,
-        _ => random.byte(),
+        _ => bits(random, width),
     };
-    let mut both = [handle, valid(random, store, place, mode, two)];
+    let mut both = [handle, valid(random, two)];
     random.shuffle(&mut both);
     both
 }
 
-/// A handle that references just these segments and validates; that of an inactive cluster would, but for its being
-/// inactive.
-fn valid(
-    random: &mut Random,
-    store: &Store,
-    (node, local): (u16, u8),
+/// A join on its way.
+struct Making {
     mode: Mode,
-    segments: u8,
-) -> Handle {
-    let cluster = &store.clusters[usize::from(node)][usize::from(local)];
-    let selector = noting(random, segments);
-    Handle::converted(node, local, cluster.primary(mode), selector)
+    is_a_mode: bool,
+    handles: [Handle; 2],
+    has_length: [bool; 2],
 }
 
-/// A selector without gaps that references just these segments; one to four subselectors are not flat, but none where
-/// it references all.
-fn noting(random: &mut Random, segments: u8) -> Selector {
-    let mut selector = [FLAT; SUBSELECTORS];
-    if segments == FLAT {
-        return Selector(selector);
+impl Making {
+    fn finished(self, random: &mut Random) -> Join {
+        let [first, second] = self.handles.map(|handle| handle.to_bytes());
+        let [keeps_first, keeps_second] = self.has_length;
+        let mut bytes = |bytes, keeps| match keeps {
+            true => bytes,
+            false => of_no_length(random, bytes),
+        };
+        Join {
+            mode: self.mode,
+            is_a_mode: self.is_a_mode,
+            handles: [bytes(first, keeps_first), bytes(second, keeps_second)],
+        }
     }
-    let last = random.below(SUBSELECTORS as u64) as usize;
-    for subselector in &mut selector[..=last] {
-        let taken = not_of(random, segments);
-        *subselector = (segments | random.byte() | random.byte()) & !taken;
-    }
-    selector[last] &= segments | !Selector(selector).referenced();
-    Selector(selector)
-}
 
-/// The bit of one segment that is none of these.
-fn not_of(random: &mut Random, segments: u8) -> u8 {
-    let bits = (0..SEGMENTS).map(|segment| 1 << segment);
-    let others: Vec<u8> = bits.filter(|bit| segments & bit == 0).collect();
-    random.pick(&others).copied().unwrap_or(0)
-}
-
-impl Join {
     fn spoil(&mut self, random: &mut Random, store: &Store, fault: Fault, to: To) {
         let mode = self.mode;
         match fault {
             Fault::NoMode => self.is_a_mode = false,
+            Fault::NoLength => match to {
+                To::First => self.has_length[0] = false,
+                To::Second => self.has_length[1] = false,
+                To::Both => self.has_length = [false; 2],
+            },
             Fault::Inactive => {
                 if let Some(inactive) = place(random, store, is_inactive) {
                     for handle in &mut self.handles {
@@ -166,12 +185,13 @@ impl Join {
                     To::Second => &mut self.handles[1..],
                     To::Both => &mut self.handles[..],
                 };
-                let nowhere = random.number();
+                let choice = random.number();
                 for handle in chosen {
                     match fault {
                         Fault::Gapped => *handle = with_a_gap(random, store, handle, mode),
                         Fault::NotValid => *handle = not_valid(random, store, handle, mode),
-                        _ => to_no_place(nowhere, handle),
+                        Fault::OtherWidth => *handle = of_other_width(choice, store, handle, mode),
+                        _ => to_no_place(choice, handle),
                     }
                 }
             }
@@ -179,7 +199,7 @@ impl Join {
     }
 }
 
-/// The handle as if it were given for another cluster.
+/// The handle as if it were given for another cluster, but for its width.
 fn moved(store: &Store, handle: &Handle, (node, local): (u16, u8), mode: Mode) -> Handle {
     let cluster = &store.clusters[usize::from(node)][usize::from(local)];
     Handle::converted(node, local, cluster.primary(mode), handle.selector)
@@ -206,7 +226,7 @@ fn apart(random: &mut Random, store: &Store, handle: &Handle) -> (u16, u8) {
 /// The handle with a selector that is gapped, and mostly with the password that would go with it.
 fn with_a_gap(random: &mut Random, store: &Store, handle: &Handle, mode: Mode) -> Handle {
     let gapped = Handle {
-        selector: gapped(random),
+        selector: gapped(random, handle.width()),
         ..*handle
     };
     match random.one_in(4) {
@@ -237,4 +257,22 @@ fn to_no_place(choice: u64, handle: &mut Handle) {
         2 => handle.local = CLUSTERS as u8 + further as u8,
         _ => handle.local |= 1 << (3 + further),
     }
+}
+
+/// The handle with the same subselectors at another width, those that were flat being flat again, and with the
+/// password that goes with them. Equal choices take handles of one width to the same.
+fn of_other_width(choice: u64, store: &Store, handle: &Handle, mode: Mode) -> Handle {
+    let own = handle.width();
+    let mut others = Width::ALL.into_iter().filter(|width| *width != own);
+    let other = others.nth(choice as usize % 2).expect("there are two");
+    let subselectors = handle.selector.subselectors;
+    let subselectors = subselectors.map(|part| match part == own.flat() {
+        true => other.flat(),
+        false => part & other.flat() & !1,
+    });
+    let changed = Handle {
+        selector: Selector::new(other, subselectors),
+        ..*handle
+    };
+    moved(store, &changed, changed.name(), mode)
 }

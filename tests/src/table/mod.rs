@@ -31,8 +31,9 @@ pub const EMPTY: u8 = 21;
 pub const FROZEN: u8 = 22;
 pub const WHOLE: u8 = 23;
 pub const APART: u8 = 24;
+pub const LENGTH: u8 = 25;
 
-const WORDS: [&str; 25] = [
+const WORDS: [&str; 26] = [
     "done",
     "unsound",
     "no such place",
@@ -58,6 +59,7 @@ const WORDS: [&str; 25] = [
     "frozen",
     "whole",
     "apart",
+    "length",
 ];
 
 /// The word that stands beside `number` in the table.
@@ -78,27 +80,55 @@ impl Found<'_> {
         self.store
             .cluster(usize::from(handle.node), usize::from(handle.local))
     }
+}
 
-    fn named_cluster(&self, call: &Call) -> Option<&Cluster> {
-        self.cluster_of(call.handle()?)
+/// A call with the handles that it presents, read once, and what it finds.
+struct Asked<'a> {
+    call: &'a Call,
+    handle: Option<Handle>,
+    /// The second handle of a join.
+    other: Option<Handle>,
+    found: &'a Found<'a>,
+}
+
+impl<'a> Asked<'a> {
+    fn of(call: &'a Call, found: &'a Found) -> Asked<'a> {
+        let mut handles = call.presented_bytes().map(Handle::from_bytes);
+        Asked {
+            call,
+            handle: handles.next().flatten(),
+            other: handles.next().flatten(),
+            found,
+        }
     }
 
-    fn named_segment(&self, call: &Call) -> Option<&Segment> {
-        let segment = call.segment()? as usize;
-        self.named_cluster(call)?.segments.get(segment)
+    /// Every handle; none is missing below the first row.
+    fn handles(&self) -> impl Iterator<Item = &Handle> {
+        self.handle.iter().chain(&self.other)
     }
 
-    fn named_extent(&self, call: &Call) -> Option<Extent> {
-        self.named_segment(call)?.extent()
+    fn named_cluster(&self) -> Option<&Cluster> {
+        self.found.cluster_of(self.handle.as_ref()?)
+    }
+
+    fn named_segment(&self) -> Option<&Segment> {
+        let segment = self.call.segment()? as usize;
+        self.named_cluster()?.segments.get(segment)
+    }
+
+    fn named_extent(&self) -> Option<Extent> {
+        self.named_segment()?.extent()
     }
 }
 
-type Test = fn(&Call, &Found) -> bool;
+type Test = fn(&Asked) -> bool;
 
 /// The rows that concern calls, in the table's order; a number added later stands at the place named
-/// for it, and 22 at two: one for call 2, one for calls 4 and 6. A row's test may count on the rows
-/// above it not applying.
-const ROWS: [(u8, Test); 22] = [
+/// for it. Two have two places: 22, one for call 2 and one for calls 4 and 6, and 25, first for
+/// lengths that no handle has, then for handles of another width than their cluster's. A row's test
+/// may count on the rows above it not applying.
+const ROWS: [(u8, Test); 24] = [
+    (LENGTH, rows::no_length),
     (UNSOUND, rows::unsound),
     (NO_SUCH_PLACE, rows::no_such_place),
     (FIELD, rows::field),
@@ -108,6 +138,7 @@ const ROWS: [(u8, Test); 22] = [
     (IN_USE, rows::in_use),
     (TWINS, rows::twins),
     (INACTIVE, rows::inactive),
+    (LENGTH, rows::other_width),
     (VIOLATED_PROTECTION, rows::violated_protection),
     (WHOLE, rows::whole),
     (NOT_PRIMARY, rows::not_primary),
@@ -123,7 +154,7 @@ const ROWS: [(u8, Test); 22] = [
     (SPENT, rows::spent),
 ];
 
-/// The numbers of the rows that concern calls, in the table's order; 22 comes twice.
+/// The numbers of the rows that concern calls, in the table's order; 22 and 25 come twice.
 pub fn numbers_of_calls() -> impl Iterator<Item = u8> {
     ROWS.iter().map(|(number, _)| *number)
 }
@@ -133,21 +164,26 @@ pub fn refusal(call: &Call, found: &Found) -> Option<u8> {
     first_of(&ROWS, call, found)
 }
 
-/// The first number that applies of those standing above `row`.
+/// The first number that applies of those standing above `row`; above 25 is above its first place.
 pub fn refusal_above(row: u8, call: &Call, found: &Found) -> Option<u8> {
     let above = ROWS.iter().take_while(|(number, _)| *number != row).count();
     first_of(&ROWS[..above], call, found)
 }
 
-/// The first number that applies of those standing below `row`, where neither `row` nor any above
-/// it applies. Below 22 is below its second place: what stands between the two is nothing of call 2's,
-/// which alone comes to the first.
+/// The first number that applies of those standing below `row`, where none above it applies. Below 22
+/// is below its second place: what stands between the two is nothing of call 2's, which alone comes to
+/// the first. Below 25 is below the place at which it applies to this call.
 pub fn refusal_below(row: u8, call: &Call, found: &Found) -> Option<u8> {
-    let last = ROWS.iter().rposition(|(number, _)| *number == row)?;
+    let asked = Asked::of(call, found);
+    let last = match row {
+        LENGTH if rows::no_length(&asked) => 0,
+        _ => ROWS.iter().rposition(|(number, _)| *number == row)?,
+    };
     first_of(&ROWS[last + 1..], call, found)
 }
 
 fn first_of(rows: &[(u8, Test)], call: &Call, found: &Found) -> Option<u8> {
-    let row = rows.iter().find(|(_, applies)| applies(call, found))?;
+    let asked = Asked::of(call, found);
+    let row = rows.iter().find(|(_, applies)| applies(&asked))?;
     Some(row.0)
 }

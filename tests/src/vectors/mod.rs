@@ -2,11 +2,14 @@
 //! `docs/vectors/README.md` explains the lines.
 
 mod joins;
+mod tables;
+mod validations;
+mod widths;
 
-use crate::handle::{convert, Handle, Password, Selector, FLAT};
+use crate::handle::{convert, Handle, Password, Width};
 use crate::hexadecimal::encode;
-use crate::sizes::{PASSWORD_BYTES, SUBSELECTORS};
-use crate::table::{word, DONE, EMPTY, GAPPED, SPENT, VIOLATED_PROTECTION};
+use crate::table::{word, EMPTY, SPENT};
+use tables::paths;
 
 const HEADER: &str = "\
 # Handles for checking a program that weakens, reduces, joins or validates them. README.md beside
@@ -15,15 +18,23 @@ const HEADER: &str = "\
 
 struct Cluster {
     name: &'static str,
+    width: Width,
     node: u16,
     local: u8,
     read: Password,
     write: Password,
 }
 
+impl Cluster {
+    fn primary(&self, password: Password) -> Handle {
+        Handle::primary(self.width, self.node, self.local, password)
+    }
+}
+
 const CLUSTERS: [Cluster; 4] = [
     Cluster {
         name: "a",
+        width: Width::Eight,
         node: 0,
         local: 2,
         read: [0x11; 16],
@@ -31,6 +42,7 @@ const CLUSTERS: [Cluster; 4] = [
     },
     Cluster {
         name: "b",
+        width: Width::Eight,
         node: 3,
         local: 7,
         read: [0, 1, 2, 3, 4, 5, 6, 7, 8, 9, 10, 11, 12, 13, 14, 15],
@@ -38,6 +50,7 @@ const CLUSTERS: [Cluster; 4] = [
     },
     Cluster {
         name: "c",
+        width: Width::Eight,
         node: 1,
         local: 0,
         read: [0; 16],
@@ -46,6 +59,7 @@ const CLUSTERS: [Cluster; 4] = [
     // The key of FIPS 197, appendix B, and the outcome there.
     Cluster {
         name: "d",
+        width: Width::Eight,
         node: 2,
         local: 5,
         read: 0x2b7e1516_28aed2a6_abf71588_09cf4f3c_u128.to_be_bytes(),
@@ -53,46 +67,51 @@ const CLUSTERS: [Cluster; 4] = [
     },
 ];
 
-/// Masks that a primary handle is weakened by, one after the other. One that is refused is the last.
-const PATHS: [&[u8]; 7] = [
-    &[0x7f, 0x3f, 0x0f, 0x01, 0x00],
-    &[0xfe, 0xfd, 0xfb, 0xf7, 0xef],
-    &[0xfe, 0x7d, 0x70],
-    &[0xfe, 0x7d, 0xf3],
-    &[0xff, 0x20, 0xff, 0xdf],
-    &[0x00],
-    &[0xaa, 0x0f, 0x08],
-];
+const PARAMETERS: [u16; 8] = [0x00, 0x01, 0x20, 0x7f, 0x80, 0xf3, 0xfe, 0xff];
 
-const PARAMETERS: [u8; 8] = [0x00, 0x01, 0x20, 0x7f, 0x80, 0xf3, 0xfe, 0xff];
-
-/// The whole text.
+/// The whole text: what concerns handles of 23 bytes alone, and what concerns others.
 pub fn text() -> String {
     let mut text = HEADER.to_string();
-    text.push_str(&conversions());
+    text.push_str("\n# Conversion by itself.\n");
+    text.push_str(&conversions(&CLUSTERS, &PARAMETERS));
     for cluster in &CLUSTERS {
-        text.push_str(&family(cluster, "read", &cluster.read));
-        text.push_str(&family(cluster, "write", &cluster.write));
+        text.push_str(&families(cluster));
     }
     text.push_str(&joins::apart(&CLUSTERS[0]));
-    text.push_str(&validations(&CLUSTERS[0]));
+    text.push_str(&validations::of(&CLUSTERS[0]));
+    text.push_str(&widths::text());
     text
 }
 
-fn conversions() -> String {
-    let passwords = CLUSTERS.iter().map(|cluster| cluster.read);
-    let pairs = passwords.flat_map(|password| PARAMETERS.map(|parameter| (password, parameter)));
-    let line = |(password, parameter)| {
-        let outcome = encode(&convert(&password, parameter));
-        let password = encode(&password);
-        format!("conversion password={password} parameter={parameter:02x} outcome={outcome}\n")
-    };
-    "\n# Conversion by itself.\n".to_string() + &pairs.map(line).collect::<String>()
+/// As many hexadecimal digits as the parameters and masks of these widths have.
+fn digits(width: Width, number: u16) -> String {
+    match width == Width::Eight && number <= width.flat() {
+        true => format!("{number:02x}"),
+        false => format!("{number:04x}"),
+    }
 }
 
-/// The primary handle of one mode and all that is made from it.
+fn conversions(clusters: &[Cluster], parameters: &[u16]) -> String {
+    let pairs = clusters.iter().flat_map(|cluster| {
+        parameters
+            .iter()
+            .map(move |parameter| (cluster, *parameter))
+    });
+    let line = |(cluster, parameter): (&Cluster, u16)| {
+        let outcome = encode(&convert(&cluster.read, parameter));
+        let (password, parameter) = (encode(&cluster.read), digits(cluster.width, parameter));
+        format!("conversion password={password} parameter={parameter} outcome={outcome}\n")
+    };
+    pairs.map(line).collect()
+}
+
+/// The primary handle of each mode and all that is made from it.
+fn families(cluster: &Cluster) -> String {
+    family(cluster, "read", &cluster.read) + &family(cluster, "write", &cluster.write)
+}
+
 fn family(cluster: &Cluster, mode: &'static str, primary: &Password) -> String {
-    let handle = Handle::primary(cluster.node, cluster.local, *primary);
+    let handle = cluster.primary(*primary);
     let family = Family { mode, primary };
     let mut text = format!(
         "\n# Cluster {}, to {mode}.\nprimary {} node={:04x} local={:02x} handle={} count={}\n",
@@ -103,7 +122,7 @@ fn family(cluster: &Cluster, mode: &'static str, primary: &Password) -> String {
         encode(&handle.to_bytes()),
         handle.selector.count()
     );
-    for masks in PATHS {
+    for masks in paths(cluster.width) {
         text.push_str(&family.weakenings(handle, masks));
     }
     text.push_str(&joins::of(&family, handle));
@@ -122,14 +141,23 @@ impl Family<'_> {
     }
 
     /// Each weakening, and each of its outcomes reduced.
-    fn weakenings(&self, mut handle: Handle, masks: &[u8]) -> String {
-        let mut text = format!("# Masks {}.\n", encode(masks));
+    fn weakenings(&self, mut handle: Handle, masks: &[u16]) -> String {
+        let all: Vec<String> = masks
+            .iter()
+            .map(|mask| digits(handle.width(), *mask))
+            .collect();
+        let between = match all.iter().all(|digits| digits.len() == 2) {
+            true => "",
+            false => " ",
+        };
+        let mut text = format!("# Masks {}.\n", all.join(between));
         for &mask in masks {
             let Some(weaker) = handle.weaken(mask) else {
                 text.push_str(&refused(&handle, mask));
                 break;
             };
-            let weakened = format!("weakened {} mask={mask:02x}", self.secret());
+            let shown = digits(handle.width(), mask);
+            let weakened = format!("weakened {} mask={shown}", self.secret());
             let reduced = format!("reduced {}", self.secret());
             text.push_str(&outcome(&weakened, &handle, &weaker));
             text.push_str(&outcome(&reduced, &weaker, &weaker.reduce(self.primary)));
@@ -140,75 +168,19 @@ impl Family<'_> {
 }
 
 /// A weakening that is refused: its kind is the number's word.
-fn refused(old: &Handle, mask: u8) -> String {
+fn refused(old: &Handle, mask: u16) -> String {
     let number = match old.kept(mask) {
         0 => EMPTY,
         _ => SPENT,
     };
     let kind = word(number).expect("the number is of the table");
+    let mask = digits(old.width(), mask);
     let old = encode(&old.to_bytes());
-    format!("{kind} old={old} mask={mask:02x} number={number}\n")
+    format!("{kind} old={old} mask={mask} number={number}\n")
 }
 
 fn outcome(what: &str, old: &Handle, new: &Handle) -> String {
     let count = new.selector.count();
     let (old, new) = (encode(&old.to_bytes()), encode(&new.to_bytes()));
     format!("{what} old={old} new={new} count={count}\n")
-}
-
-/// Handles of one active cluster with the number that validating them gives in each mode.
-fn validations(cluster: &Cluster) -> String {
-    let mut text = format!("\n# Validation by itself, cluster {}.\n", cluster.name);
-    for handle in right_and_wrong(cluster) {
-        text.push_str(&validation("read", &cluster.read, &handle));
-        text.push_str(&validation("write", &cluster.write, &handle));
-    }
-    text
-}
-
-/// Four handles that open something; then some made from them by changing one part.
-fn right_and_wrong(cluster: &Cluster) -> Vec<Handle> {
-    let reader = Handle::primary(cluster.node, cluster.local, cluster.read);
-    let writer = Handle::primary(cluster.node, cluster.local, cluster.write);
-    let weaker = reader.weaken(0x7d).and_then(|handle| handle.weaken(0x30));
-    let weaker = weaker.expect("two subselectors are flat");
-    let mut handles = vec![reader, writer, weaker, weaker.reduce(&cluster.read)];
-
-    let [first, second, ..] = weaker.selector.0;
-    let selectors = [
-        [second, first, FLAT, FLAT],
-        [first, FLAT, FLAT, FLAT],
-        [weaker.selector.referenced(), FLAT, FLAT, FLAT],
-        [FLAT; SUBSELECTORS],
-        [first, FLAT, second, FLAT],
-        [FLAT, first, second, FLAT],
-    ];
-    handles.extend(selectors.map(|selector| with_selector(weaker, selector)));
-    let mut flipped = weaker.password;
-    flipped[PASSWORD_BYTES - 1] ^= 1;
-    handles.push(with_password(weaker, flipped));
-    handles.push(with_password(reader, convert(&cluster.read, FLAT)));
-    handles
-}
-
-fn with_selector(mut handle: Handle, selector: [u8; SUBSELECTORS]) -> Handle {
-    handle.selector = Selector(selector);
-    handle
-}
-
-fn with_password(mut handle: Handle, password: Password) -> Handle {
-    handle.password = password;
-    handle
-}
-
-fn validation(mode: &str, primary: &Password, handle: &Handle) -> String {
-    let number = if handle.selector.is_gapped() {
-        GAPPED
-    } else if handle.validates(primary) {
-        DONE
-    } else {
-        VIOLATED_PROTECTION
-    };
-    let (primary, handle) = (encode(primary), encode(&handle.to_bytes()));
-    format!("validation mode={mode} primary={primary} handle={handle} number={number}\n")
 }

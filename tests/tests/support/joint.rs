@@ -1,29 +1,42 @@
-//! Joins with every set of faults, each of them to the first handle, to the second or to both: what each has to be
-//! refused with is known from the set alone.
+//! Joins with every set of faults, each of them to the first handle, to the second or to both, at one width or another:
+//! what each has to be refused with is known from the set alone.
 #![allow(dead_code)] // each test file uses its own part
 
+use super::{cut, others};
 use model::call::Call;
-use model::handle::{Handle, Password, Selector};
+use model::handle::{Handle, HandleBytes, Password, Selector, Width};
 use model::sizes::MEMORY_BYTES;
 use model::store::{Cluster, Mode, Segment, Store};
 
 /// The cluster that the first handle names, where that is a place.
 pub const NODE: u16 = 2;
 pub const LOCAL: u8 = 6;
-/// What the two reference together where nothing is wrong: segments 0 to 2, and 3 and 4.
-pub const UNION: u8 = 0x1f;
+/// What the two reference together where nothing is wrong: all segments but the last.
+pub fn union(width: Width) -> u16 {
+    width.flat() >> 1
+}
 
 const READ: Password = [0x11; 16];
 const WRITE: Password = [0x22; 16];
 
-/// Selectors of the two: the first pair is not whole, the others are.
-const SELECTORS: [[[u8; 4]; 2]; 5] = [
-    [[0x07, 255, 255, 255], [0x7e, 0x99, 255, 255]],
-    [[0x0f, 0x37, 255, 255], [0xf8, 255, 255, 255]],
-    [[255; 4], [0x7e, 0x99, 255, 255]],
-    [[0x07, 255, 255, 255], [255; 4]],
-    [[255; 4]; 2],
-];
+const PAIRS: usize = 5;
+
+/// Subselectors of the two: the first pair is not whole, the others are.
+fn pairs(width: Width) -> [[[u16; 4]; 2]; PAIRS] {
+    let flat = width.flat();
+    let (all, one) = ([flat; 4], [0b0011, flat, flat, flat]);
+    let two = [flat - 1, union(width), flat, flat];
+    [
+        [one, two],
+        [
+            [flat - 1, flat, flat, flat],
+            [flat - 2, union(width), flat, flat],
+        ],
+        [all, two],
+        [one, all],
+        [all; 2],
+    ]
+}
 
 /// How the second handle's name differs, and which of the two clusters are inactive: bit 0 stands for the first, bit 1
 /// for the second.
@@ -40,8 +53,8 @@ const NAMES: [((u16, u8), usize); 10] = [
     ((0, 1), 3),
 ];
 
-/// How many ways there are for: 1, 2, 3, 4, the names, 9, the selectors, the mode.
-const WAYS: [usize; 8] = [2, 4, 2, 4, NAMES.len(), 4, SELECTORS.len(), 2];
+/// How many ways there are for: 25, 1, 2, 3, 4, the names, 25 again, 9, the selectors, the mode.
+const WAYS: [usize; 10] = [4, 2, 4, 2, 4, NAMES.len(), 4, 4, PAIRS, 2];
 
 /// A join, and what it is put to.
 #[derive(Debug)]
@@ -50,6 +63,8 @@ pub struct Joint {
     pub store: Store,
     pub memory_bytes: usize,
     pub call: Call,
+    /// That of the clusters.
+    pub width: Width,
     /// The primary password of the mode.
     pub primary: Password,
 }
@@ -61,7 +76,7 @@ impl Joint {
     }
 }
 
-/// The first is one that is done.
+/// The first is one that is done. Each set of faults is there once, at one of the widths.
 pub fn all() -> impl Iterator<Item = Joint> {
     (0..WAYS.iter().product()).map(|at| {
         let mut rest = at;
@@ -70,39 +85,48 @@ pub fn all() -> impl Iterator<Item = Joint> {
             rest /= ways;
             choice
         });
-        with(choices)
+        with(choices, Width::ALL[at % 3])
     })
 }
 
-fn with(choices: [usize; 8]) -> Joint {
-    let [unsound, nowhere, field, gapped, names, violated, selectors, write] = choices;
+fn with(choices: [usize; 10], width: Width) -> Joint {
+    let [cut_off, unsound, nowhere, field, gapped, names, wide, violated, selectors, write] =
+        choices;
     let ((more_nodes, more_locals), inactive) = NAMES[names];
     let apart = NAMES[names].0 != (0, 0);
     let applying = [
+        (cut_off, 25),
         (unsound, 1),
         (nowhere, 2),
         (field, 3),
         (gapped, 4),
         (usize::from(apart), 24),
         (inactive, 8),
+        (wide, 25),
         (violated, 9),
         (selectors, 23),
     ];
     let mode = [Mode::Read, Mode::Write][write];
     let places = [(NODE, LOCAL), (NODE + more_nodes, LOCAL + more_locals)];
-    let store = store(places, inactive);
-    let handle = |at: usize| {
+    let store = store(places, width, inactive);
+    let handle = |at: usize| -> HandleBytes {
         let has = |fault: usize| fault >> at & 1 == 1;
         let (node, local) = places[at];
         let cluster = &store.clusters[usize::from(node)][usize::from(local)];
+        let other = others(width).nth((selectors + write) % 2);
+        let own = other.filter(|_| has(wide)).unwrap_or(width);
         let selector = match has(gapped) {
-            true => Selector([255, SELECTORS[0][at][0], 255, 255]),
-            false => Selector(SELECTORS[selectors][at]),
+            true => [own.flat(), pairs(own)[0][at][0], own.flat(), own.flat()],
+            false => pairs(own)[selectors][at],
         };
+        let selector = Selector::new(own, selector);
         let mut handle = Handle::converted(node, local, cluster.primary(mode), selector);
         handle.password[15] ^= u8::from(has(violated));
         handle.node += 4 * u16::from(has(nowhere));
-        handle
+        match has(cut_off) {
+            true => cut(handle, choices.iter().sum()),
+            false => handle.into(),
+        }
     };
     Joint {
         faults: applying
@@ -116,6 +140,7 @@ fn with(choices: [usize; 8]) -> Joint {
             handle: handle(0),
             other: handle(1),
         },
+        width,
         primary: [READ, WRITE][write],
         store,
     }
@@ -123,23 +148,24 @@ fn with(choices: [usize; 8]) -> Joint {
 
 /// Both places are active but for those that are not to be; the passwords are the same everywhere, so that the names
 /// alone tell the clusters from one another.
-fn store(places: [(u16, u8); 2], inactive: usize) -> Store {
+fn store(places: [(u16, u8); 2], width: Width, inactive: usize) -> Store {
     let mut store = Store::starting();
-    store.clusters[0][0] = active();
-    store.clusters[0][0].segments[7] = Segment::present(0, 9).marked();
+    store.clusters[0][0] = active(width);
+    store.clusters[0][0].segments[3] = Segment::present(0, 9).marked();
     for (at, (node, local)) in places.into_iter().enumerate() {
         let cluster = &mut store.clusters[usize::from(node)][usize::from(local)];
         if inactive >> at & 1 == 0 {
-            *cluster = active();
+            *cluster = active(width);
             cluster.segments[0] = Segment::present(at as u16, 1);
         }
     }
     store
 }
 
-fn active() -> Cluster {
+fn active(width: Width) -> Cluster {
     Cluster {
         active: true,
+        width: width.number(),
         read: READ,
         write: WRITE,
         ..Cluster::INACTIVE

@@ -2,11 +2,14 @@
 #![allow(dead_code)] // each test file uses its own part
 
 use model::call::{Call, Reply};
-use model::handle::{Handle, Password};
+use model::handle::{Handle, HandleBytes, Password, Selector, Width};
 use model::model::run;
 use model::sizes::{MEMORY_BYTES, NODE_BYTES};
 use model::store::Store;
+use std::borrow::Borrow;
+use std::ops::Range;
 
+pub mod every;
 pub mod faults;
 pub mod joint;
 pub mod naive;
@@ -34,41 +37,63 @@ impl Bench {
 
     /// Cluster 2 of node 0 is active; its handles are [`reader`] and [`writer`].
     pub fn with_cluster() -> Bench {
-        let mut bench = Bench::starting();
-        assert_eq!(bench.number(new_cluster(0, 2)), 0);
-        bench
+        Bench::with_cluster_of(Width::Eight)
     }
 
     /// Its segment 5 is there too, and says "abcd".
     pub fn with_segment() -> Bench {
-        let mut bench = Bench::with_cluster();
-        assert_eq!(bench.number(new_segment(5, 4)), 0);
-        assert_eq!(bench.write(5, b"abcd", writer()), 0);
+        Bench::with_segment_of(Width::Eight)
+    }
+
+    /// The same cluster with another width; its handles are [`reader_of`] and [`writer_of`].
+    pub fn with_cluster_of(width: Width) -> Bench {
+        let mut bench = Bench::starting();
+        assert_eq!(bench.number(new_cluster_of(width, 0, 2)), 0);
         bench
     }
 
-    pub fn ask(&mut self, call: Call, buffer: &mut [u8]) -> Reply {
-        run(&mut self.store, &mut self.memory, buffer, &call)
+    /// Its segment [`own`] says "abcd".
+    pub fn with_segment_of(width: Width) -> Bench {
+        let mut bench = Bench::with_cluster_of(width);
+        assert_eq!(bench.number(new_segment_of(width, own(width), 4)), 0);
+        assert_eq!(bench.write(own(width), b"abcd", writer_of(width)), 0);
+        bench
+    }
+
+    pub fn ask(&mut self, call: impl Borrow<Call>, buffer: &mut [u8]) -> Reply {
+        run(&mut self.store, &mut self.memory, buffer, call.borrow())
     }
 
     /// The number of a call with a buffer that nothing is too long for.
-    pub fn number(&mut self, call: Call) -> u8 {
+    pub fn number(&mut self, call: impl Borrow<Call>) -> u8 {
         self.reply(call).number
     }
 
-    pub fn reply(&mut self, call: Call) -> Reply {
+    pub fn reply(&mut self, call: impl Borrow<Call>) -> Reply {
         self.ask(call, &mut [0; NODE_BYTES])
     }
 
-    pub fn write(&mut self, segment: u32, data: &[u8], handle: Handle) -> u8 {
-        self.ask(Call::Write { segment, handle }, &mut data.to_vec())
-            .number
+    pub fn write(&mut self, segment: u32, data: &[u8], handle: impl Into<HandleBytes>) -> u8 {
+        self.ask(
+            Call::Write {
+                segment,
+                handle: handle.into(),
+            },
+            &mut data.to_vec(),
+        )
+        .number
     }
 
     /// The bytes of a segment, or the number of the refusal.
-    pub fn read(&mut self, segment: u32, handle: Handle) -> Result<Vec<u8>, u8> {
+    pub fn read(&mut self, segment: u32, handle: impl Into<HandleBytes>) -> Result<Vec<u8>, u8> {
         let mut buffer = vec![0xee; NODE_BYTES];
-        let reply = self.ask(Call::Read { segment, handle }, &mut buffer);
+        let reply = self.ask(
+            Call::Read {
+                segment,
+                handle: handle.into(),
+            },
+            &mut buffer,
+        );
         let (told, rest) = buffer.split_at(reply.length as usize);
         assert!(rest.iter().all(|&byte| byte == 0xee));
         match reply.number {
@@ -79,14 +104,19 @@ impl Bench {
 
     /// The bytes that a look shows, or the number of the refusal. It changes nothing, not even a
     /// buffer beside it, and gives nothing but the part.
-    pub fn look(&mut self, node: u32, segment: u32, handle: Handle) -> Result<Vec<u8>, u8> {
+    pub fn look(
+        &mut self,
+        node: u32,
+        segment: u32,
+        handle: impl Into<HandleBytes>,
+    ) -> Result<Vec<u8>, u8> {
         let (before, mut buffer) = (self.clone(), [0xee; 3]);
         let call = Call::Look {
             node,
             segment,
-            handle,
+            handle: handle.into(),
         };
-        let reply = self.ask(call, &mut buffer);
+        let reply = self.ask(&call, &mut buffer);
         assert!(*self == before && buffer == [0xee; 3], "{call:?}");
         let shown = reply.shown;
         let number = reply.number;
@@ -109,60 +139,120 @@ impl Bench {
     }
 }
 
+/// A selector of width 8.
+pub fn eight(subselectors: [u16; 4]) -> Selector {
+    Selector::new(Width::Eight, subselectors)
+}
+
+/// The segment of [`Bench::with_segment_of`]: 1, 5 or 13.
+pub fn own(width: Width) -> u32 {
+    u32::from(width.number()) - 3
+}
+
+/// The numbers of the segments that a cluster of this width has.
+pub fn segments(width: Width) -> Range<u32> {
+    0..u32::from(width.number())
+}
+
+/// The other two.
+pub fn others(width: Width) -> impl Iterator<Item = Width> {
+    Width::ALL.into_iter().filter(move |other| *other != width)
+}
+
+/// Lengths that no handle has.
+pub const WRONG: [usize; 12] = [0, 1, 2, 19, 20, 22, 24, 25, 26, 28, 31, 46];
+
+/// The bytes of a handle with such a length: cut, or with bytes after them.
+pub fn cut(handle: Handle, choice: usize) -> HandleBytes {
+    let mut bytes = handle.to_bytes();
+    bytes.resize(WRONG[choice % WRONG.len()], 0xff);
+    bytes
+}
+
 pub fn reader() -> Handle {
-    Handle::primary(0, 2, READ_SECRET)
+    reader_of(Width::Eight)
 }
 
 pub fn writer() -> Handle {
-    Handle::primary(0, 2, WRITE_SECRET)
+    writer_of(Width::Eight)
+}
+
+pub fn reader_of(width: Width) -> Handle {
+    Handle::primary(width, 0, 2, READ_SECRET)
+}
+
+pub fn writer_of(width: Width) -> Handle {
+    Handle::primary(width, 0, 2, WRITE_SECRET)
+}
+
+/// The handle that a reply gives.
+pub fn given(reply: &Reply) -> Handle {
+    Handle::from_bytes(&reply.first).expect("it has a width")
 }
 
 pub fn new_cluster(node: u32, local: u32) -> Call {
+    new_cluster_of(Width::Eight, node, local)
+}
+
+pub fn new_cluster_of(width: Width, node: u32, local: u32) -> Call {
     Call::NewCluster {
         node,
         local,
+        width: width.segments(),
         read: READ_SECRET,
         write: WRITE_SECRET,
     }
 }
 
 pub fn new_segment(segment: u32, size: u32) -> Call {
+    new_segment_of(Width::Eight, segment, size)
+}
+
+pub fn new_segment_of(width: Width, segment: u32, size: u32) -> Call {
     Call::NewSegment {
         node: 0,
         segment,
         size,
-        handle: writer(),
+        handle: writer_of(width).into(),
     }
 }
 
 pub fn delete_segment(segment: u32) -> Call {
+    delete_segment_of(Width::Eight, segment)
+}
+
+pub fn delete_segment_of(width: Width, segment: u32) -> Call {
     Call::DeleteSegment {
         node: 0,
         segment,
-        handle: writer(),
+        handle: writer_of(width).into(),
     }
 }
 
 pub fn freeze(segment: u32) -> Call {
+    freeze_of(Width::Eight, segment)
+}
+
+pub fn freeze_of(width: Width, segment: u32) -> Call {
     Call::Freeze {
         node: 0,
         segment,
-        handle: writer(),
+        handle: writer_of(width).into(),
     }
 }
 
-pub fn renew(mode: u32, handle: Handle, password: Password) -> Call {
+pub fn renew(mode: u32, handle: impl Into<HandleBytes>, password: Password) -> Call {
     Call::NewPassword {
         mode,
-        handle,
+        handle: handle.into(),
         password,
     }
 }
 
-pub fn join(mode: u32, handle: Handle, other: Handle) -> Call {
+pub fn join(mode: u32, handle: impl Into<HandleBytes>, other: impl Into<HandleBytes>) -> Call {
     Call::Join {
         mode,
-        handle,
-        other,
+        handle: handle.into(),
+        other: other.into(),
     }
 }

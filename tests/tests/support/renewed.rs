@@ -1,9 +1,10 @@
-//! New passwords with every set of faults, in either mode, where the cluster's two passwords differ and where they are
-//! equal: what each has to be refused with is known from the set alone.
+//! New passwords with every set of faults, in either mode and at each width, where the cluster's two passwords differ
+//! and where they are equal: what each has to be refused with is known from the set alone.
 #![allow(dead_code)] // each test file uses its own part
 
+use super::{cut, others};
 use model::call::Call;
-use model::handle::{Handle, Password, Selector};
+use model::handle::{Handle, Password, Selector, Width};
 use model::sizes::MEMORY_BYTES;
 use model::store::{Cluster, Mode, Segment, Store};
 
@@ -16,8 +17,9 @@ const OTHER: Password = [0x22; 16];
 /// Neither of the cluster's, but both of another's.
 const THIRD: Password = [0x33; 16];
 
-/// How many ways there are for: 1, 2, 3, 4, 8, 9, 10, the new password, the mode, the other mode's password.
-const WAYS: [usize; 10] = [2, 2, 2, 2, 2, 2, 2, 3, 2, 2];
+/// How many ways there are for: 25, 1, 2, 3, 4, 8, 25 again, 9, 10, the new password, the mode, the other mode's
+/// password, the width.
+const WAYS: [usize; 13] = [2, 2, 2, 2, 2, 2, 2, 2, 2, 3, 2, 2, 3];
 
 /// A new password, and what it is put to.
 #[derive(Debug)]
@@ -27,6 +29,7 @@ pub struct Renewed {
     pub memory_bytes: usize,
     pub call: Call,
     pub mode: Mode,
+    pub width: Width,
     pub password: Password,
 }
 
@@ -38,7 +41,7 @@ impl Renewed {
 
     /// The primary handle that it gives where it is done.
     pub fn given(&self) -> Handle {
-        Handle::primary(NODE, LOCAL, self.password)
+        Handle::primary(self.width, NODE, LOCAL, self.password)
     }
 }
 
@@ -55,38 +58,51 @@ pub fn all() -> impl Iterator<Item = Renewed> {
     })
 }
 
-fn with(choices: [usize; 10]) -> Renewed {
-    let [unsound, nowhere, field, gapped, inactive, violated, weaker, chosen, write, equal] =
+fn with(choices: [usize; 13]) -> Renewed {
+    let [cut_off, unsound, nowhere, field, gapped, inactive, wide, violated, weaker, rest @ ..] =
         choices;
+    let [chosen, write, equal, at] = rest;
     let other = [OTHER, OWN][equal];
     let password = [THIRD, other, OWN][chosen];
     let applying = [
+        (cut_off, 25),
         (unsound, 1),
         (nowhere, 2),
         (field, 3),
         (gapped, 4),
         (inactive, 8),
+        (wide, 25),
         (violated, 9),
         (weaker, 10),
         (usize::from(password == OWN), 12),
     ];
-    let mode = [Mode::Read, Mode::Write][write];
+    let (mode, width) = ([Mode::Read, Mode::Write][write], Width::ALL[at]);
+    let mut own = others(width).chain([width]);
+    let own = match wide {
+        1 => own.nth(chosen % 2).expect("there are two"),
+        _ => width,
+    };
+    let (flat, some) = (own.flat(), own.flat() - 9);
     let selector = match (gapped, weaker) {
-        (1, _) => Selector([255, 0x7e, 255, 255]),
-        (_, 1) => Selector([0x7e, 255, 255, 255]),
-        _ => Selector::PRIMARY,
+        (1, _) => Selector::new(own, [flat, some, flat, flat]),
+        (_, 1) => Selector::new(own, [some, flat, flat, flat]),
+        _ => Selector::primary(own),
     };
     let mut handle = Handle::converted(NODE, LOCAL, &OWN, selector);
     handle.password[15] ^= u8::from(violated == 1);
     handle.local -= u8::from(inactive == 1);
     handle.node += 4 * u16::from(nowhere == 1);
+    let handle = match cut_off {
+        1 => cut(handle, choices.iter().sum()),
+        _ => handle.into(),
+    };
     Renewed {
         faults: applying
             .iter()
             .filter(|(fault, _)| *fault != 0)
             .map(|(_, number)| *number)
             .collect(),
-        store: store(mode, other),
+        store: store(mode, width, other),
         memory_bytes: MEMORY_BYTES - unsound,
         call: Call::NewPassword {
             mode: [1, 2, 0, 3][2 * field + write],
@@ -94,14 +110,16 @@ fn with(choices: [usize; 10]) -> Renewed {
             password,
         },
         mode,
+        width,
         password,
     }
 }
 
 /// The cluster beside it has the same passwords, and cluster 0 of node 0 has the third in both modes.
-fn store(mode: Mode, other: Password) -> Store {
+fn store(mode: Mode, width: Width, other: Password) -> Store {
     let active = Cluster {
         active: true,
+        width: width.number(),
         ..Cluster::INACTIVE
     };
     let mut own = active;

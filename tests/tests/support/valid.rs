@@ -1,22 +1,39 @@
-//! Calls by handles that open the cluster they name.
+//! Calls by handles that open the cluster they name, and what comes of them.
 #![allow(dead_code)] // each test file uses its own part
 
 use super::{renew, Bench, READ_MODE, WRITE_MODE};
-use model::call::Call;
-use model::handle::{Handle, Password};
+use model::call::{Call, Reply};
+use model::handle::{Handle, Password, Width};
 use model::random::Random;
-use model::store::Mode;
+use model::store::{Mode, Segment};
+use std::ops::Range;
+
+/// One of the three.
+pub fn any_width(random: &mut Random) -> Width {
+    Width::ALL[random.below(3) as usize]
+}
 
 /// A call about cluster 0 or 1 of node 0, by a handle that opens it; few segments and small sizes, so that calls
-/// meet. A new password is often the other mode's, so that one handle opens both.
+/// meet. A new password is often the other mode's, so that one handle opens both. Now and then the handle has another
+/// width, and opens nothing.
 pub fn valid_call(random: &mut Random, bench: &Bench) -> Call {
     let local = random.below(2) as u8;
     let cluster = bench.store.clusters[0][usize::from(local)];
-    let primary = |mode| Handle::primary(0, local, *cluster.primary(mode));
+    let any = any_width(random);
+    let known = cluster.known_width().filter(|_| !random.one_in(25));
+    let width = known.unwrap_or(any);
+    let primary = |mode| Handle::primary(width, 0, local, *cluster.primary(mode));
     let (reader, handle) = (primary(Mode::Read), primary(Mode::Write));
-    let weaker = handle.weaken(random.byte() | 1).expect("all are flat");
-    let other = handle.weaken(random.byte() | 2).expect("all are flat");
-    let (node, segment, mode) = (0, random.below(4) as u32, WRITE_MODE);
+    let mut mask = || random.number() as u16;
+    let weaker = handle.weaken(mask() | 1).expect("all are flat");
+    let other = handle.weaken(mask() | 2).expect("all are flat");
+    let mask = mask();
+    let (node, mode) = (0, WRITE_MODE);
+    // One of the first three, or the last.
+    let segment = match random.below(4) as u32 {
+        3 => u32::from(width.number()) - 1,
+        first => first,
+    };
     let password: Password = random.bytes();
     let [read, write] = [cluster.write, cluster.read].map(|other| match random.one_in(2) {
         true => other,
@@ -25,21 +42,36 @@ pub fn valid_call(random: &mut Random, bench: &Bench) -> Call {
     let size = 1 + random.below(40) as u32;
     #[rustfmt::skip]
     let call = match random.below(42) {
-        0..=3 => Call::NewCluster { node, local: local.into(), read: random.bytes(), write: password },
-        4..=7 => Call::DeleteCluster { node, handle },
-        8..=17 => Call::NewSegment { node, segment, size, handle },
-        18..=23 => Call::DeleteSegment { node, segment, handle },
-        24..=29 => Call::Write { segment, handle },
-        30 | 31 => Call::Write { segment, handle: weaker },
+        0..=3 => Call::NewCluster { node, local: local.into(), width: any.segments(), read: random.bytes(), write: password },
+        4..=7 => Call::DeleteCluster { node, handle: handle.into() },
+        8..=17 => Call::NewSegment { node, segment, size, handle: handle.into() },
+        18..=23 => Call::DeleteSegment { node, segment, handle: handle.into() },
+        24..=29 => Call::Write { segment, handle: handle.into() },
+        30 | 31 => Call::Write { segment, handle: weaker.into() },
         32 => renew(WRITE_MODE, handle, write),
         33 => renew(READ_MODE, reader, read),
-        34 => Call::Reduce { mode, handle: weaker },
-        35 => Call::Weaken { mask: random.byte(), handle },
-        36 => Call::Read { segment, handle: reader },
-        37 => Call::Look { node, segment, handle: reader },
-        38 => Call::Validate { mode, handle },
-        39 => Call::Join { mode, handle: weaker, other },
-        _ => Call::Freeze { node, segment, handle },
+        34 => Call::Reduce { mode, handle: weaker.into() },
+        35 => Call::Weaken { mask, handle: handle.into() },
+        36 => Call::Read { segment, handle: reader.into() },
+        37 => Call::Look { node, segment, handle: reader.into() },
+        38 => Call::Validate { mode, handle: handle.into() },
+        39 => Call::Join { mode, handle: weaker.into(), other: other.into() },
+        _ => Call::Freeze { node, segment, handle: handle.into() },
     };
     call
+}
+
+/// Where the segments of a cluster of node 0 are.
+pub fn parts(state: &Bench, local: usize) -> Vec<Range<usize>> {
+    let segments = state.store.clusters[0][local].segments.iter();
+    let extents = segments.filter_map(Segment::extent);
+    extents.map(|extent| extent.in_memory(0)).collect()
+}
+
+/// The reply, the buffer afterwards, and the bytes that a look shows.
+pub fn answer(state: &mut Bench, call: &Call, data: &[u8]) -> (Reply, Vec<u8>, Vec<u8>) {
+    let mut buffer = data.to_vec();
+    let reply = state.ask(call, &mut buffer);
+    let shown = reply.shown.of(&state.memory).expect("a part of it");
+    (reply, buffer, shown.to_vec())
 }

@@ -14,10 +14,9 @@ use Prim.Native.Nat.{ℕ, _+_, _≤_}
 use mathlib.Core.Bool.{Bool, false, not}
 use mathlib.Core.List.{List, [], _∷_, _++_}
 use lib.Dec.{leb, ltb}
-use Rattle.sizes.specs.Sizes.{segments}
 use Rattle.handle.specs.declared.Handle.{Handle}
 use Rattle.handle.specs.Selectors.{references}
-use Rattle.handle.specs.Handles.{nodeOf, Row, firstOf}
+use Rattle.handle.specs.Handles.{nodeOf, widthOf, Row, firstOf}
 use Rattle.store.specs.declared.Place.{Place}
 use Rattle.store.specs.declared.Cluster.{Cluster}
 use Rattle.store.specs.Records.{baseOf, lengthOf, address}
@@ -30,14 +29,14 @@ reachRows h p i = row 11 (not (references (h .selector) i)) ∷ row 14 (isAbsent
 
 unfoldable pub reached : Bool → Handle → Cluster → Place → ℕ → Bool → Bool → ℕ → ℕ
 reached sound h c p i far away mode =
-    after (firstOf (sharedRows sound h c far (leb segments i) away mode)) (firstOf (reachRows h p i))
+    after (firstOf (sharedRows sound h c far (leb (widthOf h) i) away mode)) (firstOf (reachRows h p i))
 
 abbrev pub accessRows : Handle → Place → ℕ → Bool → ℕ → List Row
 accessRows h p i kept room = reachRows h p i ++ (row 22 kept ∷ row 15 (ltb room (lengthOf p)) ∷ [])
 
 unfoldable pub accessed : Bool → Handle → Cluster → Place → ℕ → Bool → ℕ → ℕ → ℕ
 accessed sound h c p i kept room mode =
-    after (firstOf (sharedRows sound h c false (leb segments i) false mode)) (firstOf (accessRows h p i kept room))
+    after (firstOf (sharedRows sound h c false (leb (widthOf h) i) false mode)) (firstOf (accessRows h p i kept room))
 
 abbrev pub partOf : Handle → Place → Part
 partOf h p =

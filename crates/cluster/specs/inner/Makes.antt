@@ -1,5 +1,5 @@
 -- What making a segment asks for, and what it leaves. Inner contracts cite these.
---     badFields segment size                 segment above 7; size 0 or above 4,096
+--     badFields h segment size               segment at or above the width of the handle h; size 0 or above 4,096
 --     makeRows ..                            the rows of call 3 but 16, from what they look at
 --     canMake, CanMake all node base size    a slice of that many bytes is whole, the node is one of the four, and the
 --                                            segment ends inside its memory: as a test, and as bounds
@@ -12,9 +12,9 @@ use mathlib.Core.Bool.{Bool, not, _&&_, _||_}
 use mathlib.Core.List.{List, [], _∷_, _++_}
 use lib.Dec.{eqb, leb, ltb}
 use lib.ListN.{replicate}
-use Rattle.sizes.specs.Sizes.{nodes, segments, nodeMemory, memory}
+use Rattle.sizes.specs.Sizes.{nodes, nodeMemory, memory}
 use Rattle.handle.specs.declared.Handle.{Handle}
-use Rattle.handle.specs.Handles.{Row}
+use Rattle.handle.specs.Handles.{widthOf, Row}
 use Rattle.store.specs.declared.Place.the-variants.{Present}
 use Rattle.store.specs.declared.Cluster.{Cluster}
 use Rattle.store.specs.Records.{tableOf, placeOf, withPlace, address}
@@ -22,12 +22,12 @@ use Rattle.store.specs.Sound.{isAbsent}
 use Rattle.calls.specs.Steps.{overwritten}
 use Rattle.refusals.specs.Rows.{row, ownerRows}
 
-abbrev pub badFields : ℕ → ℕ → Bool
-badFields segment size = leb segments segment || (eqb size 0 || ltb nodeMemory size)
+abbrev pub badFields : Handle → ℕ → ℕ → Bool
+badFields h segment size = leb (widthOf h) segment || (eqb size 0 || ltb nodeMemory size)
 
 abbrev pub makeRows : Bool → Handle → Cluster → ℕ → ℕ → ℕ → List Row
 makeRows sound h c current segment size =
-    ownerRows sound h c current (badFields segment size)
+    ownerRows sound h c current (badFields h segment size)
     ++ (row 13 (not (isAbsent (placeOf (tableOf c) segment))) ∷ [])
 
 unfoldable pub canMake : ℕ → ℕ → ℕ → ℕ → Bool

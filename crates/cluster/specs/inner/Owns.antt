@@ -5,9 +5,8 @@ use Prim.Native.Nat.{ℕ}
 use mathlib.Core.Bool.{Bool}
 use mathlib.Core.List.{[], _∷_}
 use lib.Dec.{leb}
-use Rattle.sizes.specs.Sizes.{segments}
 use Rattle.handle.specs.declared.Handle.{Handle}
-use Rattle.handle.specs.Handles.{firstOf}
+use Rattle.handle.specs.Handles.{widthOf, firstOf}
 use Rattle.store.specs.declared.Cluster.{Cluster}
 use Rattle.store.specs.Records.{tableOf, placeOf}
 use Rattle.store.specs.Sound.{isAbsent}
@@ -15,4 +14,4 @@ use Rattle.refusals.specs.Rows.{row, ownerRows, after}
 
 unfoldable pub ownSegment : Bool → Handle → Cluster → ℕ → ℕ → ℕ
 ownSegment sound h c current i =
-    after (firstOf (ownerRows sound h c current (leb segments i))) (firstOf (row 14 (isAbsent (placeOf (tableOf c) i)) ∷ []))
+    after (firstOf (ownerRows sound h c current (leb (widthOf h) i))) (firstOf (row 14 (isAbsent (placeOf (tableOf c) i)) ∷ []))

@@ -17,7 +17,7 @@ part-result-end c = search (needs, part-ends)
 
 returns : tie.Need-returns
 returns c =
-    let m = c .before .before .before .args .memory in
+    let m = c .before .before .before .before .args .memory in
     (search (needs, part-shown), part-lies _ _ _ _ (now m) _ (c .before .look-part .ensures) (ptr m))
 
 pub look-spec : {M : Type 1} → statement M

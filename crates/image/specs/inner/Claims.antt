@@ -1,15 +1,16 @@
 -- What the passes over an image's bytes work out, and how a node's map is left.
 --     zeros b                every byte of b is zero
---     placesIn b             the places that eight times five bytes hold
---     recordSound b map      73 bytes are those of a record, whose cluster is settled and whose segments are claimable in
+--     placesIn b             the places that sixteen times five bytes hold
+--     recordSound b map      114 bytes are those of a record, whose cluster is settled and whose segments are claimable in
 --                            their turns
---     SegmentClaimed, SegmentsClaimed, RecordClaimed    what is told of five bytes, of eight times five, of a record, and the
---                            map that is left; where a record is refused, nothing is said of the map
+--     SegmentClaimed, SegmentsClaimed    what is told of five bytes, and of so many times five, and the map that is left
+--     ActiveClaimed          the bytes of an active record at or above its width are zeros, and so many segments are claimed
+--     RecordClaimed          what is told of a record, and the map that is left; of one that is refused nothing is said
 -- Assumes nothing.
 use mathlib.Core.Path.{_≡_}
 use mathlib.Core.Bool.{Bool, true, _&&_}
 use mathlib.Core.List.{List}
-use Prim.Native.Nat.{ℕ}
+use Prim.Native.Nat.{ℕ, _+_, _*_}
 use lib.Dec.{eqb}
 use lib.ListN.{length, getD}
 use Rattle.loops.specs.Below.{every}
@@ -18,7 +19,9 @@ use Rattle.store.specs.declared.Place.{Place}
 use Rattle.store.specs.Records.{tableOf, segmentOf, placeOf}
 use Rattle.store.specs.Sound.{settled}
 use Rattle.store.specs.inner.Passes.{Map, claimable, stamped, stampedBy, claims}
-use Rattle.image.specs.Images.{placeIn, segmentIn, segmentHeld, clusterIn, goodSegment, goodSegments, goodRecord}
+use Rattle.image.specs.Images.{placeIn, segmentIn, segmentHeld, clusterIn, goodSegment, goodRecord}
+use Rattle.image.specs.Images.{segmentBytes, recordBytes, segmentsAt}
+use Rattle.image.specs.Parts.{part, slot}
 
 unfoldable pub zeros : List ℕ → Bool
 zeros b = every (length b) (λ i. eqb (getD b i 0) 0)
@@ -33,9 +36,17 @@ pub record SegmentClaimed (b : List ℕ) (before : Map) (r : Bool) (after : Map)
   pub told : r ≡ goodSegment b && claimable (segmentIn b) before
   pub left : after ≡ stamped (placeIn b) before
 
-pub record SegmentsClaimed (b : List ℕ) (before : Map) (r : Bool) (after : Map) : Type 0 where
-  pub told : r ≡ goodSegments b && claims segments (segmentHeld b) before
-  pub left : after ≡ stampedBy segments (placesIn b) before
+pub record SegmentsClaimed (b : List ℕ) (count : ℕ) (before : Map) (r : Bool) (after : Map) : Type 0 where
+  pub told : r ≡ every count
+      (λ i. goodSegment (slot segmentBytes b i) && claimable (segmentHeld b i) (stampedBy i (placesIn b) before))
+  pub left : after ≡ stampedBy count (placesIn b) before
+
+pub record ActiveClaimed (b : List ℕ) (width : ℕ) (before : Map) (r : Bool) (after : Map) : Type 0 where
+  pub zero : Bool
+  pub claimed : Bool
+  pub told : r ≡ zero && claimed
+  pub above : zero ≡ zeros (part b (segmentsAt + width * segmentBytes) recordBytes)
+  pub turns : SegmentsClaimed (part b segmentsAt recordBytes) width before claimed after
 
 pub record RecordClaimed (b : List ℕ) (before : Map) (r : Bool) (after : Map) : Type 0 where
   pub told : r ≡ recordSound b before

@@ -6,7 +6,7 @@ use Rattle.measured.proofs.measured_weaken.Statement.{statement}
 use Rattle.measured.proofs.measured_weaken.Tie as tie
 
 returns : tie.Need-returns
-returns c = search (needs, weakened-number, weakened-bytes)
+returns c = (search (needs, weakened-number), search (needs, weakened-bytes))
 
 pub measured-weaken-spec : {M : Type 1} → statement M
 measured-weaken-spec =

@@ -99,6 +99,10 @@ fn new_passwords(task: &Task) -> Result<Vec<String>, String> {
         count.asked, count.done, count.old
     );
     println!(
+        "new passwords in two images, done for clusters of 4, 8 and 16: {:?}",
+        count.widths
+    );
+    println!(
         "new passwords in two images, done for reading and for writing: {:?} the other mode's, {:?} with the two equal in one image",
         count.guessed, count.equal
     );
@@ -119,6 +123,22 @@ fn edges(seed: u64) -> Result<(), String> {
     println!("freezes at the edges: {freezes}, {done} of them done");
     let (joins, done) = edges::joins(guard::ask, seed).map_err(named("edges of joins"))?;
     println!("joins at the edges: {joins}, {done} of them done");
+    edges_of_widths(seed)
+}
+
+fn edges_of_widths(seed: u64) -> Result<(), String> {
+    let (calls, done) = edges::lengths(guard::ask, seed).map_err(named("lengths of handles"))?;
+    println!("calls with handles of every length: {calls}, {done} of them done");
+    let (calls, done) = edges::segments(guard::ask, seed).map_err(named("segments by width"))?;
+    println!("calls by handles of every width, about every segment: {calls}, {done} of them done");
+    let (calls, done) = edges::masks(guard::ask, seed).map_err(named("masks"))?;
+    println!("weakenings by every mask: {calls}, {done} of them done");
+    let (calls, done) =
+        edges::new_clusters(guard::ask, seed).map_err(named("widths of new clusters"))?;
+    println!("new clusters of every width: {calls}, {done} of them done");
+    let batches =
+        batch::every_width(guard::validate_all, seed).map_err(named("widths of batches"))?;
+    println!("batches of every width: {batches}");
     Ok(())
 }
 
@@ -147,6 +167,10 @@ fn two_copies(task: &Task) -> Result<Vec<String>, String> {
     println!(
         "frozen in two copies: {} calls refused with 22, {} clusters set apart with some",
         count.frozen, count.frozen_apart
+    );
+    println!(
+        "widths in two copies: {:?} clusters set apart of 4, 8 and 16, {:?} calls refused for the width alone, {:?} done, {} handles of no length",
+        count.widths, count.other_width, count.by_width, count.no_length
     );
     println!(
         "passwords in two copies: {} clusters set apart with equal ones in one copy, {} guessed in one copy, {} made equal, {} calls by a handle of both modes",

@@ -1,14 +1,15 @@
 //! Looks and freezes by chance. What speaks against one of them seldom meets by itself, so that half of them
 //! are made from one that would be done: none, one or two things are made wrong in it.
 
-use super::handles::{self, gapped};
+use super::handles::{self, gapped, of_another_width, of_no_length};
 use super::questions::Maker;
-use super::{below, near};
+use super::stores::segments_of;
+use super::{below, bits, near};
 use crate::question::BEYOND;
 use model::call::Call;
-use model::handle::Handle;
+use model::handle::{Handle, HandleBytes};
 use model::random::Random;
-use model::sizes::{NODES, SEGMENTS};
+use model::sizes::NODES;
 use model::store::{Cluster, Mode, Segment, Store};
 
 /// What a call about one segment of a node is asked with.
@@ -16,6 +17,8 @@ struct Aimed {
     node: u32,
     segment: u32,
     handle: Handle,
+    /// False where it has to be asked with bytes of a length that no handle has.
+    has_length: bool,
 }
 
 /// In the order in which two of them are put into one call.
@@ -25,23 +28,27 @@ enum Fault {
     /// By a handle that is not primary either.
     NotReferenced,
     NotValid,
+    OtherWidth,
     Inactive,
     Elsewhere,
     Gapped,
     NoSegment,
     NoNode,
+    NoLength,
 }
 
 impl Fault {
-    const ALL: [Fault; 8] = [
+    const ALL: [Fault; 10] = [
         Fault::Absent,
         Fault::NotReferenced,
         Fault::NotValid,
+        Fault::OtherWidth,
         Fault::Inactive,
         Fault::Elsewhere,
         Fault::Gapped,
         Fault::NoSegment,
         Fault::NoNode,
+        Fault::NoLength,
     ];
 }
 
@@ -51,7 +58,7 @@ impl Maker<'_> {
         Call::Look {
             node: aimed.node,
             segment: aimed.segment,
-            handle: aimed.handle,
+            handle: aimed.bytes(self.random),
         }
     }
 
@@ -60,7 +67,7 @@ impl Maker<'_> {
         Call::Freeze {
             node: aimed.node,
             segment: aimed.segment,
-            handle: aimed.handle,
+            handle: aimed.bytes(self.random),
         }
     }
 
@@ -83,6 +90,7 @@ impl Maker<'_> {
         Aimed {
             node: self.current_node(&handle),
             segment: self.segment(&handle, present),
+            has_length: !self.random.one_in(16),
             handle,
         }
     }
@@ -90,7 +98,7 @@ impl Maker<'_> {
 
 /// The segments of a cluster that `fits` is true of.
 fn segments(cluster: &Cluster, fits: impl Fn(&Segment) -> bool) -> Vec<usize> {
-    let fitting = (0..SEGMENTS).filter(|&at| fits(&cluster.segments[at]));
+    let fitting = segments_of(cluster).filter(|&at| fits(&cluster.segments[at]));
     fitting.collect()
 }
 
@@ -99,19 +107,20 @@ fn right(random: &mut Random, store: &Store, mode: Mode) -> Option<Aimed> {
     let (node, local) = handles::place(random, store, Cluster::has_segments)?;
     let cluster = &store.clusters[node][local];
     let segment = *random.pick(&segments(cluster, Segment::is_present))?;
-    let mut handle = Handle::primary(node as u16, local as u8, *cluster.primary(mode));
+    let mut handle = handles::primary(store, (node, local), mode);
     let times = match mode {
         Mode::Read => random.below(3),
         Mode::Write => 0,
     };
     for _ in 0..times {
-        let mask = random.byte() | 1 << segment;
+        let mask = bits(random, handle.width()) | 1 << segment;
         handle = handle.weaken(mask).unwrap_or(handle);
     }
     Some(Aimed {
         node: node as u32,
         segment: segment as u32,
         handle,
+        has_length: true,
     })
 }
 
@@ -127,6 +136,13 @@ fn with_faults(random: &mut Random, store: &Store, mut aimed: Aimed) -> Aimed {
 }
 
 impl Aimed {
+    fn bytes(&self, random: &mut Random) -> HandleBytes {
+        match self.has_length {
+            true => self.handle.to_bytes(),
+            false => of_no_length(random, self.handle.to_bytes()),
+        }
+    }
+
     fn spoil(&mut self, random: &mut Random, store: &Store, fault: Fault) {
         let own = &store.clusters[usize::from(self.handle.node)][usize::from(self.handle.local)];
         match fault {
@@ -151,14 +167,19 @@ impl Aimed {
                 };
             }
             Fault::NotValid => self.handle.password = near(random, self.handle.password),
+            Fault::OtherWidth => self.handle = of_another_width(random, store, self.handle),
             Fault::Inactive => self.go_to_an_inactive_cluster(random, store),
             Fault::Elsewhere => {
                 let further = 1 + below(random, NODES - 1);
                 self.node = ((self.node as usize + further) % NODES) as u32;
             }
-            Fault::Gapped => self.handle.selector = gapped(random),
-            Fault::NoSegment => self.segment = above(random, self.segment, SEGMENTS),
+            Fault::Gapped => self.handle.selector = gapped(random, self.handle.width()),
+            Fault::NoSegment => {
+                let bound = self.handle.width().segments();
+                self.segment = above(random, self.segment, bound);
+            }
             Fault::NoNode => self.node = above(random, self.node, NODES),
+            Fault::NoLength => self.has_length = false,
         }
     }
 

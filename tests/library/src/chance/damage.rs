@@ -34,6 +34,15 @@ pub enum Damage {
     /// On a present segment.
     MarkTwo,
     MarkAbove,
+    /// An active cluster whose width is 0, and one whose width is another that is none of the three.
+    ActiveOfNoWidth,
+    ActiveOfAnotherWidth,
+    /// An inactive cluster with one of the three, and with another.
+    InactiveWithWidth,
+    InactiveWithAnotherWidth,
+    /// A segment is present, and its number is the width, or above it.
+    PresentAtTheWidth,
+    PresentAboveTheWidth,
     BaseAbove,
     LengthAbove,
     EndAbove,
@@ -52,7 +61,7 @@ pub enum Damage {
 }
 
 impl Damage {
-    pub const ALL: [Damage; 28] = [
+    pub const ALL: [Damage; 34] = [
         Damage::MemoryShort,
         Damage::MemoryLong,
         Damage::ActiveByteTwo,
@@ -70,6 +79,12 @@ impl Damage {
         Damage::AbsentWithMarkAbove,
         Damage::MarkTwo,
         Damage::MarkAbove,
+        Damage::ActiveOfNoWidth,
+        Damage::ActiveOfAnotherWidth,
+        Damage::InactiveWithWidth,
+        Damage::InactiveWithAnotherWidth,
+        Damage::PresentAtTheWidth,
+        Damage::PresentAboveTheWidth,
         Damage::BaseAbove,
         Damage::LengthAbove,
         Damage::EndAbove,

@@ -1,9 +1,10 @@
 //! What is wrong in the records of a damaged store.
 
-use super::below;
 use super::damage::Damage;
 use super::stores::{active, extents, gaps, present};
 use super::words::{self, Beside};
+use super::{below, width};
+use model::handle::Width;
 use model::random::Random;
 use model::sizes::{CLUSTERS, NODE_BYTES, PASSWORD_BYTES, SEGMENTS};
 use model::store::{Cluster, Extent, Segment, Store};
@@ -33,12 +34,20 @@ pub fn fault(
         }
         Damage::ActiveByteTwo | Damage::ActiveByteAbove => {}
         Damage::AbsentWithBase | Damage::AbsentWithMarkAbove => {
-            *segment_of(random, store, place, segment) = Segment::ABSENT;
+            activated(random, store, place).segments[segment] = Segment::ABSENT;
         }
         Damage::AbsentWithMark => {
-            *segment_of(random, store, place, segment) = Segment::ABSENT.marked();
+            activated(random, store, place).segments[segment] = Segment::ABSENT.marked();
         }
         Damage::MarkTwo | Damage::MarkAbove => present_somewhere(random, store, place, segment),
+        Damage::ActiveOfNoWidth => activated(random, store, place).width = 0,
+        Damage::ActiveOfAnotherWidth => {
+            let other = no_width(random);
+            activated(random, store, place).width = other;
+        }
+        Damage::PresentAtTheWidth | Damage::PresentAboveTheWidth => {
+            beyond_the_width(random, store, damage, place);
+        }
         _ => match sharing_words(random, damage) {
             Some(extents) => put_both(random, store, extents, place),
             None => inactive_with(random, store, damage, place, segment),
@@ -51,18 +60,69 @@ fn other_cluster(random: &mut Random, (node, local): (usize, usize)) -> (usize, 
     (node, (local + further) % CLUSTERS)
 }
 
-/// A segment of a cluster, which is made active if it was not.
-fn segment_of<'a>(
+/// The cluster, which is made active if it was not.
+fn activated<'a>(
     random: &mut Random,
     store: &'a mut Store,
     (node, local): (usize, usize),
-    segment: usize,
-) -> &'a mut Segment {
+) -> &'a mut Cluster {
     let cluster = &mut store.clusters[node][local];
     if !cluster.active {
         *cluster = active(random);
     }
+    cluster
+}
+
+/// A segment of a cluster, which is made active if it was not, and wide enough.
+fn segment_of<'a>(
+    random: &mut Random,
+    store: &'a mut Store,
+    place: (usize, usize),
+    segment: usize,
+) -> &'a mut Segment {
+    let cluster = activated(random, store, place);
+    if segment >= cluster.width.into() {
+        cluster.width = Width::Sixteen.number();
+    }
     &mut cluster.segments[segment]
+}
+
+/// A byte that is none of the three widths, and not 0.
+fn no_width(random: &mut Random) -> u8 {
+    loop {
+        let width = match random.below(4) {
+            0 => below(random, SEGMENTS + 2) as u8,
+            1 => 1 << random.below(8),
+            2 => [12, 20, 24, 28][below(random, 4)],
+            _ => random.byte(),
+        };
+        if width != 0 && Width::of_segments(width.into()).is_none() {
+            return width;
+        }
+    }
+}
+
+/// Makes a segment present whose number is not below the width, of one byte that no other has. Those that the cluster
+/// can have stay; one that has sixteen becomes smaller.
+fn beyond_the_width(random: &mut Random, store: &mut Store, damage: Damage, place: (usize, usize)) {
+    let base = store.place(place.0, 1).unwrap_or(0);
+    make_room(store, place.0, Extent { base, length: 1 });
+    let frozen = random.one_in(4);
+    let smaller = [Width::Four, Width::Eight][below(random, 2)];
+    let cluster = activated(random, store, place);
+    if cluster.has_width(Width::Sixteen) {
+        cluster.width = smaller.number();
+        cluster.segments[smaller.segments()..].fill(Segment::ABSENT);
+    }
+    let width = usize::from(cluster.width);
+    let segment = match damage {
+        Damage::PresentAtTheWidth => width,
+        _ => width + 1 + below(random, SEGMENTS - width - 1),
+    };
+    cluster.segments[segment] = Segment {
+        frozen,
+        ..present(base, 1)
+    };
 }
 
 /// Makes a segment present if it was not, of one byte.
@@ -222,6 +282,8 @@ fn inactive_with(
             cluster.segments[segment] = present(base, 1);
         }
         Damage::InactiveWithMark => cluster.segments[segment].frozen = true,
+        Damage::InactiveWithWidth => cluster.width = width(random).number(),
+        Damage::InactiveWithAnotherWidth => cluster.width = no_width(random),
         Damage::InactiveWithLastByte => cluster.segments[SEGMENTS - 1].frozen = true,
         _ => {}
     }

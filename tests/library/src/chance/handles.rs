@@ -1,11 +1,16 @@
-//! Handles by chance: right ones for the store as it is, old ones, and ones with something wrong.
+//! Handles by chance: right ones for the store as it is, old ones, and ones with something wrong, of every width.
 
-use super::{below, near, password};
+use super::{below, bit, bits, bytes, near, password, width};
 use model::generate::to_nothing;
-use model::handle::{Handle, Selector, FLAT};
+use model::handle::{derive, Handle, HandleBytes, Selector, Width};
 use model::random::Random;
 use model::sizes::{CLUSTERS, NODES, PASSWORD_BYTES, SUBSELECTORS};
 use model::store::{Cluster, Mode, Store};
+
+/// Bytes that are presented for a handle have at most so many.
+pub const MOST_BYTES: usize = 40;
+/// Lengths beside those that handles have.
+const NEAR_LENGTHS: [usize; 7] = [0, 20, 22, 24, 25, 26, 28];
 
 /// What the call that a handle is made for would like.
 #[derive(Clone, Copy)]
@@ -14,6 +19,15 @@ pub struct Wish {
     pub primary: bool,
     /// A cluster that has segments.
     pub segments: bool,
+    /// A cluster of this width, or of any.
+    pub width: Option<Width>,
+}
+
+impl Wish {
+    fn fits(&self, cluster: &Cluster) -> bool {
+        let is_wide = self.width.is_none_or(|width| cluster.has_width(width));
+        cluster.active && is_wide && cluster.has_segments() == self.segments
+    }
 }
 
 /// A handle for a call that would like `wish`; `given` are handles that calls gave before.
@@ -28,6 +42,31 @@ pub fn handle(random: &mut Random, store: &Store, given: &[Handle], wish: Wish) 
     } else {
         handle
     }
+}
+
+/// What is presented for a handle: its bytes, and sometimes such as no handle has.
+pub fn presented(random: &mut Random, handle: &Handle) -> HandleBytes {
+    match random.one_in(16) {
+        true => of_no_length(random, handle.to_bytes()),
+        false => handle.to_bytes(),
+    }
+}
+
+/// Bytes of a length that no handle has: cut, or with more bytes after them.
+pub fn of_no_length(random: &mut Random, mut handle: HandleBytes) -> HandleBytes {
+    let length = loop {
+        let length = match random.one_in(2) {
+            true => NEAR_LENGTHS[below(random, NEAR_LENGTHS.len())],
+            false => below(random, MOST_BYTES + 1),
+        };
+        if Width::of_handle_bytes(length).is_none() {
+            break length;
+        }
+    };
+    let more = bytes(random, length.saturating_sub(handle.len()));
+    handle.truncate(length);
+    handle.extend(more);
+    handle
 }
 
 /// Node and local number of every cluster.
@@ -47,30 +86,34 @@ pub fn place(
     random.pick(&fitting).copied()
 }
 
+/// The primary handle of an active cluster.
+pub fn primary(store: &Store, (node, local): (usize, usize), mode: Mode) -> Handle {
+    let cluster = &store.clusters[node][local];
+    let width = cluster.known_width().expect("it is active");
+    Handle::primary(width, node as u16, local as u8, *cluster.primary(mode))
+}
+
 /// A handle that validates, mostly in the mode that is wished for, if any cluster is active.
 fn right(random: &mut Random, store: &Store, wish: Wish) -> Handle {
-    let wished = |cluster: &Cluster| cluster.active && cluster.has_segments() == wish.segments;
     // Sometimes one that a single handle opens in both modes.
     let chosen = match random.one_in(12) {
         true => place(random, store, Cluster::has_equal_passwords),
-        false => place(random, store, wished),
+        false => place(random, store, |cluster| wish.fits(cluster)),
     };
-    let Some((node, local)) = chosen.or_else(|| place(random, store, |cluster| cluster.active))
-    else {
+    let Some(place) = chosen.or_else(|| place(random, store, |cluster| cluster.active)) else {
         return nowhere_active(random);
     };
     let mode = match (wish.mode, random.one_in(10)) {
         (Mode::Read, true) | (Mode::Write, false) => Mode::Write,
         _ => Mode::Read,
     };
-    let primary = *store.clusters[node][local].primary(mode);
-    let handle = Handle::primary(node as u16, local as u8, primary);
+    let handle = primary(store, place, mode);
     if wish.primary && !random.one_in(6) {
         return handle;
     }
     let weaker = weakened(random, handle);
     if random.one_in(6) {
-        weaker.reduce(&primary)
+        weaker.reduce(&handle.password)
     } else {
         weaker
     }
@@ -80,33 +123,50 @@ fn right(random: &mut Random, store: &Store, wish: Wish) -> Handle {
 fn nowhere_active(random: &mut Random) -> Handle {
     let (node, local) = (below(random, NODES) as u16, below(random, CLUSTERS) as u8);
     if random.one_in(4) {
-        Handle::from_bytes(&random.bytes())
+        any(random)
     } else {
-        let password = password(random);
-        weakened(random, Handle::primary(node, local, password))
+        let (width, password) = (width(random), password(random));
+        weakened(random, Handle::primary(width, node, local, password))
     }
+}
+
+/// A handle of bytes without any sense.
+fn any(random: &mut Random) -> Handle {
+    let length = width(random).handle_bytes();
+    Handle::from_bytes(&bytes(random, length)).expect("it is the length of one")
 }
 
 /// A primary handle weakened up to four times; mostly one segment at a time, so that some are left.
 /// Or one that references nothing, which no weakening gives, and whose password is right.
 fn weakened(random: &mut Random, mut handle: Handle) -> Handle {
+    let width = handle.width();
     if random.one_in(8) {
         let (node, local, primary) = (handle.node, handle.local, handle.password);
-        return Handle::converted(node, local, &primary, to_nothing(random));
+        return Handle::converted(node, local, &primary, to_nothing(random, width));
     }
     for _ in 0..below(random, SUBSELECTORS + 1) {
-        let mask = match random.below(4) {
-            0 => random.byte() | random.byte(),
-            _ => !(1 << random.below(8)),
+        let mask = match random.below(16) {
+            0..=3 => bits(random, width) | bits(random, width),
+            4 => half(random, width),
+            _ => !bit(random, width),
         };
         handle = handle.weaken(mask).unwrap_or(handle);
     }
     handle
 }
 
+/// The lower half of the segments, which are all of a smaller width, or the upper one.
+fn half(random: &mut Random, width: Width) -> u16 {
+    let lower = width.flat() >> (width.segments() / 2);
+    match random.one_in(2) {
+        true => lower,
+        false => width.flat() - lower,
+    }
+}
+
 /// The handle with one thing changed, or another one.
 fn wrong(random: &mut Random, store: &Store, mut handle: Handle) -> Handle {
-    match random.below(12) {
+    match random.below(14) {
         0 => handle.password = near(random, handle.password),
         1 => handle.password = password(random),
         2 => handle.node = random.number() as u16,
@@ -115,11 +175,20 @@ fn wrong(random: &mut Random, store: &Store, mut handle: Handle) -> Handle {
         4 => handle.node |= 1 << (8 + random.below(8)),
         5 => handle.local = (CLUSTERS + below(random, 2)) as u8,
         6 => handle.local |= 1 << (3 + random.below(5)),
-        7 => handle.selector = gapped(random),
-        8 => handle.selector.0.reverse(),
-        9 => handle.selector.0[below(random, SUBSELECTORS)] = random.byte(),
+        7 => handle.selector = gapped(random, handle.width()),
+        8 => handle.selector.subselectors.reverse(),
+        9 => {
+            let at = below(random, SUBSELECTORS);
+            handle.selector.subselectors[at] = bits(random, handle.width());
+        }
         10 => return elsewhere(random, store, handle),
-        _ => return Handle::from_bytes(&random.bytes()),
+        11 | 12 => {
+            handle = of_another_width(random, store, handle);
+            if random.one_in(6) {
+                handle.selector = gapped(random, handle.width());
+            }
+        }
+        _ => return any(random),
     }
     handle
 }
@@ -129,7 +198,12 @@ fn elsewhere(random: &mut Random, store: &Store, handle: Handle) -> Handle {
     let inactive = place(random, store, |cluster| !cluster.active);
     match inactive.filter(|_| random.one_in(2)) {
         // Its passwords are zero, so that nothing but its being inactive speaks against this.
-        Some((node, local)) => Handle::primary(node as u16, local as u8, [0; PASSWORD_BYTES]),
+        Some((node, local)) => Handle::primary(
+            handle.width(),
+            node as u16,
+            local as u8,
+            [0; PASSWORD_BYTES],
+        ),
         None => Handle {
             node: below(random, NODES) as u16,
             local: below(random, CLUSTERS) as u8,
@@ -138,12 +212,41 @@ fn elsewhere(random: &mut Random, store: &Store, handle: Handle) -> Handle {
     }
 }
 
-pub fn gapped(random: &mut Random) -> Selector {
-    let mut selector = [FLAT; SUBSELECTORS];
-    let at = 1 + below(random, SUBSELECTORS - 1);
-    selector[at] = random.byte() & !1;
-    if random.one_in(2) {
-        selector[0] = random.byte();
+/// The handle at one of the two widths that it does not have. Where its password is right it mostly is again.
+pub fn of_another_width(random: &mut Random, store: &Store, handle: Handle) -> Handle {
+    let others = Width::ALL.into_iter().filter(|own| *own != handle.width());
+    let others: Vec<Width> = others.collect();
+    let mut other = at_width(&handle, others[below(random, others.len())]);
+    let cluster = store.cluster(handle.node.into(), handle.local.into());
+    let primaries = cluster.map(|cluster| [cluster.read, cluster.write]);
+    let mut primaries = primaries.into_iter().flatten();
+    let made_from = primaries.find(|primary| handle.is_made_from(primary));
+    if let Some(primary) = made_from.filter(|_| !random.one_in(4)) {
+        other.password = derive(&primary, &other.selector);
     }
-    Selector(selector)
+    other
+}
+
+/// The handle with its subselectors at this width: those that are flat stay so, and of the others there is left what
+/// has room, but for segment 0, so that none becomes flat.
+pub fn at_width(handle: &Handle, width: Width) -> Handle {
+    let own = handle.width();
+    let at = |part: u16| match part == own.flat() {
+        true => width.flat(),
+        false => part & width.flat() & !1,
+    };
+    Handle {
+        selector: Selector::new(width, handle.selector.subselectors.map(at)),
+        ..*handle
+    }
+}
+
+pub fn gapped(random: &mut Random, width: Width) -> Selector {
+    let mut selector = Selector::primary(width);
+    let at = 1 + below(random, SUBSELECTORS - 1);
+    selector.subselectors[at] = bits(random, width) & !1;
+    if random.one_in(2) {
+        selector.subselectors[0] = bits(random, width);
+    }
+    selector
 }

@@ -1,4 +1,5 @@
-//! Joins by chance: most are made as in lists, with modes that a list cannot name besides.
+//! Joins by chance: most are made as in lists, with handles of every width and of lengths that none has, and with modes
+//! that a list cannot name besides.
 
 use super::questions::Maker;
 use crate::question::{BEYOND, WRITE_MODE};
@@ -11,7 +12,7 @@ impl Maker<'_> {
     pub(super) fn join(&mut self) -> Call {
         let aimed = match self.random.one_in(4) {
             true => None,
-            false => joins::join(self.random, self.store),
+            false => joins::join_of_widths(self.random, self.store),
         };
         let Some(join) = aimed else {
             return self.as_other_calls();
@@ -43,8 +44,8 @@ impl Maker<'_> {
         };
         Call::Join {
             mode: number,
-            handle,
-            other,
+            handle: self.presented(&handle),
+            other: self.presented(&other),
         }
     }
 }

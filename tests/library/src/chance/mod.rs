@@ -5,11 +5,12 @@ pub mod damage;
 mod faults;
 pub mod handles;
 mod joins;
+mod made;
 pub mod questions;
 pub mod stores;
 pub mod words;
 
-use model::handle::Password;
+use model::handle::{Password, Width};
 use model::random::Random;
 use model::sizes::PASSWORD_BYTES;
 
@@ -37,6 +38,20 @@ pub fn passwords(random: &mut Random) -> (Password, Password) {
 pub fn near(random: &mut Random, mut password: Password) -> Password {
     password[below(random, PASSWORD_BYTES)] ^= 1 << random.below(8);
     password
+}
+
+pub fn width(random: &mut Random) -> Width {
+    Width::ALL[below(random, Width::ALL.len())]
+}
+
+/// A subselector of this width.
+pub fn bits(random: &mut Random, width: Width) -> u16 {
+    random.number() as u16 & width.flat()
+}
+
+/// One of its bits.
+pub fn bit(random: &mut Random, width: Width) -> u16 {
+    1 << below(random, width.segments())
 }
 
 /// Tries `case` as often as told, each time with chance of its own. An `Err` comes back with the

@@ -5,9 +5,9 @@ use super::stores::gaps;
 use super::{below, bytes, near, password};
 use crate::question::{Question, BEYOND, LOOK, READ_MODE, VALIDATION, WRITE_MODE};
 use model::call::{self, Call};
-use model::handle::{Handle, Password, FLAT};
+use model::handle::{Handle, HandleBytes, Password};
 use model::random::Random;
-use model::sizes::{CLUSTERS, NODES, NODE_BYTES, SEGMENTS};
+use model::sizes::{NODES, NODE_BYTES, SEGMENTS};
 use model::store::{Cluster, Mode, Segment, Store};
 
 /// Codes for single calls: all alike.
@@ -59,7 +59,11 @@ impl Maker<'_> {
 
     /// A number that no `u32` holds. In fewer bytes some of them would be small.
     fn beyond(&mut self) -> usize {
-        let small = below(self.random, SEGMENTS + 1);
+        let bound = match self.random.one_in(2) {
+            true => NODES,
+            false => SEGMENTS + 1,
+        };
+        let small = below(self.random, bound);
         match self.random.below(4) {
             0 => usize::MAX,
             1 => 1 << 63 | small,
@@ -69,7 +73,7 @@ impl Maker<'_> {
     }
 
     /// Mostly `likely`; else a number out of range, or a little above or below `bound`.
-    fn near(&mut self, likely: usize, bound: usize) -> u32 {
+    pub(super) fn near(&mut self, likely: usize, bound: usize) -> u32 {
         let likely = likely as u32;
         match self.random.below(40) {
             0 => BEYOND,
@@ -98,8 +102,14 @@ impl Maker<'_> {
             mode,
             primary,
             segments,
+            width: None,
         };
         handles::handle(self.random, self.store, self.given, wish)
+    }
+
+    /// The bytes that are presented for a handle, sometimes such as no handle has.
+    pub(super) fn presented(&mut self, handle: &Handle) -> HandleBytes {
+        handles::presented(self.random, handle)
     }
 
     fn cluster(&self, handle: &Handle) -> Option<&Cluster> {
@@ -114,18 +124,23 @@ impl Maker<'_> {
         }
     }
 
-    /// A segment of the handle's cluster that is present, or is not, if there is one.
+    /// A segment of the handle's cluster that is present, or is not, if there is one. Sometimes it is one that only
+    /// clusters of another width have.
     pub(super) fn segment(&mut self, handle: &Handle, present: bool) -> u32 {
         let referenced_only = !self.random.one_in(4);
+        let bound = handle.width().segments();
         let cluster = self.cluster(handle);
         let fits = |&segment: &usize| {
             let is_present = cluster.is_some_and(|cluster| cluster.segments[segment].is_present());
             is_present == present && (!referenced_only || handle.selector.references(segment))
         };
-        let fitting: Vec<usize> = (0..SEGMENTS).filter(fits).collect();
-        let any = below(self.random, SEGMENTS);
+        let fitting: Vec<usize> = (0..bound).filter(fits).collect();
+        let any = below(self.random, bound);
         let likely = self.random.pick(&fitting).copied().unwrap_or(any);
-        self.near(likely, SEGMENTS)
+        match self.random.one_in(16) {
+            true => below(self.random, SEGMENTS + 1) as u32,
+            false => self.near(likely, bound),
+        }
     }
 
     /// Often just what a gap of the node has room for, or one byte more.
@@ -149,12 +164,11 @@ impl Maker<'_> {
     /// For reads and writes, mostly about as many bytes as the segment has; nothing else is lent
     /// a buffer.
     fn buffer_bytes(&mut self, call: &Call) -> usize {
-        let (true, Some(handle), Some(segment)) =
-            (call.moves_bytes(), call.handle(), call.segment())
-        else {
+        let (true, Some(segment)) = (call.moves_bytes(), call.segment()) else {
             return 0;
         };
-        let cluster = self.cluster(handle);
+        let handle = call.handle();
+        let cluster = handle.and_then(|handle| self.cluster(&handle));
         let found = cluster.and_then(|cluster| cluster.segments.get(segment as usize));
         match (found.and_then(Segment::extent), self.random.below(8)) {
             (_, 0) => 0,
@@ -167,31 +181,13 @@ impl Maker<'_> {
         }
     }
 
-    fn new_cluster(&mut self) -> Call {
-        let inactive = match self.random.one_in(5) {
-            true => None,
-            false => handles::place(self.random, self.store, |cluster| !cluster.active),
-        };
-        let any = (below(self.random, NODES), below(self.random, CLUSTERS));
-        let (node, local) = inactive.unwrap_or(any);
-        let read = password(self.random);
-        let write = match self.random.one_in(6) {
-            true => read,
-            false => password(self.random),
-        };
-        Call::NewCluster {
-            node: self.near(node, NODES),
-            local: self.near(local, CLUSTERS),
-            read,
-            write,
-        }
-    }
-
     fn delete_cluster(&mut self) -> Call {
         let segments = self.random.one_in(2);
         let handle = self.handle(Mode::Write, true, segments);
-        let node = self.current_node(&handle);
-        Call::DeleteCluster { node, handle }
+        Call::DeleteCluster {
+            node: self.current_node(&handle),
+            handle: self.presented(&handle),
+        }
     }
 
     fn new_segment(&mut self) -> Call {
@@ -202,7 +198,7 @@ impl Maker<'_> {
             node: self.current_node(&handle),
             segment: self.segment(&handle, present),
             size: self.size(&handle),
-            handle,
+            handle: self.presented(&handle),
         }
     }
 
@@ -212,39 +208,26 @@ impl Maker<'_> {
         Call::DeleteSegment {
             node: self.current_node(&handle),
             segment: self.segment(&handle, present),
-            handle,
+            handle: self.presented(&handle),
         }
     }
 
     fn read(&mut self) -> Call {
         let handle = self.handle(Mode::Read, false, true);
         let present = !self.random.one_in(8);
-        let segment = self.segment(&handle, present);
-        Call::Read { segment, handle }
+        Call::Read {
+            segment: self.segment(&handle, present),
+            handle: self.presented(&handle),
+        }
     }
 
     fn write(&mut self) -> Call {
         let handle = self.handle(Mode::Write, false, true);
         let present = !self.random.one_in(8);
-        let segment = self.segment(&handle, present);
-        Call::Write { segment, handle }
-    }
-
-    fn weaken(&mut self) -> Call {
-        let (mode, _) = self.mode();
-        let handle = self.handle(mode, false, true);
-        let referenced = handle.selector.referenced();
-        let mask = match self.random.below(8) {
-            0 => FLAT,
-            1 => 0,
-            2 => !(1 << self.random.below(8)),
-            3 => 1 << self.random.below(8),
-            4 => referenced,
-            // Keeps nothing that the handle references.
-            5 => self.random.byte() & !referenced,
-            _ => self.random.byte(),
-        };
-        Call::Weaken { mask, handle }
+        Call::Write {
+            segment: self.segment(&handle, present),
+            handle: self.presented(&handle),
+        }
     }
 
     fn reduce(&mut self) -> Call {
@@ -252,7 +235,7 @@ impl Maker<'_> {
         let handle = self.handle(mode, false, true);
         Call::Reduce {
             mode: number,
-            handle,
+            handle: self.presented(&handle),
         }
     }
 
@@ -261,18 +244,17 @@ impl Maker<'_> {
         let handle = self.handle(mode, false, true);
         Call::Validate {
             mode: number,
-            handle,
+            handle: self.presented(&handle),
         }
     }
 
     fn new_password(&mut self) -> Call {
         let (mode, number) = self.mode();
         let handle = self.handle(mode, true, true);
-        let password = self.next_password(&handle);
         Call::NewPassword {
             mode: number,
-            handle,
-            password,
+            password: self.next_password(&handle),
+            handle: self.presented(&handle),
         }
     }
 

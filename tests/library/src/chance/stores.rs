@@ -1,17 +1,21 @@
-//! Sound stores by chance, from empty ones to ones in which nothing is left.
+//! Sound stores by chance, from empty ones to ones in which nothing is left, with clusters of every width.
 
 use super::handles::everywhere;
 use super::words::WORD;
-use super::{below, bytes, passwords};
+use super::{below, bytes, passwords, width};
 use crate::image::encode;
 use crate::question::Held;
+use model::handle::Width;
 use model::random::Random;
-use model::sizes::{CLUSTERS, MEMORY_BYTES, NODE_BYTES, SEGMENTS};
+use model::sizes::{CLUSTERS, MEMORY_BYTES, NODE_BYTES};
 use model::store::{Cluster, Extent, Segment, Store};
 use std::collections::BTreeSet;
+use std::ops::Range;
 
 /// How many of so many segments are frozen is chosen for a store.
 const FROZEN_OF: u64 = 8;
+/// About the borders of words a node is cut into so many parts at most: there are not many more of these places.
+const MOST_AT_WORDS: usize = 120;
 
 #[derive(Clone, Copy, Debug, PartialEq, Eq, PartialOrd, Ord)]
 pub enum Fill {
@@ -21,7 +25,7 @@ pub enum Fill {
     Partial,
     /// Segments take every byte of every node; some are absent.
     NoByteFree,
-    /// Every cluster is active and every segment present.
+    /// Every cluster is active and every segment of its width present.
     NoSegmentAbsent,
     /// Segments begin and end about the borders of words, one where the other ends.
     AtWords,
@@ -63,17 +67,32 @@ pub fn store(random: &mut Random, fill: Fill) -> Store {
     store
 }
 
-/// Marks no present segment, all of them, or some.
+/// Marks no present segment, all of them, one of each cluster, or some.
 fn freeze_some(random: &mut Random, store: &mut Store) {
-    let share = match random.below(8) {
+    let share = match random.below(9) {
         0 | 1 => 0,
         2 => FROZEN_OF,
+        3 => return freeze_one_of_each(random, store),
         _ => 1 + random.below(FROZEN_OF / 2),
     };
     let clusters = store.clusters.as_flattened_mut().iter_mut();
     let segments = clusters.flat_map(|cluster| &mut cluster.segments);
     for segment in segments.filter(|segment| segment.is_present()) {
         segment.frozen = random.below(FROZEN_OF) < share;
+    }
+}
+
+/// Often the last that the cluster has.
+fn freeze_one_of_each(random: &mut Random, store: &mut Store) {
+    for cluster in store.clusters.as_flattened_mut() {
+        let segments = cluster.segments.iter_mut();
+        let mut present: Vec<&mut Segment> = segments.filter(|own| own.is_present()).collect();
+        let chosen = match (present.len(), random.one_in(2)) {
+            (0, _) => continue,
+            (count, true) => count - 1,
+            (count, false) => below(random, count),
+        };
+        present[chosen].frozen = true;
     }
 }
 
@@ -119,9 +138,10 @@ fn at_words(random: &mut Random, clusters: &mut [Cluster; CLUSTERS]) {
     activate(random, clusters, CLUSTERS * 2 / 3);
     let mut places = places(random, clusters);
     let most = if random.one_in(2) { places.len() } else { 4 };
-    places.truncate(1 + below(random, most));
+    places.truncate((1 + below(random, most)).min(MOST_AT_WORDS));
     let free = below(random, places.len() + 1);
-    let mut parts = parts(random, places.len() + free, about_a_word);
+    let count = (places.len() + free).min(MOST_AT_WORDS);
+    let mut parts = parts(random, count, about_a_word);
     random.shuffle(&mut parts);
     put(clusters, &places, &parts);
 }
@@ -136,11 +156,17 @@ fn activate(random: &mut Random, clusters: &mut [Cluster; CLUSTERS], wanted: usi
     }
 }
 
-/// An active cluster without segments.
+/// An active cluster without segments, of any width.
 pub fn active(random: &mut Random) -> Cluster {
+    let width = width(random);
+    active_of(random, width)
+}
+
+pub fn active_of(random: &mut Random, width: Width) -> Cluster {
     let (read, write) = passwords(random);
     Cluster {
         active: true,
+        width: width.number(),
         read,
         write,
         ..Cluster::INACTIVE
@@ -149,9 +175,8 @@ pub fn active(random: &mut Random) -> Cluster {
 
 /// The active clusters' segments, as local number and segment, in any order.
 fn places(random: &mut Random, clusters: &[Cluster; CLUSTERS]) -> Vec<(usize, usize)> {
-    let active = (0..CLUSTERS).filter(|&local| clusters[local].active);
-    let mut places: Vec<(usize, usize)> = active
-        .flat_map(|local| (0..SEGMENTS).map(move |segment| (local, segment)))
+    let mut places: Vec<(usize, usize)> = (0..CLUSTERS)
+        .flat_map(|local| segments_of(&clusters[local]).map(move |segment| (local, segment)))
         .collect();
     random.shuffle(&mut places);
     places
@@ -199,11 +224,18 @@ pub fn present(base: usize, length: usize) -> Segment {
     Segment::present(base as u16, length as u16)
 }
 
+/// The segments that a cluster can have; none where it is inactive.
+pub fn segments_of(cluster: &Cluster) -> Range<usize> {
+    0..cluster.known_width().map_or(0, Width::segments)
+}
+
 /// Every segment of every active cluster, as node, local number and segment.
 pub fn segments(store: &Store) -> Vec<(usize, usize, usize)> {
-    let active = everywhere().filter(|&(node, local)| store.clusters[node][local].active);
-    active
-        .flat_map(|(node, local)| (0..SEGMENTS).map(move |segment| (node, local, segment)))
+    everywhere()
+        .flat_map(|(node, local)| {
+            let segments = segments_of(&store.clusters[node][local]);
+            segments.map(move |segment| (node, local, segment))
+        })
         .collect()
 }
 

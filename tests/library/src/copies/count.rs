@@ -3,10 +3,11 @@
 use crate::pairs::Pair;
 use crate::question::{Answer, Question};
 use model::call::Call;
+use model::handle::{Handle, Width};
 use model::renewals::Renewal;
 use model::sizes::MEMORY_BYTES;
-use model::store::Store;
-use model::table::{Found, FROZEN};
+use model::store::{Mode, Store};
+use model::table::{Found, FROZEN, LENGTH};
 
 /// Calls of one kind that were done, and those that nothing but passwords kept from the cluster set apart: with
 /// passwords that open it for each handle, the call would be done.
@@ -39,6 +40,14 @@ pub struct Count {
     /// Calls done that make the two passwords of another cluster equal, and by a handle that opens both its modes.
     pub made_equal: u64,
     pub by_both: u64,
+    /// Pairs by the width of the cluster set apart: 4, 8, 16.
+    pub widths: [u64; 3],
+    /// Calls refused with 25 for a handle of the cluster set apart that is of another width and has the password that
+    /// one of these subselectors needs; by the width of that cluster.
+    pub other_width: [u64; 3],
+    /// Calls done by handles of each width, and calls with a handle of a length that none has.
+    pub by_width: [u64; 3],
+    pub no_length: u64,
 }
 
 impl Count {
@@ -49,6 +58,9 @@ impl Count {
             return;
         };
         self.frozen_apart += u64::from(first.has_frozen());
+        if let Some(width) = first.known_width() {
+            self.widths[width as usize] += 1;
+        }
         let [one, other] = [first, second].map(|cluster| cluster.has_equal_passwords());
         self.equal_in_one += u64::from(one != other);
     }
@@ -62,6 +74,7 @@ impl Count {
         answer: &Answer,
     ) {
         self.note_passwords(stores, question, answer);
+        self.note_widths(pair, stores, question, answer);
         let done = answer.reply.is_done();
         self.calls += 1;
         self.naming += u64::from(pair.names_apart(question));
@@ -71,7 +84,10 @@ impl Count {
             Call::Look { .. } => &mut self.looks,
             Call::Freeze { .. } => &mut self.freezes,
             Call::Join { handle, other, .. } => {
-                let [first, second] = [handle, other].map(|handle| pair.is_apart(handle));
+                let [first, second] = [handle, other].map(|bytes| {
+                    let handle = Handle::from_bytes(bytes);
+                    handle.is_some_and(|handle| pair.is_apart(&handle))
+                });
                 self.by_the_first += u64::from(first && !second);
                 self.by_the_second += u64::from(second && !first);
                 &mut self.joins
@@ -81,6 +97,37 @@ impl Count {
         };
         kept.done += u64::from(done);
         kept.apart += u64::from(pair.kept_by_the_passwords(question, answer));
+    }
+
+    fn note_widths(
+        &mut self,
+        pair: &Pair,
+        [store, _]: &[Store; 2],
+        question: &Question,
+        answer: &Answer,
+    ) {
+        let (node, local) = pair.apart;
+        let cluster = &store.clusters[node][local];
+        let made_from = |handle: &Handle| {
+            let mut primaries = Mode::ALL.iter().map(|mode| cluster.primary(*mode));
+            primaries.any(|primary| handle.is_made_from(primary))
+        };
+        let other = |handle: Handle| {
+            let differs = pair.is_apart(&handle) && !cluster.has_width(handle.width());
+            differs && made_from(&handle)
+        };
+        match (cluster.known_width(), answer.reply.number) {
+            (Some(width), LENGTH) if question.call.presented().any(other) => {
+                self.other_width[width as usize] += 1;
+            }
+            _ => {}
+        }
+        for handle in question.call.presented() {
+            self.by_width[handle.width() as usize] += u64::from(answer.reply.is_done());
+        }
+        let mut lengths = question.call.presented_bytes().map(<[u8]>::len);
+        let no_length = lengths.any(|length| Width::of_handle_bytes(length).is_none());
+        self.no_length += u64::from(no_length);
     }
 
     /// What is met in the two copies differs where the cluster set apart is concerned, and there alone.
@@ -153,7 +200,29 @@ impl Count {
                 "a call done by a handle that opens both modes",
             ),
         ];
-        let missing = due.iter().filter(|(count, _)| *count == 0);
+        let widths = Width::ALL.into_iter().flat_map(|width| {
+            let (at, segments) = (width as usize, width.segments());
+            [
+                (
+                    self.widths[at],
+                    format!("a cluster set apart of width {segments}"),
+                ),
+                (
+                    self.other_width[at],
+                    format!(
+                        "right but for its width, a handle of a cluster set apart of {segments}"
+                    ),
+                ),
+                (
+                    self.by_width[at],
+                    format!("a call done by a handle of width {segments}"),
+                ),
+            ]
+        });
+        let no_length = (self.no_length, "a length that no handle has".to_string());
+        let due = due.map(|(count, what)| (count, what.to_string()));
+        let due = due.into_iter().chain(widths).chain([no_length]);
+        let missing = due.filter(|(count, _)| *count == 0);
         missing
             .map(|(_, what)| format!("not tried: two copies, {what}"))
             .collect()

@@ -1,20 +1,21 @@
-//! Two copies of a store that differ in the secrets of one cluster: whoever has no handle of that
+//! Two copies of a store that differ in the secrets of one cluster, of whatever width: whoever has no handle of that
 //! cluster gets the same from both.
 
 mod count;
 
+use crate::chance::handles::at_width;
 use crate::chance::questions::{Maker, FILLING};
 use crate::chance::stores::{self, Fill};
-use crate::chance::{below, cases, fill, password, passwords};
+use crate::chance::{below, cases, fill, password, passwords, width};
 use crate::compare::{by_model, same_bytes, Guard};
 use crate::image::{decode, passwords_at, record_at};
 use crate::pairs::{ask_both, parts_of, set_apart, validates, Pair};
-use crate::question::{Answer, Held, Question};
+use crate::question::{change_handle, Answer, Held, Question};
 pub use count::{Count, Kept};
 use model::call::Call;
 use model::handle::{derive, Handle, Password};
 use model::random::Random;
-use model::store::{Mode, Store};
+use model::store::{Cluster, Mode, Store};
 use model::table::VIOLATED_PROTECTION;
 use std::ops::Range;
 
@@ -78,41 +79,59 @@ impl Pair {
             }
             let weakening = matches!(question.call, Call::Weaken { .. });
             let opens =
-                |handle: &Handle| self.is_apart(handle) && validates(stores, handle, &Mode::ALL);
+                |handle: Handle| self.is_apart(&handle) && validates(stores, &handle, &Mode::ALL);
             if weakening || !question.call.presented().any(opens) {
                 return question;
             }
         }
     }
 
-    /// Makes the question name the cluster set apart, mostly with a password that does not open it. Of two
-    /// handles mostly both name it, and else one of them.
+    /// Makes the question name the cluster set apart, mostly with a password that does not open it, sometimes with one
+    /// that does and at another width. Of two handles mostly both name it, and else one of them.
     fn aim(&self, random: &mut Random, store: &Store, question: &mut Question) {
         let cluster = &store.clusters[self.apart.0][self.apart.1];
-        let near = |mut password: Password| {
-            password[0] ^= 1;
-            password
-        };
         let mut aimed = question.presented_mut();
         if aimed.len() > 1 && random.one_in(3) {
             aimed.remove(below(random, 2));
         }
-        for handle in aimed {
-            let choices = [
-                password(random),
-                near(cluster.read),
-                near(cluster.write),
-                cluster.read,
-            ];
-            handle.node = self.apart.0 as u16;
-            handle.local = self.apart.1 as u8;
-            if random.one_in(2) {
-                handle.password = choices[below(random, choices.len())];
-            }
+        // As wide as the cluster, as a rule, so that nothing but passwords speaks against it.
+        let wide = match random.one_in(4) {
+            true => width(random),
+            false => cluster.known_width().expect("it is active"),
+        };
+        for bytes in aimed {
+            change_handle(bytes, |handle| {
+                handle.node = self.apart.0 as u16;
+                handle.local = self.apart.1 as u8;
+                if handle.width() != wide {
+                    *handle = at_width(handle, wide);
+                }
+                self.guess(random, cluster, handle);
+            });
         }
         let local = (&mut question.call, random.one_in(4));
         if let (Call::Look { node, .. } | Call::Freeze { node, .. }, false) = local {
             *node = self.apart.0 as u32;
+        }
+    }
+
+    /// Often gives the handle another password; one that opens the cluster where it is of another width.
+    fn guess(&self, random: &mut Random, cluster: &Cluster, handle: &mut Handle) {
+        let near = |mut password: Password| {
+            password[0] ^= 1;
+            password
+        };
+        let choices = [
+            password(random),
+            near(cluster.read),
+            near(cluster.write),
+            cluster.read,
+        ];
+        if !cluster.has_width(handle.width()) {
+            let primary = [cluster.read, cluster.write][below(random, 2)];
+            handle.password = derive(&primary, &handle.selector);
+        } else if random.one_in(2) {
+            handle.password = choices[below(random, choices.len())];
         }
     }
 
@@ -131,10 +150,9 @@ impl Pair {
             return false;
         };
         let primary = *store.clusters[self.apart.0][self.apart.1].primary(mode);
-        let mut opening = question.clone();
-        for handle in opening.presented_mut() {
+        let opening = question.with_handles(|handle| {
             handle.password = derive(&primary, &handle.selector);
-        }
+        });
         by_model(&mut copy.clone(), &opening).reply.is_done()
     }
 

@@ -2,25 +2,25 @@
 //! handle.
 
 use super::{around, narrow, MEMORIES};
-use crate::chance::stores::{self, Fill};
+use crate::chance::stores::{self, segments_of, Fill};
 use crate::chance::{below, cases};
 use crate::compare::{ask, Guard, Sides};
 use crate::question::{Held, Question, READ_MODE, WRITE_MODE};
 use model::call::Call;
-use model::handle::{Handle, Selector};
+use model::handle::{Handle, Selector, Width};
 use model::random::Random;
 use model::sizes::{CLUSTERS, MEMORY_BYTES, NODES};
-use model::store::Mode;
+use model::store::{Mode, Segment};
 
 /// Modes are numbered from 1.
 const MODES: usize = WRITE_MODE as usize + 1;
-/// What the two handles reference: some each, the same, nothing, and all but one.
-const SEGMENTS: [(u8, u8); 5] = [
-    (0x07, 0x18),
-    (0x3c, 0x0f),
-    (0x20, 0x20),
-    (0x00, 0x00),
-    (0x7e, 0x01),
+/// What the two handles reference, as far as they have room: some each, the same, nothing, and all but one.
+const SEGMENTS: [(u16, u16); 5] = [
+    (0x1803, 0x6018),
+    (0x3c3c, 0x0f0c),
+    (0x2022, 0x2022),
+    (0x0000, 0x0000),
+    (0x7f76, 0x8081),
 ];
 
 /// Two valid handles of one cluster.
@@ -37,16 +37,17 @@ struct Arguments {
     handles: [Handle; 2],
 }
 
-/// Each node and each mode, with every argument where it changes. Gives how many joins there were, and how many of them
-/// were done.
+/// Each node, each mode and each width, with every argument where it changes. Gives how many joins there were, and how
+/// many of them were done.
 pub fn joins(guard: Guard, seed: u64) -> Result<(u64, u64), String> {
     let (mut asked, mut done) = (0, 0);
     let places = (0..NODES).flat_map(|node| [READ_MODE, WRITE_MODE].map(|mode| (node, mode)));
     let all = places.flat_map(|place| SEGMENTS.map(|segments| (place, segments)));
+    let all = all.flat_map(|pair| Width::ALL.map(|width| (pair, width)));
     let mut all = all.collect::<Vec<_>>().into_iter();
     cases(seed, all.len() as u64, |random| {
-        let ((node, mode), segments) = all.next().expect("there are as many cases");
-        let both = Both::by_chance(random, node, mode, segments);
+        let (((node, mode), segments), width) = all.next().expect("there are as many cases");
+        let both = Both::by_chance(random, (node, mode), width, segments);
         for arguments in both.arguments() {
             let mut sides = Sides::both(both.held.clone());
             for side in [&mut sides.guard, &mut sides.model] {
@@ -63,7 +64,7 @@ pub fn joins(guard: Guard, seed: u64) -> Result<(u64, u64), String> {
 
 impl Arguments {
     fn question(&self) -> Question {
-        let [handle, other] = self.handles;
+        let [handle, other] = self.handles.map(|handle| handle.to_bytes());
         Question {
             beyond: self.mode,
             ..Question::of(Call::Join {
@@ -76,15 +77,24 @@ impl Arguments {
 }
 
 impl Both {
-    fn by_chance(random: &mut Random, node: usize, mode: u32, segments: (u8, u8)) -> Both {
+    fn by_chance(
+        random: &mut Random,
+        (node, mode): (usize, u32),
+        width: Width,
+        segments: (u16, u16),
+    ) -> Both {
         let mut store = stores::store(random, Fill::Partial);
         let local = below(random, CLUSTERS);
         let cluster = &mut store.clusters[node][local];
         // Passwords that no other cluster has.
         (cluster.active, cluster.read, cluster.write) = (true, random.bytes(), random.bytes());
+        cluster.width = width.number();
+        let there = segments_of(cluster).end;
+        cluster.segments[there..].fill(Segment::ABSENT);
         let primary = *cluster.primary(Mode::from_number(mode).expect("it is a mode"));
-        let handle = |segments| {
-            let selector = Selector([segments, 255, 255, 255]);
+        let flat = width.flat();
+        let handle = |segments: u16| {
+            let selector = Selector::new(width, [segments & flat, flat, flat, flat]);
             Handle::converted(node as u16, local as u8, &primary, selector)
         };
         Both {

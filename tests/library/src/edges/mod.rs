@@ -1,22 +1,24 @@
-//! Soundness where it changes: every byte of an image with every value, and two segments of one node
+//! Soundness where it changes: every byte of an image with every value that matters, and two segments of one node
 //! that begin and end about the borders of words. Looks and freezes where their segment or their arguments come
 //! to an end: the first and the last byte of a node, the whole of it, and numbers just out of range. Joins with
-//! modes and names just out of range.
+//! modes and names just out of range. Handles of every length, and what goes by the width.
 
 mod joins;
+mod widths;
 
-use crate::chance::stores::{self, active, present, Fill};
+use crate::chance::stores::{self, active_of, present, Fill};
 use crate::chance::words::{Beside, LENGTHS};
 use crate::chance::{below, cases};
 use crate::compare::{ask, is_sound, Guard, Sides};
-use crate::image::{encode, Image};
+use crate::image::{encode, Image, READ_AT, RECORD_BYTES, SEGMENTS_AT};
 use crate::question::{Held, Question, BEYOND};
 pub use joins::joins;
 use model::call::Call;
-use model::handle::Handle;
+use model::handle::{Handle, Width};
 use model::random::Random;
 use model::sizes::{CLUSTERS, MEMORY_BYTES, NODES, NODE_BYTES, SEGMENTS};
 use model::store::{Cluster, Extent, Mode, Store};
+pub use widths::{lengths, masks, new_clusters, segments};
 
 /// Something that tells whether an image holds a sound store; [`crate::guard::is_sound`] is the one
 /// to be compared.
@@ -49,6 +51,17 @@ const MEMORIES: [usize; 6] = [
 /// Added to a number that is right, these are seen in its highest bytes alone.
 const HIGH: [usize; 5] = [1 << 8, 1 << 16, 1 << 32, 1 << 48, 1 << 63];
 
+/// The values that a byte of an image is made: every one, but a few where all that matters is whether it is zero, as of
+/// passwords and, save for the first two bytes of a record, of an empty store.
+fn values(fill: Fill, at: usize) -> Vec<u8> {
+    let few = [0, 1, 2, 4, 8, 16, 32, 64, 128, u8::MAX];
+    match at % RECORD_BYTES {
+        READ_AT..SEGMENTS_AT => few.to_vec(),
+        SEGMENTS_AT.. if fill == Fill::Empty => few.to_vec(),
+        _ => (0..=u8::MAX).collect(),
+    }
+}
+
 /// One store of every fill. Gives how many images were judged.
 pub fn every_byte(judge: Judge, seed: u64) -> Result<u64, String> {
     let mut judged = 0;
@@ -59,7 +72,7 @@ pub fn every_byte(judge: Judge, seed: u64) -> Result<u64, String> {
         let mut held = stores::held(random, &store);
         for at in 0..held.image.len() {
             let kept = held.image[at];
-            for value in 0..=u8::MAX {
+            for value in values(fill, at) {
                 held.image[at] = value;
                 same(judge, &mut held)
                     .map_err(|what| format!("{fill:?} with byte {at} made {value}: {what}"))?;
@@ -108,7 +121,7 @@ fn pairs() -> impl Iterator<Item = (Extent, Extent)> {
     })
 }
 
-/// A store with two segments and no more, in one cluster of a node or in two of them.
+/// A store with two segments and no more, in one cluster of a node or in two of them, which have room for sixteen.
 fn with_both(random: &mut Random, first: Extent, second: Extent) -> Store {
     let mut store = Store::starting();
     let clusters = &mut store.clusters[below(random, NODES)];
@@ -118,7 +131,7 @@ fn with_both(random: &mut Random, first: Extent, second: Extent) -> Store {
     for (place, extent) in [(at, first), (other, second)] {
         let cluster = &mut clusters[place / SEGMENTS];
         if !cluster.active {
-            *cluster = active(random);
+            *cluster = active_of(random, Width::Sixteen);
         }
         cluster.segments[place % SEGMENTS] = present(extent.base, extent.length);
     }
@@ -138,13 +151,13 @@ fn same(judge: Judge, held: &mut Held) -> Result<bool, String> {
     }
 }
 
-/// Each stretch in each node, looked at with every argument where it changes. Gives how many looks there
-/// were, and how many of them showed something.
+/// Each stretch in each node, in a cluster of each width, looked at with every argument where it changes. Gives how many
+/// looks there were, and how many of them showed something.
 pub fn looks(guard: Guard, seed: u64) -> Result<(u64, u64), String> {
     around_segments(guard, seed, |lone, current, segment| {
         let primary = lone.handle(Mode::Read);
         let weaker = primary.weaken(1 << lone.segment).expect("all are flat");
-        [primary, weaker].map(|handle| look(current, segment, handle))
+        [primary, weaker].map(|handle| look(current, segment, &handle))
     })
 }
 
@@ -153,7 +166,7 @@ pub fn freezes(guard: Guard, seed: u64) -> Result<(u64, u64), String> {
     around_segments(guard, seed, |lone, current, segment| {
         let primary = lone.handle(Mode::Write);
         let weaker = primary.weaken(1 << lone.segment).expect("all are flat");
-        [primary, primary, weaker].map(|handle| freeze(current, segment, handle))
+        [primary, primary, weaker].map(|handle| freeze(current, segment, &handle))
     })
 }
 
@@ -165,10 +178,11 @@ fn around_segments<const N: usize>(
 ) -> Result<(u64, u64), String> {
     let (mut asked, mut done) = (0, 0);
     let places = (0..NODES).flat_map(|node| STRETCHES.map(|stretch| (node, stretch)));
+    let places = places.flat_map(|place| Width::ALL.map(|width| (place, width)));
     let mut places = places.collect::<Vec<_>>().into_iter();
     cases(seed, places.len() as u64, |random| {
-        let (node, (base, length)) = places.next().expect("there are as many cases");
-        let lone = LoneSegment::by_chance(random, node, Extent { base, length });
+        let ((node, (base, length)), width) = places.next().expect("there are as many cases");
+        let lone = LoneSegment::by_chance(random, node, width, Extent { base, length });
         for (memory_bytes, current, segment) in lone.arguments() {
             let mut sides = Sides::both(lone.held.clone());
             for side in [&mut sides.guard, &mut sides.model] {
@@ -192,31 +206,30 @@ struct LoneSegment {
     cluster: Cluster,
     node: usize,
     local: usize,
+    width: Width,
     segment: usize,
 }
 
 impl LoneSegment {
-    fn by_chance(random: &mut Random, node: usize, extent: Extent) -> LoneSegment {
-        let (local, segment) = (below(random, CLUSTERS), below(random, SEGMENTS));
+    fn by_chance(random: &mut Random, node: usize, width: Width, extent: Extent) -> LoneSegment {
+        let (local, segment) = (below(random, CLUSTERS), below(random, width.segments()));
         let mut store = Store::starting();
         let cluster = &mut store.clusters[node][local];
-        *cluster = active(random);
+        *cluster = active_of(random, width);
         cluster.segments[segment] = present(extent.base, extent.length);
         LoneSegment {
             cluster: *cluster,
             held: stores::held(random, &store),
             node,
             local,
+            width,
             segment,
         }
     }
 
     fn handle(&self, mode: Mode) -> Handle {
-        Handle::primary(
-            self.node as u16,
-            self.local as u8,
-            *self.cluster.primary(mode),
-        )
+        let (node, local) = (self.node as u16, self.local as u8);
+        Handle::primary(self.width, node, local, *self.cluster.primary(mode))
     }
 
     /// Lengths of the memory, current nodes and segments: in each row all but one are right.
@@ -224,7 +237,8 @@ impl LoneSegment {
         let (node, segment) = (self.node, self.segment);
         let memories = MEMORIES.map(|bytes| (bytes, node, segment));
         let nodes = around(node, NODES).map(|current| (MEMORY_BYTES, current, segment));
-        let segments = around(segment, SEGMENTS).map(|other| (MEMORY_BYTES, node, other));
+        let segments = around(segment, self.width.segments());
+        let segments = segments.map(|other| (MEMORY_BYTES, node, other));
         memories.into_iter().chain(nodes).chain(segments).collect()
     }
 }
@@ -235,22 +249,22 @@ fn around(right: usize, bound: usize) -> impl Iterator<Item = usize> {
     (0..bound + 2).chain(high).chain([usize::MAX])
 }
 
-fn look(current: usize, segment: usize, handle: Handle) -> Question {
+fn look(current: usize, segment: usize, handle: &Handle) -> Question {
     let (node, number) = (narrow(current), narrow(segment));
     let call = Call::Look {
         node,
         segment: number,
-        handle,
+        handle: handle.to_bytes(),
     };
     wide(call, current, segment)
 }
 
-fn freeze(current: usize, segment: usize, handle: Handle) -> Question {
+fn freeze(current: usize, segment: usize, handle: &Handle) -> Question {
     let (node, number) = (narrow(current), narrow(segment));
     let call = Call::Freeze {
         node,
         segment: number,
-        handle,
+        handle: handle.to_bytes(),
     };
     wide(call, current, segment)
 }

@@ -1,19 +1,20 @@
-//! The calls, one function of the library each.
+//! The calls, one function of the library each. Handles are lent as they are, of any length.
 
-use super::{Lent, UNWRITTEN, UNWRITTEN_HANDLE, UNWRITTEN_NUMBER};
+use super::given::Given;
+use super::{Lent, UNWRITTEN, UNWRITTEN_NUMBER};
 use crate::ffi;
 use model::call::{Part, Reply};
-use model::handle::{Handle, Password};
+use model::handle::Password;
 
 impl Lent<'_> {
     pub(super) fn new_cluster(
         self,
-        node: usize,
-        local: usize,
+        (node, local): (usize, usize),
+        width: usize,
         read: &Password,
         write: &Password,
     ) -> Reply {
-        let (mut first, mut second) = (UNWRITTEN_HANDLE, UNWRITTEN_HANDLE);
+        let (mut first, mut second) = (Given::UNWRITTEN, Given::UNWRITTEN);
         // SAFETY: see the head of `guard`.
         let number = unsafe {
             ffi::gelmuszta_new_cluster(
@@ -22,24 +23,35 @@ impl Lent<'_> {
                 self.memory.len(),
                 node,
                 local,
+                width,
                 read,
                 write,
-                &mut first,
-                &mut second,
+                &mut first.bytes,
+                &mut first.length,
+                &mut second.bytes,
+                &mut second.length,
             )
         };
         Reply {
-            first,
-            second,
-            ..bare(number)
+            second: second.told(),
+            ..with_handle(number, &first)
         }
     }
 
-    pub(super) fn delete_cluster(self, current: usize, handle: &Handle) -> Reply {
+    pub(super) fn delete_cluster(self, current: usize, handle: &[u8]) -> Reply {
         let (memory, length) = (self.memory.as_mut_ptr(), self.memory.len());
-        let handle = handle.to_bytes();
+        let (handle, handle_length) = (handle.as_ptr(), handle.len());
         // SAFETY: see the head of `guard`.
-        bare(unsafe { ffi::gelmuszta_delete_cluster(self.image, memory, length, current, &handle) })
+        bare(unsafe {
+            ffi::gelmuszta_delete_cluster(
+                self.image,
+                memory,
+                length,
+                current,
+                handle,
+                handle_length,
+            )
+        })
     }
 
     pub(super) fn new_segment(
@@ -47,26 +59,39 @@ impl Lent<'_> {
         current: usize,
         segment: usize,
         size: usize,
-        handle: &Handle,
+        handle: &[u8],
     ) -> Reply {
-        let (memory, length) = (self.memory.as_mut_ptr(), self.memory.len());
-        let handle = handle.to_bytes();
         // SAFETY: see the head of `guard`.
         bare(unsafe {
-            ffi::gelmuszta_new_segment(self.image, memory, length, current, segment, size, &handle)
+            ffi::gelmuszta_new_segment(
+                self.image,
+                self.memory.as_mut_ptr(),
+                self.memory.len(),
+                current,
+                segment,
+                size,
+                handle.as_ptr(),
+                handle.len(),
+            )
         })
     }
 
-    pub(super) fn delete_segment(self, current: usize, segment: usize, handle: &Handle) -> Reply {
-        let (memory, length) = (self.memory.as_mut_ptr(), self.memory.len());
-        let handle = handle.to_bytes();
+    pub(super) fn delete_segment(self, current: usize, segment: usize, handle: &[u8]) -> Reply {
         // SAFETY: see the head of `guard`.
         bare(unsafe {
-            ffi::gelmuszta_delete_segment(self.image, memory, length, current, segment, &handle)
+            ffi::gelmuszta_delete_segment(
+                self.image,
+                self.memory.as_mut_ptr(),
+                self.memory.len(),
+                current,
+                segment,
+                handle.as_ptr(),
+                handle.len(),
+            )
         })
     }
 
-    pub(super) fn read(self, segment: usize, handle: &Handle) -> Reply {
+    pub(super) fn read(self, segment: usize, handle: &[u8]) -> Reply {
         let mut length = UNWRITTEN_NUMBER;
         // SAFETY: see the head of `guard`.
         let number = unsafe {
@@ -75,7 +100,8 @@ impl Lent<'_> {
                 self.memory.as_mut_ptr(),
                 self.memory.len(),
                 segment,
-                &handle.to_bytes(),
+                handle.as_ptr(),
+                handle.len(),
                 self.buffer.as_mut_ptr(),
                 self.buffer.len(),
                 &mut length,
@@ -87,7 +113,7 @@ impl Lent<'_> {
         }
     }
 
-    pub(super) fn write(self, segment: usize, handle: &Handle) -> Reply {
+    pub(super) fn write(self, segment: usize, handle: &[u8]) -> Reply {
         // SAFETY: see the head of `guard`.
         bare(unsafe {
             ffi::gelmuszta_write(
@@ -95,27 +121,34 @@ impl Lent<'_> {
                 self.memory.as_mut_ptr(),
                 self.memory.len(),
                 segment,
-                &handle.to_bytes(),
+                handle.as_ptr(),
+                handle.len(),
                 self.buffer.as_mut_ptr(),
                 self.buffer.len(),
             )
         })
     }
 
-    pub(super) fn reduce(self, mode: usize, handle: &Handle) -> Reply {
-        let (memory, length) = (self.memory.as_mut_ptr(), self.memory.len());
-        let (handle, mut first) = (handle.to_bytes(), UNWRITTEN_HANDLE);
+    pub(super) fn reduce(self, mode: usize, handle: &[u8]) -> Reply {
+        let mut first = Given::UNWRITTEN;
         // SAFETY: see the head of `guard`.
-        let number =
-            unsafe { ffi::gelmuszta_reduce(self.image, memory, length, mode, &handle, &mut first) };
-        Reply {
-            first,
-            ..bare(number)
-        }
+        let number = unsafe {
+            ffi::gelmuszta_reduce(
+                self.image,
+                self.memory.as_mut_ptr(),
+                self.memory.len(),
+                mode,
+                handle.as_ptr(),
+                handle.len(),
+                &mut first.bytes,
+                &mut first.length,
+            )
+        };
+        with_handle(number, &first)
     }
 
-    pub(super) fn new_password(self, mode: usize, handle: &Handle, password: &Password) -> Reply {
-        let mut first = UNWRITTEN_HANDLE;
+    pub(super) fn new_password(self, mode: usize, handle: &[u8], password: &Password) -> Reply {
+        let mut first = Given::UNWRITTEN;
         // SAFETY: see the head of `guard`.
         let number = unsafe {
             ffi::gelmuszta_new_password(
@@ -123,28 +156,33 @@ impl Lent<'_> {
                 self.memory.as_mut_ptr(),
                 self.memory.len(),
                 mode,
-                &handle.to_bytes(),
+                handle.as_ptr(),
+                handle.len(),
                 password,
-                &mut first,
+                &mut first.bytes,
+                &mut first.length,
             )
         };
-        Reply {
-            first,
-            ..bare(number)
-        }
+        with_handle(number, &first)
     }
 
-    pub(super) fn freeze(self, current: usize, segment: usize, handle: &Handle) -> Reply {
-        let (memory, length) = (self.memory.as_mut_ptr(), self.memory.len());
-        let handle = handle.to_bytes();
+    pub(super) fn freeze(self, current: usize, segment: usize, handle: &[u8]) -> Reply {
         // SAFETY: see the head of `guard`.
         bare(unsafe {
-            ffi::gelmuszta_freeze(self.image, memory, length, current, segment, &handle)
+            ffi::gelmuszta_freeze(
+                self.image,
+                self.memory.as_mut_ptr(),
+                self.memory.len(),
+                current,
+                segment,
+                handle.as_ptr(),
+                handle.len(),
+            )
         })
     }
 
-    pub(super) fn join(self, mode: usize, handle: &Handle, other: &Handle) -> Reply {
-        let mut first = UNWRITTEN_HANDLE;
+    pub(super) fn join(self, mode: usize, handle: &[u8], other: &[u8]) -> Reply {
+        let mut first = Given::UNWRITTEN;
         // SAFETY: see the head of `guard`.
         let number = unsafe {
             ffi::gelmuszta_join(
@@ -152,18 +190,18 @@ impl Lent<'_> {
                 self.memory.as_mut_ptr(),
                 self.memory.len(),
                 mode,
-                &handle.to_bytes(),
-                &other.to_bytes(),
-                &mut first,
+                handle.as_ptr(),
+                handle.len(),
+                other.as_ptr(),
+                other.len(),
+                &mut first.bytes,
+                &mut first.length,
             )
         };
-        Reply {
-            first,
-            ..bare(number)
-        }
+        with_handle(number, &first)
     }
 
-    pub(super) fn look(self, current: usize, segment: usize, handle: &Handle) -> Reply {
+    pub(super) fn look(self, current: usize, segment: usize, handle: &[u8]) -> Reply {
         let (mut from, mut length) = (UNWRITTEN_NUMBER, UNWRITTEN_NUMBER);
         // SAFETY: see the head of `guard`.
         let number = unsafe {
@@ -173,7 +211,8 @@ impl Lent<'_> {
                 self.memory.len(),
                 current,
                 segment,
-                &handle.to_bytes(),
+                handle.as_ptr(),
+                handle.len(),
                 &mut from,
                 &mut length,
             )
@@ -184,26 +223,44 @@ impl Lent<'_> {
         }
     }
 
-    pub(super) fn validate(self, mode: usize, handle: &Handle) -> Reply {
+    pub(super) fn validate(self, mode: usize, handle: &[u8]) -> Reply {
         let (memory, length) = (self.memory.as_mut_ptr(), self.memory.len());
-        let handle = handle.to_bytes();
+        let (handle, handle_length) = (handle.as_ptr(), handle.len());
         // SAFETY: see the head of `guard`.
-        bare(unsafe { ffi::gelmuszta_validate(self.image, memory, length, mode, &handle) })
+        bare(unsafe {
+            ffi::gelmuszta_validate(self.image, memory, length, mode, handle, handle_length)
+        })
     }
 }
 
-pub(super) fn weaken(mask: u8, handle: &Handle) -> Reply {
-    let (mut first, mut count) = (UNWRITTEN_HANDLE, UNWRITTEN);
+pub(super) fn weaken(mask: u16, handle: &[u8]) -> Reply {
+    let (mut first, mut count) = (Given::UNWRITTEN, UNWRITTEN);
     // SAFETY: see the head of `guard`.
-    let number = unsafe { ffi::gelmuszta_weaken(&handle.to_bytes(), mask, &mut first, &mut count) };
+    let number = unsafe {
+        ffi::gelmuszta_weaken(
+            handle.as_ptr(),
+            handle.len(),
+            mask,
+            &mut first.bytes,
+            &mut first.length,
+            &mut count,
+        )
+    };
     Reply {
-        first,
         count: count.into(),
-        ..bare(number)
+        ..with_handle(number, &first)
     }
 }
 
 /// A reply that gives nothing but its number.
 fn bare(number: u8) -> Reply {
     Reply::refused(number)
+}
+
+/// A reply that gives one handle, or might have given one.
+fn with_handle(number: u8, first: &Given) -> Reply {
+    Reply {
+        first: first.told(),
+        ..bare(number)
+    }
 }

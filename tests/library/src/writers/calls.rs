@@ -1,8 +1,9 @@
 //! Calls by chance for a list: half of them by those who write to the cluster, many about others of its node.
 
+use crate::chance::handles::of_another_width;
 use crate::chance::questions::{Maker, FILLING};
 use crate::chance::stores::gaps;
-use crate::chance::{below, near, passwords};
+use crate::chance::{below, near, passwords, width};
 use crate::pairs::{does, names, validates, Pair};
 use crate::question::{Question, LOOK, VALIDATION};
 use model::call::{Call, DELETE_CLUSTER, FREEZE};
@@ -75,7 +76,7 @@ impl Asking {
         at: u64,
     ) -> Question {
         let reads =
-            |handle: &Handle| pair.is_apart(handle) && validates(stores, handle, &[Mode::Read]);
+            |handle: Handle| pair.is_apart(&handle) && validates(stores, &handle, &[Mode::Read]);
         loop {
             let store = &stores[below(random, stores.len())];
             let question = Made {
@@ -124,13 +125,14 @@ impl Made<'_> {
         }
     }
 
-    /// Call 1 for the cluster.
+    /// Call 1 for the cluster, at any width.
     fn anew(&mut self) -> Question {
         let (node, local) = self.pair.apart;
         let (read, write) = passwords(self.random);
         Question::of(Call::NewCluster {
             node: node as u32,
             local: local as u32,
+            width: width(self.random).segments(),
             read,
             write,
         })
@@ -174,19 +176,26 @@ impl Made<'_> {
         }
     }
 
-    /// One that may ask for reading by handles that write, or by passwords that are one bit off.
+    /// One that may ask for reading by handles that write, by passwords that are one bit off, or by handles that would
+    /// read if they were as wide as the cluster.
     fn as_if_to_read(&mut self) -> Question {
         let (node, local) = self.pair.apart;
-        let write = self.store.clusters[node][local].write;
-        let mut question = self.of((node, local), &READING);
-        for handle in question.presented_mut() {
-            handle.password = match self.random.below(4) {
+        let cluster = self.store.clusters[node][local];
+        let question = self.of((node, local), &READING);
+        let (random, store) = (&mut *self.random, self.store);
+        let other_width = random.one_in(4);
+        question.with_handles(|handle| {
+            if other_width {
+                handle.password = derive(&cluster.read, &handle.selector);
+                *handle = of_another_width(random, store, *handle);
+                return;
+            }
+            handle.password = match random.below(4) {
                 0 => handle.password,
-                1 => near(self.random, handle.password),
-                _ => derive(&write, &handle.selector),
+                1 => near(random, handle.password),
+                _ => derive(&cluster.write, &handle.selector),
             };
-        }
-        question
+        })
     }
 
     /// Another cluster of the node, an active one if there is one.
@@ -208,7 +217,8 @@ pub(super) fn written_part(
     let Call::Write { segment, handle } = &question.call else {
         return None;
     };
-    let (node, local) = Some(pair.apart).filter(|_| pair.is_apart(handle))?;
+    let handle = Handle::from_bytes(handle)?;
+    let (node, local) = Some(pair.apart).filter(|_| pair.is_apart(&handle))?;
     let segments = &store.clusters[node][local].segments;
     let extent = segments.get(*segment as usize)?.extent()?;
     Some(extent.in_memory(node))

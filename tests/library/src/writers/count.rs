@@ -5,9 +5,9 @@ use super::freed::Freed;
 use crate::pairs::{parts_of, validates, Pair};
 use crate::question::{Answer, Held, Question};
 use model::call::Call;
-use model::handle::Handle;
+use model::handle::{Handle, Width};
 use model::store::{Cluster, Mode, Store};
-use model::table::{DONE, FROZEN, INACTIVE, VIOLATED_PROTECTION};
+use model::table::{DONE, FROZEN, INACTIVE, LENGTH, VIOLATED_PROTECTION};
 use std::collections::BTreeMap;
 
 /// What the freedom of writers allows. Where nothing else is said it is done, by handles that open the cluster for
@@ -37,6 +37,12 @@ pub enum Deed {
     MadeAnew,
     WrittenAnew,
     DeletedAnew,
+    /// Call 1 for it, at another width than it had; and a write by a handle of each width.
+    MadeWider,
+    MadeSmaller,
+    WrittenAt(Width),
+    /// 25, where a handle of another width asks for reading that has a password made from the read password.
+    ReaderOfAnotherWidth,
     /// Call 7 with a handle that opens the cluster for reading.
     ReaderWeakened,
     /// 9 by handles that open the cluster for writing: for a read, for a look, and for another call in mode 1.
@@ -57,13 +63,15 @@ pub enum Deed {
 
 impl Deed {
     #[rustfmt::skip]
-    pub const ALL: [Deed; 27] = [
+    pub const ALL: [Deed; 33] = [
         Deed::Written, Deed::WrittenByAWeaker, Deed::WrittenGuess, Deed::Made, Deed::MadeAgain,
         Deed::Deleted, Deed::Frozen, Deed::Reduced, Deed::Joined, Deed::Validated,
         Deed::NewPassword, Deed::Guessed, Deed::ByBothInOne, Deed::ClusterDeleted, Deed::MadeAnew,
         Deed::WrittenAnew, Deed::DeletedAnew, Deed::ReaderWeakened, Deed::ReadRefused,
         Deed::LookRefused, Deed::Mode1Refused, Deed::WriteRefused, Deed::WhileDeleted,
         Deed::FrozenNotWritten, Deed::FrozenNotDeleted, Deed::MadeByAnother, Deed::ReadByAnother,
+        Deed::MadeWider, Deed::MadeSmaller, Deed::WrittenAt(Width::Four),
+        Deed::WrittenAt(Width::Eight), Deed::WrittenAt(Width::Sixteen), Deed::ReaderOfAnotherWidth,
     ];
 }
 
@@ -97,15 +105,18 @@ impl Count {
 pub(super) struct Watch<'a> {
     count: &'a mut Count,
     freed: Freed,
+    /// How wide the cluster was when it was there last.
+    width: u8,
     anew: bool,
     guess: bool,
 }
 
 impl Watch<'_> {
-    pub fn of(count: &mut Count, apart: (usize, usize)) -> Watch<'_> {
+    pub fn of<'a>(count: &'a mut Count, pair: &Pair, [store, _]: &[Store; 2]) -> Watch<'a> {
         Watch {
             count,
-            freed: Freed::new(apart),
+            freed: Freed::new(pair.apart),
+            width: cluster_of(pair, store).width,
             anew: false,
             guess: false,
         }
@@ -135,11 +146,12 @@ impl Watch<'_> {
             self.add(deed);
             self.note_more(deed, call);
         }
+        self.note_width(pair, &after[0]);
         if !answer.reply.is_done() {
             return;
         }
         self.count.done += 1;
-        if call.needed_mode().is_some() && call.presented().all(|handle| pair.is_apart(handle)) {
+        if call.needed_mode().is_some() && call.presented().all(|handle| pair.is_apart(&handle)) {
             self.count.by_writers += 1;
             if in_one(pair, before, Cluster::has_equal_passwords) {
                 self.add(Deed::ByBothInOne);
@@ -159,8 +171,23 @@ impl Watch<'_> {
         *self.count.deeds.entry(deed).or_default() += 1;
     }
 
+    /// What the cluster is since, if it is there.
+    fn note_width(&mut self, pair: &Pair, store: &Store) {
+        let width = cluster_of(pair, store).width;
+        match width {
+            0 => return,
+            _ if width > self.width => self.add(Deed::MadeWider),
+            _ if width < self.width => self.add(Deed::MadeSmaller),
+            _ => {}
+        }
+        self.width = width;
+    }
+
     /// What such a deed is besides.
     fn note_more(&mut self, deed: Deed, call: &Call) {
+        if let (Deed::Written, Some(handle)) = (deed, call.handle()) {
+            self.add(Deed::WrittenAt(handle.width()));
+        }
         let weaker = call.presented().any(|handle| !handle.selector.is_primary());
         self.anew |= deed == Deed::MadeAnew;
         let more = match deed {
@@ -181,15 +208,16 @@ impl Watch<'_> {
     /// The copies are these stores at the end.
     pub fn note_end(self, pair: &Pair, stores: &[Store; 2]) {
         let [first, second] = &pair.copies;
-        let (node, local) = pair.apart;
         let bytes = parts_of(&stores[0], pair.apart)
             .into_iter()
             .any(|part| first.memory[part.clone()] != second.memory[part]);
-        let [one, other] = stores
-            .each_ref()
-            .map(|store| store.clusters[node][local].read);
+        let [one, other] = stores.each_ref().map(|store| cluster_of(pair, store).read);
         self.count.differing += u64::from(bytes && one != other);
     }
+}
+
+fn cluster_of<'a>(pair: &Pair, store: &'a Store) -> &'a Cluster {
+    &store.clusters[pair.apart.0][pair.apart.1]
 }
 
 /// What a call with this number comes to at the cluster. The copies were these stores before it.
@@ -198,11 +226,12 @@ fn of_cluster(pair: &Pair, stores: &[Store; 2], call: &Call, number: u8) -> Opti
         let own = (*node as usize, *local as usize) == pair.apart;
         return (own && number == DONE).then_some(Deed::MadeAnew);
     }
-    if !call.presented().all(|handle| pair.is_apart(handle)) {
+    let known = call.presented().count() == call.presented_bytes().count();
+    if !known || !call.presented().all(|handle| pair.is_apart(&handle)) {
         return None;
     }
     let open = |mode: Mode| {
-        let opens = |handle: &Handle| validates(stores, handle, &[mode]);
+        let opens = |handle: Handle| validates(stores, &handle, &[mode]);
         call.presented().all(opens)
     };
     match (call, number) {
@@ -210,6 +239,13 @@ fn of_cluster(pair: &Pair, stores: &[Store; 2], call: &Call, number: u8) -> Opti
         (Call::Weaken { .. }, _) => None,
         (_, DONE) => done(pair, stores, call),
         (_, INACTIVE) => Some(Deed::WhileDeleted),
+        (_, LENGTH) if call.needed_mode() == Some(Mode::Read) => {
+            let [read, _] = stores.each_ref().map(|store| cluster_of(pair, store).read);
+            let made_from = |handle: Handle| handle.is_made_from(&read);
+            call.presented()
+                .any(made_from)
+                .then_some(Deed::ReaderOfAnotherWidth)
+        }
         (Call::Write { .. }, FROZEN) => Some(Deed::FrozenNotWritten),
         (Call::DeleteCluster { .. }, FROZEN) => Some(Deed::FrozenNotDeleted),
         (_, VIOLATED_PROTECTION) => match (call, call.needed_mode()?) {
@@ -246,9 +282,8 @@ fn done(pair: &Pair, stores: &[Store; 2], call: &Call) -> Option<Deed> {
 
 /// Whether this is so of the cluster in one copy and not in the other.
 fn in_one(pair: &Pair, stores: &[Store; 2], is_so: impl Fn(&Cluster) -> bool) -> bool {
-    let (node, local) = pair.apart;
     let [one, other] = stores
         .each_ref()
-        .map(|store| is_so(&store.clusters[node][local]));
+        .map(|store| is_so(cluster_of(pair, store)));
     one != other
 }

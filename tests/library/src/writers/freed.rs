@@ -41,14 +41,14 @@ impl Freed {
             }
         }
         let handle = call.handle()?;
-        match (call, named(handle, call.segment())) {
+        match (call, named(&handle, call.segment())) {
             (Call::NewSegment { .. }, Some(named)) => self.note_new(after, named),
             (Call::Write { .. } | Call::DeleteSegment { .. }, Some(named)) => {
                 self.made.retain(|made| *made != named);
                 None
             }
             (Call::DeleteCluster { .. }, _) => {
-                let deleted = |made: &Named| names(handle, (made.0, made.1));
+                let deleted = |made: &Named| names(&handle, (made.0, made.1));
                 self.made.retain(|made| !deleted(made));
                 None
             }

@@ -44,7 +44,7 @@ fn one(guard: Guard, random: &mut Random, count: &mut Count) -> Result<(), Strin
     let apart = pair.apart;
     let mut stores = pair.stores()?;
     let mut given = Vec::new();
-    let mut watch = Watch::of(count, apart);
+    let mut watch = Watch::of(count, &pair, &stores);
     for at in 1..=LIST_CALLS {
         let question = asking.question(random, &pair, &stores, &given, at);
         watch.expect(&pair, &stores, &question);

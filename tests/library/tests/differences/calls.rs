@@ -3,7 +3,7 @@
 
 use library::compare::Guard;
 use library::image::{
-    record_at, IMAGE_BYTES, LENGTH_AT, MARK_AT, RECORD_BYTES, SEGMENTS_AT, SEGMENT_BYTES,
+    record_at, IMAGE_BYTES, LENGTH_AT, MARK_AT, READ_AT, RECORD_BYTES, SEGMENTS_AT, SEGMENT_BYTES,
 };
 use library::question::Question;
 use library::tally::Tally;
@@ -68,7 +68,7 @@ fn a_refusal_that_gives_a_handle() {
         |held, question| {
             let mut answer = guard::ask(held, question);
             if answer.reply.number == VIOLATED_PROTECTION {
-                answer.reply.first[22] = 1;
+                answer.reply.first = vec![0; 23];
             }
             answer
         },
@@ -81,7 +81,7 @@ fn a_buffer_cleared_behind_the_segment() {
     found_out(
         |held, question| {
             let mut answer = guard::ask(held, question);
-            if let (Call::Read { .. }, true) = (question.call, answer.reply.is_done()) {
+            if let (Call::Read { .. }, true) = (&question.call, answer.reply.is_done()) {
                 answer.buffer[answer.reply.length as usize..].fill(0);
             }
             answer
@@ -95,7 +95,7 @@ fn bytes_read_before_the_refusal() {
     found_out(
         |held, question| {
             let mut answer = guard::ask(held, question);
-            if let (Call::Read { .. }, SHORT) = (question.call, answer.reply.number) {
+            if let (Call::Read { .. }, SHORT) = (&question.call, answer.reply.number) {
                 answer.buffer.fill(0);
             }
             answer
@@ -126,7 +126,7 @@ fn a_write_of_one_byte_too_many() {
     found_out(
         |held, question| {
             let answer = guard::ask(held, question);
-            if let (Call::Write { .. }, true) = (question.call, answer.reply.is_done()) {
+            if let (Call::Write { .. }, true) = (&question.call, answer.reply.is_done()) {
                 held.memory[MEMORY_BYTES - 1] ^= 1;
             }
             answer
@@ -141,11 +141,12 @@ fn a_deleted_cluster_that_keeps_a_password() {
         |held, question| {
             let before = held.image;
             let answer = guard::ask(held, question);
-            if let (Call::DeleteCluster { handle, .. }, true) =
-                (question.call, answer.reply.is_done())
+            let handle = question.call.handle();
+            if let (Call::DeleteCluster { .. }, Some(handle), true) =
+                (&question.call, handle, answer.reply.is_done())
             {
-                let record = record_at(handle.node.into(), handle.local.into());
-                held.image[record.start + 1] = before[record.start + 1];
+                let read = record_at(handle.node.into(), handle.local.into()).start + READ_AT;
+                held.image[read] = before[read];
             }
             answer
         },

@@ -4,7 +4,7 @@ use library::batch::BatchGuard;
 use library::compare::Guard;
 use library::tally::Tally;
 use library::{batch, copies, guard, published};
-use model::sizes::{MEMORY_BYTES, NODE_BYTES};
+use model::sizes::NODE_BYTES;
 
 const SEED: u64 = 7;
 const PAIRS: u64 = 40;
@@ -37,20 +37,20 @@ fn a_secret_byte_kept_elsewhere() {
     let keeping: Guard = |held, question| {
         let mut answer = guard::ask(held, question);
         let secrets = held.memory[..NODE_BYTES].iter();
-        held.memory[MEMORY_BYTES - 1] = secrets.fold(0, |sum, byte| sum ^ byte);
+        held.memory[NODE_BYTES] = secrets.fold(0, |sum, byte| sum ^ byte);
         // Else a read would tell it before the list ends.
         answer.buffer.clear();
         answer
     };
-    let told = copies::compare(keeping, SEED, PAIRS).expect_err("the last byte tells others");
+    let told = copies::compare(keeping, SEED, PAIRS).expect_err("another node's byte tells them");
     assert!(told.contains("memories of the copies differ"), "{told}");
 }
 
 #[test]
 fn a_batch_that_clears_the_other_places() {
-    let clearing: BatchGuard = |held, mode, handles, numbers| {
+    let clearing: BatchGuard = |held, mode, width, handles, numbers| {
         numbers.fill(0);
-        guard::validate_all(held, mode, handles, numbers)
+        guard::validate_all(held, mode, width, handles, numbers)
     };
     let told = batch::compare(clearing, SEED, BATCHES, &mut Tally::default())
         .expect_err("places were cleared");
@@ -59,8 +59,9 @@ fn a_batch_that_clears_the_other_places() {
 
 #[test]
 fn a_batch_that_counts_a_handle_cut_short() {
-    let counting: BatchGuard =
-        |held, mode, handles, numbers| guard::validate_all(held, mode, handles, numbers).max(1);
+    let counting: BatchGuard = |held, mode, width, handles, numbers| {
+        guard::validate_all(held, mode, width, handles, numbers).max(1)
+    };
     let told = batch::compare(counting, SEED, BATCHES, &mut Tally::default())
         .expect_err("one is too many");
     assert!(told.contains("0 are due"), "{told}");

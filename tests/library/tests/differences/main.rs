@@ -10,4 +10,5 @@ mod modes;
 mod nothing;
 mod renewals;
 mod seen;
+mod widths;
 mod writers;

@@ -87,10 +87,11 @@ fn of_a_validation() {
 
 #[test]
 fn of_a_batch() {
-    let in_one_byte: BatchGuard =
-        |held, mode, handles, numbers| guard::validate_all(held, mode & 0xff, handles, numbers);
-    let in_four_bytes: BatchGuard = |held, mode, handles, numbers| {
-        guard::validate_all(held, mode & 0xffff_ffff, handles, numbers)
+    let in_one_byte: BatchGuard = |held, mode, width, handles, numbers| {
+        guard::validate_all(held, mode & 0xff, width, handles, numbers)
+    };
+    let in_four_bytes: BatchGuard = |held, mode, width, handles, numbers| {
+        guard::validate_all(held, mode & 0xffff_ffff, width, handles, numbers)
     };
     for guard in [in_one_byte, in_four_bytes] {
         let told = batch::compare(guard, SEED, BATCHES, &mut Tally::default());

@@ -6,7 +6,7 @@ use library::question::{Answer, Held, Question};
 use library::tally::Tally;
 use library::{guard, runs, single};
 use model::call::{Call, Reply};
-use model::handle::{Handle, FLAT};
+use model::handle::Handle;
 use model::table::{DONE, EMPTY, GAPPED, NO_SUCH_PLACE, SPENT, UNSOUND};
 
 const SEED: u64 = 7;
@@ -35,9 +35,9 @@ fn names(told: &str, right: u8, wrong: u8) {
 }
 
 /// The handle and the mask of a weakening.
-fn weakening(question: &Question) -> Option<(Handle, u8)> {
+fn weakening(question: &Question) -> Option<(Handle, u16)> {
     match question.call {
-        Call::Weaken { mask, handle } => Some((handle, mask)),
+        Call::Weaken { mask, .. } => Some((question.call.handle()?, mask)),
         _ => None,
     }
 }
@@ -46,12 +46,12 @@ fn weakening(question: &Question) -> Option<(Handle, u8)> {
 fn instead(
     held: &mut Held,
     question: &Question,
-    other: fn(Reply, Handle, u8) -> Option<Reply>,
+    other: fn(&Reply, Handle, u16) -> Option<Reply>,
 ) -> Answer {
-    let mut answer = guard::ask(held, question);
-    let replied = weakening(question).and_then(|(handle, mask)| other(answer.reply, handle, mask));
-    answer.reply = replied.unwrap_or(answer.reply);
-    answer
+    let Answer { reply, buffer } = guard::ask(held, question);
+    let replied = weakening(question).and_then(|(handle, mask)| other(&reply, handle, mask));
+    let reply = replied.unwrap_or(reply);
+    Answer { reply, buffer }
 }
 
 fn refused_if(applies: bool, number: u8) -> Option<Reply> {
@@ -63,8 +63,9 @@ fn given_if(applies: bool, handle: Handle) -> Option<Reply> {
     let first_flat = handle.selector.first_flat();
     let mut weaker = handle;
     if let (Some(at), 1..) = (first_flat, handle.selector.referenced()) {
-        weaker.selector.0[at] = FLAT - handle.selector.referenced();
-        weaker.password = guard::convert(&handle.password, weaker.selector.0[at]);
+        let noted = handle.width().flat() - handle.selector.referenced();
+        weaker.selector.subselectors[at] = noted;
+        weaker.password = guard::convert(&handle.password, noted);
     }
     applies.then_some(Reply::with_handle(&weaker))
 }
@@ -182,15 +183,20 @@ fn one_segment_left_taken_for_none() {
     );
 }
 
+/// Whether it is done by a handle that references nothing.
+fn is_done_to_nothing(question: &Question, answer: &Answer) -> bool {
+    let handle = question.call.handle();
+    answer.reply.is_done() && handle.is_some_and(|handle| handle.selector.count() == 0)
+}
+
 #[test]
 fn a_reduction_refused() {
     found_out(
         |held, question| {
             let mut answer = guard::ask(held, question);
-            if let (Call::Reduce { handle, .. }, true) = (question.call, answer.reply.is_done()) {
-                if handle.selector.count() == 0 {
-                    answer.reply = Reply::refused(EMPTY);
-                }
+            if matches!(question.call, Call::Reduce { .. }) && is_done_to_nothing(question, &answer)
+            {
+                answer.reply = Reply::refused(EMPTY);
             }
             answer
         },
@@ -204,10 +210,10 @@ fn a_validation_refused() {
     found_out(
         |held, question| {
             let mut answer = guard::ask(held, question);
-            if let (Call::Validate { handle, .. }, true) = (question.call, answer.reply.is_done()) {
-                if handle.selector.count() == 0 {
-                    answer.reply = Reply::refused(EMPTY);
-                }
+            if matches!(question.call, Call::Validate { .. })
+                && is_done_to_nothing(question, &answer)
+            {
+                answer.reply = Reply::refused(EMPTY);
             }
             answer
         },

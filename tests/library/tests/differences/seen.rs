@@ -8,12 +8,12 @@ use library::tally::Tally;
 use library::{guard, runs, single};
 use model::call::{Call, Reply};
 use model::handle::Handle;
-use model::sizes::{CLUSTERS, NODES, SEGMENTS};
+use model::sizes::{CLUSTERS, NODES};
 use model::store::{Cluster, Segment, Store};
 
 pub const SEED: u64 = 7;
-pub const CALLS: u64 = 20_000;
-pub const RUNS: u64 = 60;
+pub const CALLS: u64 = 40_000;
+pub const RUNS: u64 = 120;
 
 /// What single calls and long rows say of a guard.
 pub fn told_twice(guard: Guard) -> [String; 2] {
@@ -48,7 +48,7 @@ pub fn names(told: &str, call: &str, right: u8, wrong: u8) {
     }
 }
 
-/// A question about a segment, and what it is put to.
+/// A question about a segment, by a handle of one of the three lengths, and what it is put to.
 pub struct Seen {
     pub store: Option<Store>,
     /// The current node, the handle's where the call has none.
@@ -61,7 +61,7 @@ pub struct Seen {
 
 impl Seen {
     pub fn of(held: &Held, question: &Question) -> Option<Seen> {
-        let handle = *question.call.handle()?;
+        let handle = question.call.handle()?;
         Some(Seen {
             store: decode(&held.image),
             node: question.call.current_node().unwrap_or(handle.node.into()),
@@ -107,7 +107,7 @@ impl Seen {
     }
 
     pub fn is_no_segment(&self) -> bool {
-        self.segment as usize >= SEGMENTS
+        self.segment as usize >= self.handle.width().segments()
     }
 
     pub fn is_gapped(&self) -> bool {
@@ -145,10 +145,8 @@ impl Seen {
     /// What the library replies to the same call in the node of its handle.
     pub fn at_home(&self) -> Reply {
         self.asked(|_, question| {
-            if let Call::Look { node, handle, .. } | Call::Freeze { node, handle, .. } =
-                &mut question.call
-            {
-                *node = handle.node.into();
+            if let Call::Look { node, .. } | Call::Freeze { node, .. } = &mut question.call {
+                *node = self.handle.node.into();
             }
         })
     }

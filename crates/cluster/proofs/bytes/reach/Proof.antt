@@ -1,4 +1,4 @@
--- Each return is the shared rows or one row more.
+-- Each return is one row.
 -- Assumes nothing.
 use Rattle.cluster.proofs.AccessLaws.{reach-shared, reach-not-referenced, reach-absent, reach-none}
 use borrow.Author.Needs.{needs}
@@ -21,6 +21,7 @@ pub reach-spec : {M : Type 1} → statement M
 reach-spec =
     tie.close
     (tie.spec
+    (λ c κs. search needs)
     (λ c κs. search needs)
     (λ c κs. search needs)
     returns

@@ -1,7 +1,6 @@
 -- Refused by the shared rows, refused with 10 or 12, or the password replaced.
 -- Assumes nothing.
-use Rattle.cluster.proofs.PasswordLaws.{new-password-refused, new-password-primary, new-password-old}
-use Rattle.cluster.proofs.PasswordLaws.{new-password-done}
+use Rattle.cluster.proofs.PasswordLaws.{new-password-refused, new-password-primary, new-password-old, new-password-done}
 use borrow.Author.Needs.{needs}
 use Rattle.cluster.proofs.change.new_password.Statement.{statement}
 use Rattle.cluster.proofs.change.new_password.Tie as tie

@@ -1,4 +1,4 @@
--- Each return is the owner's rows or row 14.
+-- The owner's rows, then 14.
 -- Assumes nothing.
 use Rattle.cluster.proofs.ChangeLaws.{own-refused, own-absent, own-none}
 use borrow.Author.Needs.{needs}
@@ -18,6 +18,7 @@ pub own-segment-spec : {M : Type 1} → statement M
 own-segment-spec =
     tie.close
     (tie.spec
+    (λ c κs. search needs)
     (λ c κs. search needs)
     returns
     (λ c κs. search needs)

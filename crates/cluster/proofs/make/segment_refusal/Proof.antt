@@ -1,4 +1,4 @@
--- The rows that an owner meets, then 13.
+-- The owner's rows, then 13.
 -- Assumes nothing.
 use Rattle.cluster.proofs.MakeLaws.{make-owner, make-present, make-none}
 use borrow.Author.Needs.{needs}
@@ -18,6 +18,7 @@ pub segment-refusal-spec : {M : Type 1} → statement M
 segment-refusal-spec =
     tie.close
     (tie.spec
+    (λ c κs. search needs)
     (λ c κs. search needs)
     returns
     (λ c κs. search needs)

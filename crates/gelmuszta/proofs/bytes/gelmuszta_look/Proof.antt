@@ -1,9 +1,9 @@
--- An image that holds no sound store, or what the core tells of what it holds.
+-- What is refused before all else, or what the core tells of what the image holds.
 -- Assumes nothing.
 use mathlib.Core.Path.{refl}
 use denote.Ref.{now}
-use Rattle.gelmuszta.proofs.ExportLaws.{refused-unsound, given-of}
-use Rattle.gelmuszta.proofs.LookLaws.{hidden-unsound, look-rises, look-told, look-placed}
+use Rattle.gelmuszta.proofs.ExportLaws.{held-of, refused-of, given-of}
+use Rattle.gelmuszta.proofs.LookLaws.{hidden-of, look-rises, look-told, look-placed}
 use borrow.Author.Needs.{needs}
 use Rattle.gelmuszta.proofs.bytes.gelmuszta_look.Statement.{statement}
 use Rattle.gelmuszta.proofs.bytes.gelmuszta_look.Tie as tie
@@ -12,22 +12,22 @@ returns : tie.Need-returns
 returns c =
     let o = c .before .look-up .ensures in
     let m = now (c .before .before .before .before .args .memory) in (
-      refused-unsound _ m _ (o .sound) (o .whole) _ refl _ refl (c .if1 .taken),
-      hidden-unsound _ m _ _ _ _ (o .sound) (c .if1 .taken),
+      refused-of _ m _ _ o _ refl refl _ refl (c .if1 .taken),
+      hidden-of _ m _ _ _ _ o (c .if1 .taken),
     )
 
 sub-length : tie.Need-sub-length
 sub-length c =
     let o = c .before .before .before .look-up .ensures in
     let m = now (c .before .before .before .before .before .before .args .memory) in
-    let held = c .before .before .if1 .left in
+    let held = held-of _ _ _ _ o (c .before .before .if1 .left) in
     look-rises _ m _ _ _ _ (o .sound) (o .whole) held _ (c .before .look .ensures _ m _ (given-of _ m _ _ o held))
 
 returns-2 : tie.Need-returns-2
 returns-2 c =
     let o = c .before .before .before .look-up .ensures in
     let m = now (c .before .before .before .before .before .before .args .memory) in
-    let held = c .before .before .if1 .left in
+    let held = held-of _ _ _ _ o (c .before .before .if1 .left) in
     let told = c .before .look .ensures _ m _ (given-of _ m _ _ o held) in
     (look-told _ m _ _ _ _ (o .sound) (o .whole) held _ told, look-placed _ m _ _ _ _ (o .sound) (o .whole) held _ told)
 

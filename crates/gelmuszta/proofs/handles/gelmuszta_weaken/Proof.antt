@@ -6,7 +6,11 @@ use Rattle.gelmuszta.proofs.handles.gelmuszta_weaken.Statement.{stateme
 use Rattle.gelmuszta.proofs.handles.gelmuszta_weaken.Tie as tie
 
 returns : tie.Need-returns
-returns c = weaken-always _ _ (c .before .weaken .ensures)
+returns c = weaken-always _ _ (c .before .before .weaken .ensures)
 
 pub gelmuszta-weaken-spec : {M : Type 1} → statement M
-gelmuszta-weaken-spec = tie.close (tie.spec (λ c κs. search needs) returns)
+gelmuszta-weaken-spec =
+    tie.close
+    (tie.spec
+    (λ c κs. search needs)
+    returns)

@@ -1,4 +1,4 @@
--- The core on what the image holds, which refuses with 1 where it holds no sound store.
+-- The core on what the image holds, which refuses before all else where it holds no sound store.
 -- Assumes nothing.
 use Rattle.gelmuszta.proofs.ValidationLaws.{validate-told}
 use borrow.Author.Needs.{needs}

@@ -1,7 +1,6 @@
 -- Before turn k the first flat subselector is k further than the first one from place k on.
 -- Assumes nothing.
 use Prim.Native.Nat.{_-_}
-use Rattle.sizes.specs.Sizes.{segments}
 use Rattle.handle.specs.Sizes.{subselectors}
 use Rattle.handle.proofs.CodeLaws.{Searched, searched-none, searched-more, searched-here, searched-all}
 use borrow.Author.Needs.{needs}
@@ -9,22 +8,22 @@ use Rattle.handle.proofs.Handle.first_flat.Statement.{statement}
 use Rattle.handle.proofs.Handle.first_flat.Tie as tie
 
 abbrev Inv-loop : tie.InvT-loop
-Inv-loop s k₀ k = Searched segments s k
+Inv-loop flat s k₀ k = Searched flat s k
 
 abbrev μ-loop : tie.MeasureT-loop
-μ-loop s k₀ k = subselectors - k
+μ-loop flat s k₀ k = subselectors - k
 
 loop-holds : tie.Need-loop-holds Inv-loop μ-loop
-loop-holds c = search (needs, searched-none segments)
+loop-holds c = search (needs, searched-none)
 
 returns : tie.Need-returns Inv-loop μ-loop
-returns c = search (needs, searched-here segments)
+returns c = search (needs, searched-here)
 
 loop-again : tie.Need-loop-again Inv-loop μ-loop
-loop-again c = search (needs, searched-more segments)
+loop-again c = search (needs, searched-more)
 
 returns-2 : tie.Need-returns-2 Inv-loop μ-loop
-returns-2 c = search (needs, searched-all segments)
+returns-2 c = search (needs, searched-all)
 
 pub first-flat-spec : {M : Type 1} → statement M
 first-flat-spec =
@@ -32,7 +31,9 @@ first-flat-spec =
     (tie.spec
     Inv-loop
     μ-loop
+    (λ c κs. search needs)
     loop-holds
+    (λ c. search needs)
     (λ c. search needs)
     returns
     (λ c. search needs)

@@ -1,13 +1,12 @@
--- The four steps, one after the other, are the chain along the row of subselectors.
+-- Four conversions, one after the other.
 -- Assumes nothing.
-use Rattle.sizes.specs.Sizes.{segments}
 use Rattle.handle.proofs.CodeLaws.{code-opened}
 use borrow.Author.Needs.{needs}
 use Rattle.handle.proofs.Handle.opened_with.Statement.{statement}
 use Rattle.handle.proofs.Handle.opened_with.Tie as tie
 
 returns : tie.Need-returns
-returns c = search (needs, code-opened segments)
+returns c = search (needs, code-opened)
 
 pub opened-with-spec : {M : Type 1} → statement M
 opened-with-spec =

@@ -1,4 +1,4 @@
--- A byte has no bit at or above the width; below it the mask test on the common bits is the definition.
+-- The bit of the segment in what all four have; beyond the room of a subselector there is none.
 -- Assumes nothing.
 use Rattle.handle.proofs.CodeLaws.{references-none, code-references}
 use borrow.Author.Needs.{needs}

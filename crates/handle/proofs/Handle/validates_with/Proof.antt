@@ -1,13 +1,12 @@
--- The password that the chain ends with is compared with the handle's.
+-- The chain of conversions, and its end compared.
 -- Assumes nothing.
-use Rattle.sizes.specs.Sizes.{segments}
 use Rattle.handle.proofs.CodeLaws.{code-validates}
 use borrow.Author.Needs.{needs}
 use Rattle.handle.proofs.Handle.validates_with.Statement.{statement}
 use Rattle.handle.proofs.Handle.validates_with.Tie as tie
 
 returns : tie.Need-returns
-returns c = search (needs, code-validates segments)
+returns c = search (needs, code-validates)
 
 pub validates-with-spec : {M : Type 1} → statement M
 validates-with-spec = tie.close (tie.spec (λ c κs. search needs) (λ c κs. search needs) returns)

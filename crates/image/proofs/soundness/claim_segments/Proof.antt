@@ -3,7 +3,6 @@
 use Prim.Native.Nat.{_-_}
 use mathlib.Core.Path.{_≡_}
 use lib.ListN.{length}
-use Rattle.sizes.specs.Sizes.{segments}
 use Rattle.spans.specs.Spans.{marks}
 use Rattle.store.specs.inner.Passes.{mapWords}
 use Rattle.image.proofs.ClaimLaws.{Segments, segments-none, segments-more, segments-all}
@@ -12,13 +11,13 @@ use Rattle.image.proofs.soundness.claim_segments.Statement.{statement}
 use Rattle.image.proofs.soundness.claim_segments.Tie as tie
 
 abbrev Inv-loop : tie.InvT-loop
-Inv-loop b map₀ ok₀ i₀ map ok i = Segments b (marks map₀) i ok (marks map) × (length map ≡ mapWords)
+Inv-loop b count map₀ ok₀ i₀ map ok i = Segments b count (marks map₀) i ok (marks map) × (length map ≡ mapWords)
 
 abbrev μ-loop : tie.MeasureT-loop
-μ-loop b map₀ ok₀ i₀ map ok i = segments - i
+μ-loop b count map₀ ok₀ i₀ map ok i = count - i
 
 loop-holds : tie.Need-loop-holds Inv-loop μ-loop
-loop-holds c = (segments-none _ _, search needs)
+loop-holds c = (segments-none _ _ _, search needs)
 
 loop-again : tie.Need-loop-again Inv-loop μ-loop
 loop-again c = (search (needs, segments-more), search needs)

@@ -4,9 +4,6 @@ use Rattle.list.proofs.PerformLaws.{misfit-unsound, misfit-node, misfit
 use borrow.Author.Needs.{needs}
 use Rattle.list.proofs.perform.misfit.Statement.{statement}
 use Rattle.list.proofs.perform.misfit.Tie as tie
-use Rattle.list.proofs.perform.misfit.Reads as reads
-use Rattle.handle.proofs.Handle.decode.Reads as decode-reads
-use Rattle.store.proofs.sound.Reads as sound-reads
 
 returns : tie.Need-returns
 returns c = search (needs, misfit-unsound)

@@ -1,22 +1,10 @@
 -- Each code from 5 to 9, and 11, is its call; the others are done above.
 -- Assumes nothing.
-use Rattle.list.proofs.PerformLaws.{perform-read, perform-write, perform-weaken, perform-reduce}
-use Rattle.list.proofs.PerformLaws.{perform-new-password, perform-join, perform-own}
+use Rattle.list.proofs.PerformLaws.{perform-read, perform-write, perform-weaken, perform-reduce, perform-new-password}
+use Rattle.list.proofs.PerformLaws.{perform-join, perform-own}
 use borrow.Author.Needs.{needs}
 use Rattle.list.proofs.perform.perform.Statement.{statement}
 use Rattle.list.proofs.perform.perform.Tie as tie
-use Rattle.list.proofs.perform.perform.Reads as reads
-use Rattle.guard.proofs.read.Reads as read-reads
-use Rattle.guard.proofs.new_password.Reads as new-password-reads
-use Rattle.guard.proofs.weaken.Reads as weaken-reads
-use Rattle.guard.proofs.reduce.Reads as reduce-reads
-use Rattle.guard.proofs.join.Reads as join-reads
-use Rattle.list.proofs.fields.first.Reads as first-reads
-use Rattle.list.proofs.fields.handle.Reads as handle-reads
-use Rattle.list.proofs.fields.other.Reads as other-reads
-use Rattle.list.proofs.fields.wide.Reads as wide-reads
-use Rattle.list.proofs.perform.perform_own.Reads as perform-own-reads
-use Rattle.list.proofs.perform.perform_write.Reads as perform-write-reads
 
 returns : tie.Need-returns
 returns c = search (needs, perform-read)
@@ -44,7 +32,9 @@ perform-spec =
     tie.close
     (tie.spec
     (λ c. search needs)
-    (λ c κs. search needs)
+    (λ c. search needs)
+    (λ c. search needs)
+    (λ c. search needs)
     (λ c. search needs)
     (λ c κs. search needs)
     (λ c κs. search needs)
@@ -54,25 +44,36 @@ perform-spec =
     (λ c κs. search needs)
     (λ c. search needs)
     returns-2
-    (λ c κs. search needs)
+    (λ c. search needs)
+    (λ c. search needs)
+    (λ c. search needs)
     (λ c. search needs)
     (λ c κs. search needs)
-    returns-3
     (λ c κs. search needs)
+    returns-3
+    (λ c. search needs)
+    (λ c. search needs)
+    (λ c. search needs)
     (λ c. search needs)
     (λ c κs. search needs)
     (λ c κs. search needs)
     (λ c. search needs)
     returns-4
-    (λ c κs. search needs)
+    (λ c. search needs)
+    (λ c. search needs)
+    (λ c. search needs)
     (λ c κs. search needs)
     (λ c. search needs)
     (λ c κs. search needs)
     (λ c κs. search needs)
     (λ c. search needs)
     returns-5
-    (λ c κs. search needs)
-    (λ c κs. search needs)
+    (λ c. search needs)
+    (λ c. search needs)
+    (λ c. search needs)
+    (λ c. search needs)
+    (λ c. search needs)
+    (λ c. search needs)
     (λ c. search needs)
     (λ c κs. search needs)
     (λ c κs. search needs)

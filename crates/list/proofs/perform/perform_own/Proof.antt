@@ -5,18 +5,6 @@ use Rattle.list.proofs.PerformLaws.{own-freeze, own-none}
 use borrow.Author.Needs.{needs}
 use Rattle.list.proofs.perform.perform_own.Statement.{statement}
 use Rattle.list.proofs.perform.perform_own.Tie as tie
-use Rattle.list.proofs.perform.perform_own.Reads as reads
-use Rattle.calls.proofs.unchanged.Reads as unchanged-reads
-use Rattle.guard.proofs.delete_cluster.Reads as delete-cluster-reads
-use Rattle.guard.proofs.delete_segment.Reads as delete-segment-reads
-use Rattle.guard.proofs.freeze.Reads as freeze-reads
-use Rattle.guard.proofs.new_cluster.Reads as new-cluster-reads
-use Rattle.guard.proofs.new_segment.Reads as new-segment-reads
-use Rattle.list.proofs.fields.first.Reads as first-reads
-use Rattle.list.proofs.fields.handle.Reads as handle-reads
-use Rattle.list.proofs.fields.pair.Reads as pair-reads
-use Rattle.list.proofs.fields.second.Reads as second-reads
-use Rattle.list.proofs.fields.wide.Reads as wide-reads
 
 returns : tie.Need-returns
 returns c = search (needs, own-new-cluster)
@@ -50,13 +38,17 @@ perform-own-spec =
     (λ c κs. search needs)
     (λ c. search needs)
     returns
-    (λ c κs. search needs)
+    (λ c. search needs)
+    (λ c. search needs)
+    (λ c. search needs)
     (λ c. search needs)
     (λ c κs. search needs)
     (λ c κs. search needs)
     (λ c. search needs)
     returns-2
-    (λ c κs. search needs)
+    (λ c. search needs)
+    (λ c. search needs)
+    (λ c. search needs)
     (λ c. search needs)
     (λ c. search needs)
     (λ c κs. search needs)
@@ -67,7 +59,9 @@ perform-own-spec =
     (λ c κs. search needs)
     (λ c. search needs)
     returns-3
-    (λ c κs. search needs)
+    (λ c. search needs)
+    (λ c. search needs)
+    (λ c. search needs)
     (λ c. search needs)
     (λ c κs. search needs)
     (λ c. search needs)
@@ -75,7 +69,9 @@ perform-own-spec =
     (λ c κs. search needs)
     (λ c. search needs)
     returns-4
-    (λ c κs. search needs)
+    (λ c. search needs)
+    (λ c. search needs)
+    (λ c. search needs)
     (λ c. search needs)
     (λ c κs. search needs)
     (λ c. search needs)

@@ -4,12 +4,6 @@ use Rattle.list.proofs.PerformLaws.{write-misfit, write-fits}
 use borrow.Author.Needs.{needs}
 use Rattle.list.proofs.perform.perform_write.Statement.{statement}
 use Rattle.list.proofs.perform.perform_write.Tie as tie
-use Rattle.list.proofs.perform.perform_write.Reads as reads
-use Rattle.calls.proofs.unchanged.Reads as unchanged-reads
-use Rattle.guard.proofs.write.Reads as write-reads
-use Rattle.list.proofs.fields.handle.Reads as handle-reads
-use Rattle.list.proofs.fields.wide.Reads as wide-reads
-use Rattle.list.proofs.perform.misfit.Reads as misfit-reads
 
 returns : tie.Need-returns
 returns c = search (needs, write-misfit)
@@ -21,7 +15,9 @@ pub perform-write-spec : {M : Type 1} → statement M
 perform-write-spec =
     tie.close
     (tie.spec
-    (λ c κs. search needs)
+    (λ c. search needs)
+    (λ c. search needs)
+    (λ c. search needs)
     (λ c. search needs)
     (λ c κs. search needs)
     (λ c κs. search needs)

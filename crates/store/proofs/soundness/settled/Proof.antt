@@ -10,4 +10,4 @@ unfolding settled idle
 returns c = cc
 
 pub settled-spec : {M : Type 1} → statement M
-settled-spec = tie.close (tie.spec (λ c κs. search needs) (λ c κs. search needs) (λ c κs. search needs) returns)
+settled-spec = tie.close (tie.spec (λ c κs. search needs) (λ c κs. search needs) (λ c κs. search needs) (λ c κs. search needs) returns)

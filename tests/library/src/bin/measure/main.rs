@@ -10,8 +10,8 @@ use library::guard;
 use library::image::{decode, Image};
 use library::question::READ_MODE;
 use model::call::Call;
-use model::handle::{convert, Handle, HandleBytes, Password};
-use model::sizes::{HANDLE_BYTES, MEMORY_BYTES};
+use model::handle::{convert, Password, Width};
+use model::sizes::MEMORY_BYTES;
 use model::store::Store;
 use model::table::{refusal_below, Found, DONE, UNSOUND};
 use repeated::{OnImage, OnRecords};
@@ -28,7 +28,8 @@ const PREFACE: &str = "\
 The library, the model on the same image, and the model on records that it keeps decoded take turns.
 Ratios are library to model. Buffers are not cleared between calls. After each call the record of its
 cluster is put back, which is in the figures. Typical: on each node ten segments of 400 bytes in five
-clusters; full: 64 of 64 bytes. Reads, looks and writes are of one segment.";
+clusters; full: 64 of 64 bytes, or with clusters of sixteen 128 of 32. Where nothing else is said
+clusters and handles are of eight. Reads, looks and writes are of one segment.";
 
 /// The best times of a call: the library's, the model's on the image, the model's on its records.
 type Times = [f64; 3];
@@ -123,16 +124,16 @@ fn one_call(row: &Row) {
 
 /// What the model does for a batch: soundness once, then for every handle the rows of the table
 /// below the first, in their order.
-fn validate_all(store: &Store, mode: u32, handles: &[u8], numbers: &mut [u8]) {
+fn validate_all(store: &Store, mode: u32, width: Width, handles: &[u8], numbers: &mut [u8]) {
     let found = Found {
         store,
         memory_bytes: MEMORY_BYTES,
         buffer_bytes: 0,
     };
     let sound = store.is_sound(found.memory_bytes);
-    for (number, bytes) in numbers.iter_mut().zip(handles.chunks_exact(HANDLE_BYTES)) {
-        let bytes = HandleBytes::try_from(bytes).expect("chunks are whole handles");
-        let handle = Handle::from_bytes(&bytes);
+    let handles = handles.chunks_exact(width.handle_bytes());
+    for (number, bytes) in numbers.iter_mut().zip(handles) {
+        let handle = bytes.to_vec();
         let call = Call::Validate { mode, handle };
         *number = match sound {
             true => refusal_below(UNSOUND, &call, &found).unwrap_or(DONE),
@@ -142,7 +143,8 @@ fn validate_all(store: &Store, mode: u32, handles: &[u8], numbers: &mut [u8]) {
 }
 
 /// A figure is for one handle of the batch.
-fn batch(store: &Store) {
+fn batch(name: &str, width: Width) {
+    let store = &typical(width);
     let mut held = held(store);
     let image = held.image;
     let handles = many_handles(store, BATCH_HANDLES);
@@ -152,18 +154,19 @@ fn batch(store: &Store) {
         BATCH_ROUNDS,
         1,
         || {
-            guard::validate_all(&mut held, READ_MODE as usize, black_box(&handles), first);
+            let (mode, segments) = (READ_MODE as usize, width.segments());
+            guard::validate_all(&mut held, mode, segments, black_box(&handles), first);
         },
         || {
             let store = decode(black_box(&image)).expect("the image is not damaged");
-            validate_all(&store, READ_MODE, &handles, second);
+            validate_all(&store, READ_MODE, width, &handles, second);
         },
-        || validate_all(store, READ_MODE, black_box(&handles), third),
+        || validate_all(store, READ_MODE, width, black_box(&handles), third),
     );
     let done = |numbers: &Vec<u8>| numbers.iter().all(|&number| number == DONE);
     assert!(numbers.iter().all(done), "every handle validates");
     let each = times.map(|time| time / BATCH_HANDLES as f64);
-    report("batch of 10,000, 4 not flat, for each handle", each);
+    report(name, each);
 }
 
 fn main() {
@@ -174,11 +177,16 @@ fn main() {
         "", "library", "on image", "ratio", "records", "ratio"
     );
     conversion();
-    one_call(&weakening());
+    one_call(&weakening("7 weaken, primary, of four", Width::Four));
+    one_call(&weakening("7 weaken, primary", Width::Eight));
+    one_call(&weakening("7 weaken, primary, of sixteen", Width::Sixteen));
     soundness("soundness, empty store", &Store::starting());
-    soundness("soundness, typical store", &typical());
-    soundness("soundness, full store", &full());
-    batch(&typical());
+    soundness("soundness, typical store", &typical(Width::Eight));
+    soundness("soundness, full store", &full(Width::Eight));
+    soundness("soundness, full store of sixteen", &full(Width::Sixteen));
+    batch("batch of 10,000, 4 not flat, for each handle", Width::Eight);
+    batch("the same, of four", Width::Four);
+    batch("the same, of sixteen", Width::Sixteen);
     for group in groups() {
         println!("{}", group.name);
         group.rows.iter().for_each(one_call);

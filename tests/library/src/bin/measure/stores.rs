@@ -2,7 +2,8 @@
 
 use library::image::encode;
 use library::question::Held;
-use model::sizes::{CLUSTERS, MEMORY_BYTES, NODES, NODE_BYTES, NODE_SEGMENTS, SEGMENTS};
+use model::handle::Width;
+use model::sizes::{CLUSTERS, MEMORY_BYTES, NODES, NODE_BYTES};
 use model::store::{Cluster, Segment, Store};
 
 /// The cluster that calls are about, and one that a call can make.
@@ -14,8 +15,12 @@ pub const SEGMENT: usize = 1;
 pub const TYPICAL_CLUSTERS: usize = 5;
 const TYPICAL_SEGMENTS: usize = 2;
 const TYPICAL_LENGTH: usize = 400;
-/// No byte is free where every segment has so many.
-pub const FULL_LENGTH: usize = NODE_BYTES / NODE_SEGMENTS;
+
+/// No byte is free where every segment of clusters of this width has so many.
+pub const fn full_length(width: Width) -> usize {
+    NODE_BYTES / (CLUSTERS * width.segments())
+}
+
 /// The memory's bytes repeat after so many.
 const PERIOD: usize = 251;
 
@@ -32,10 +37,11 @@ pub fn held(store: &Store) -> Held {
 }
 
 /// Active, with passwords that no other cluster has.
-fn cluster(node: usize, local: usize) -> Cluster {
+fn cluster(width: Width, node: usize, local: usize) -> Cluster {
     let number = (node * CLUSTERS + local) as u8;
     Cluster {
         active: true,
+        width: width.number(),
         read: [0x10 + number; 16],
         write: [0x80 + number; 16],
         ..Cluster::INACTIVE
@@ -46,12 +52,12 @@ fn present(base: usize, length: usize) -> Segment {
     Segment::present(base as u16, length as u16)
 }
 
-/// Every node has `clusters` active clusters of `segments` segments each, one after the other.
-fn store(clusters: usize, segments: usize, length: usize) -> Store {
+/// Every node has `clusters` active clusters of this width with `segments` segments each, one after the other.
+fn store(width: Width, clusters: usize, segments: usize, length: usize) -> Store {
     let mut store = Store::starting();
     for (node, records) in store.clusters.iter_mut().enumerate() {
         for (local, record) in records[..clusters].iter_mut().enumerate() {
-            *record = cluster(node, local);
+            *record = cluster(width, node, local);
             for (at, segment) in record.segments[..segments].iter_mut().enumerate() {
                 *segment = present((local * segments + at) * length, length);
             }
@@ -60,20 +66,21 @@ fn store(clusters: usize, segments: usize, length: usize) -> Store {
     store
 }
 
-pub fn typical() -> Store {
-    store(TYPICAL_CLUSTERS, TYPICAL_SEGMENTS, TYPICAL_LENGTH)
+pub fn typical(width: Width) -> Store {
+    store(width, TYPICAL_CLUSTERS, TYPICAL_SEGMENTS, TYPICAL_LENGTH)
 }
 
 /// The starting store with the one cluster of the typical one that calls are about.
 pub fn lone() -> Store {
     let mut store = Store::starting();
-    store.clusters[PLACE.0][PLACE.1] = typical().clusters[PLACE.0][PLACE.1];
+    let (node, local) = PLACE;
+    store.clusters[node][local] = typical(Width::Eight).clusters[node][local];
     store
 }
 
 /// The typical store, but one node has a single segment, of all its bytes.
 pub fn one_large() -> Store {
-    let mut store = typical();
+    let mut store = typical(Width::Eight);
     for cluster in &mut store.clusters[PLACE.0] {
         cluster.segments = Cluster::INACTIVE.segments;
     }
@@ -81,35 +88,37 @@ pub fn one_large() -> Store {
     store
 }
 
-/// No segment is absent and no byte is free.
-pub fn full() -> Store {
-    store(CLUSTERS, SEGMENTS, FULL_LENGTH)
+/// No segment of the width is absent and no byte is free.
+pub fn full(width: Width) -> Store {
+    store(width, CLUSTERS, width.segments(), full_length(width))
 }
 
 /// The full store without the cluster that a call makes.
-pub fn full_but_a_cluster() -> Store {
-    let mut store = full();
+pub fn full_but_a_cluster(width: Width) -> Store {
+    let mut store = full(width);
     store.clusters[FREE_PLACE.0][FREE_PLACE.1] = Cluster::INACTIVE;
     store
 }
 
 /// The full store without the last segment of the cluster that calls are about.
-pub fn full_but_a_segment() -> Store {
-    let mut store = full();
-    store.clusters[PLACE.0][PLACE.1].segments[SEGMENTS - 1] = Segment::ABSENT;
+pub fn full_but_a_segment(width: Width) -> Store {
+    let mut store = full(width);
+    store.clusters[PLACE.0][PLACE.1].segments[width.segments() - 1] = Segment::ABSENT;
     store
 }
 
 /// The same with segments from the highest base down, as the records go, and the free bytes highest.
-pub fn falling() -> Store {
-    let mut store = full_but_a_segment();
+pub fn falling(width: Width) -> Store {
+    let mut store = full_but_a_segment(width);
+    let length = full_length(width);
     for node in 0..NODES {
         let segments = store.clusters[node].iter_mut();
-        let present_ones = segments
+        let present_ones: Vec<&mut Segment> = segments
             .flat_map(|cluster| &mut cluster.segments)
-            .filter(|segment| segment.is_present());
-        for (at, segment) in present_ones.rev().enumerate() {
-            *segment = present(at * FULL_LENGTH, FULL_LENGTH);
+            .filter(|segment| segment.is_present())
+            .collect();
+        for (at, segment) in present_ones.into_iter().rev().enumerate() {
+            *segment = present(at * length, length);
         }
     }
     store

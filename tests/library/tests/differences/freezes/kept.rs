@@ -69,15 +69,21 @@ overlooked!(segment_0_alone_looked_at, DeleteCluster, |segment| segment
 overlooked!(segment_0_not_looked_at, DeleteCluster, |segment| segment
     == 0);
 overlooked!(the_last_not_looked_at, DeleteCluster, |segment| segment
-    == 7);
+    == 15);
+overlooked!(the_last_of_eight_not_looked_at, DeleteCluster, |segment| {
+    segment == 7
+});
+overlooked!(the_first_eight_alone_looked_at, DeleteCluster, |segment| {
+    segment > 7
+});
 overlooked!(one_in_the_middle_not_looked_at, DeleteCluster, |segment| {
     segment == 3
 });
 overlooked!(forgotten_for_call_4, DeleteSegment, |_| true);
 overlooked!(
-    the_last_not_looked_at_for_call_4,
+    the_upper_half_not_looked_at_for_call_4,
     DeleteSegment,
-    |segment| { segment == 7 }
+    |segment| { segment > 7 }
 );
 overlooked!(forgotten_for_call_6, Write, |_| true);
 overlooked!(segment_0_alone_looked_at_for_call_6, Write, |segment| {
@@ -89,7 +95,10 @@ overlooked!(segment_0_alone_looked_at_for_call_6, Write, |segment| {
 fn a_cluster_made_anew() {
     let anew: Guard = |held, question| {
         let answer = guard::ask(held, question);
-        if let (Call::DeleteCluster { handle, .. }, FROZEN) = (question.call, answer.reply.number) {
+        let handle = question.call.handle();
+        if let (Call::DeleteCluster { .. }, Some(handle), FROZEN) =
+            (&question.call, handle, answer.reply.number)
+        {
             let record = record_at(handle.node.into(), handle.local.into());
             held.image[record][SEGMENTS_AT..].fill(0);
         }
@@ -109,8 +118,8 @@ fn thawed_by_the_second_freeze() {
             let marks = marks_of(held, question);
             let before = held.image;
             let answer = guard::ask(held, question);
-            if let (Call::Freeze { segment, .. }, true) = (question.call, answer.reply.is_done()) {
-                let mark = marks[segment as usize];
+            if let (Call::Freeze { segment, .. }, true) = (&question.call, answer.reply.is_done()) {
+                let mark = marks[*segment as usize];
                 held.image[mark] = 1 - before[mark];
             }
             answer
@@ -124,7 +133,7 @@ fn thawed_by_a_new_password() {
     does_not_stay(
         |held, question| {
             let answer = guard::ask(held, question);
-            if let (Call::NewPassword { .. }, true) = (question.call, answer.reply.is_done()) {
+            if let (Call::NewPassword { .. }, true) = (&question.call, answer.reply.is_done()) {
                 for mark in marks_of(held, question) {
                     held.image[mark] = 0;
                 }
@@ -144,7 +153,7 @@ fn a_new_segment_on_frozen_bytes() {
             let (frozen, others): (Vec<usize>, Vec<usize>) = marks_of(held, question)
                 .into_iter()
                 .partition(|&mark| before[mark] == 1);
-            if let (Call::NewSegment { .. }, false) = (question.call, others.is_empty()) {
+            if let (Call::NewSegment { .. }, false) = (&question.call, others.is_empty()) {
                 for mark in &frozen {
                     held.image[mark - MARK_AT..=*mark].fill(0);
                 }
@@ -168,16 +177,15 @@ fn a_freeze_by_any_password() {
     let opening: Guard = |held, question| {
         let answer = guard::ask(held, question);
         let store = decode(&held.image);
-        let (Call::Freeze { handle, .. }, VIOLATED_PROTECTION, Some(store)) =
-            (question.call, answer.reply.number, store)
+        let (Call::Freeze { .. }, VIOLATED_PROTECTION, Some(store)) =
+            (&question.call, answer.reply.number, store)
         else {
             return answer;
         };
-        let cluster = store.clusters[usize::from(handle.node)][usize::from(handle.local)];
-        let mut other = question.clone();
-        if let Some(other) = other.handle_mut() {
-            other.password = derive(&cluster.write, &handle.selector);
-        }
+        let other = question.with_handles(|handle| {
+            let cluster = store.clusters[usize::from(handle.node)][usize::from(handle.local)];
+            handle.password = derive(&cluster.write, &handle.selector);
+        });
         guard::ask(held, &other)
     };
     let told = copies::compare(opening, SEED, PAIRS).expect_err("a segment set apart is frozen");
@@ -191,7 +199,7 @@ fn a_mark_that_hangs_on_a_password() {
         let before = held.image;
         let answer = guard::ask(held, question);
         let sum = before.iter().fold(0, |sum: u8, byte| sum ^ byte);
-        if let (Call::Freeze { .. }, 1) = (question.call, sum.count_ones() % 2) {
+        if let (Call::Freeze { .. }, 1) = (&question.call, sum.count_ones() % 2) {
             held.image = before;
         }
         answer

@@ -4,7 +4,8 @@ use super::{and_then, frozen_at, record_of};
 use crate::seen::found_out;
 use library::guard;
 use library::image::{
-    record_at, Image, IMAGE_BYTES, LENGTH_AT, MARK_AT, RECORD_BYTES, SEGMENTS_AT, SEGMENT_BYTES,
+    record_at, Image, IMAGE_BYTES, LENGTH_AT, MARK_AT, READ_AT, RECORD_BYTES, SEGMENTS_AT,
+    SEGMENT_BYTES,
 };
 use library::question::{Answer, Held, Question};
 use model::call::Call;
@@ -79,7 +80,7 @@ another_image!(every_segment_of_the_cluster_marked, |image, _, place| {
 
 another_image!(a_password_cleared, |image, _, place| {
     let record = place.start / RECORD_BYTES * RECORD_BYTES;
-    image[record + 1..record + SEGMENTS_AT].fill(0);
+    image[record + READ_AT..record + SEGMENTS_AT].fill(0);
 });
 
 #[test]
@@ -102,7 +103,7 @@ fn a_refused_freeze_that_marks() {
     found_out(
         |held, question| {
             let answer = guard::ask(held, question);
-            if matches!(question.call, Call::Freeze { .. }) && !answer.reply.is_done() {
+            if matches!(&question.call, Call::Freeze { .. }) && !answer.reply.is_done() {
                 held.image[IMAGE_BYTES - 1] ^= 1;
             }
             answer
@@ -207,9 +208,9 @@ fn a_new_cluster_with_a_mark() {
         |held, question| {
             let answer = guard::ask(held, question);
             if let (Call::NewCluster { node, local, .. }, true) =
-                (question.call, answer.reply.is_done())
+                (&question.call, answer.reply.is_done())
             {
-                let record = record_at(node as usize, local as usize);
+                let record = record_at(*node as usize, *local as usize);
                 held.image[record.end - 1] = 1;
             }
             answer

@@ -53,10 +53,9 @@ fn overlooking(held: &mut Held, question: &Question, segments: impl Fn(usize) ->
 
 /// Where the place and the mark of the segment lie that a freeze which is done has frozen.
 fn frozen_at(question: &Question, answer: &Answer) -> Option<Range<usize>> {
+    let handle = question.call.handle()?;
     match question.call {
-        Call::Freeze {
-            segment, handle, ..
-        } if answer.reply.is_done() => Some(segment_at(
+        Call::Freeze { segment, .. } if answer.reply.is_done() => Some(segment_at(
             handle.node.into(),
             handle.local.into(),
             segment as usize,

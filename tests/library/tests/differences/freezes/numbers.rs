@@ -90,10 +90,12 @@ mod too_often {
 
 /// What a freeze is told where it is done by the write primary handle instead of its own.
 fn by_the_primary_handle(seen: &Seen) -> Option<Reply> {
-    let primary = Handle::primary(seen.handle.node, seen.handle.local, seen.cluster()?.write);
+    let write = seen.cluster()?.write;
+    let (width, node, local) = (seen.handle.width(), seen.handle.node, seen.handle.local);
+    let primary = Handle::primary(width, node, local, write);
     seen.done(|_, question| {
         if let Some(handle) = question.handle_mut() {
-            *handle = primary;
+            *handle = primary.to_bytes();
         }
     })
 }
@@ -137,7 +139,7 @@ mod another_order_of_a_freeze {
         seen.at_home().number == VIOLATED_PROTECTION
     });
     another_order!(violated_before_inactive, FREEZE, "Freeze", INACTIVE, VIOLATED_PROTECTION, |seen| {
-        !seen.handle.validates(&Cluster::INACTIVE.write)
+        !seen.handle.is_made_from(&Cluster::INACTIVE.write)
     });
     another_order!(not_primary_before_violated, FREEZE, "Freeze", VIOLATED_PROTECTION, NOT_PRIMARY, |seen| {
         seen.is_not_primary()

@@ -8,6 +8,7 @@ use library::question::{Answer, Held, Question};
 use library::{copies, guard};
 use model::call::Call;
 use model::handle::Handle;
+use model::store::Mode;
 
 const PAIRS: u64 = 100;
 
@@ -24,20 +25,27 @@ fn without(left_out: &[usize]) -> Vec<Row> {
     kept.map(|(_, row)| *row).collect()
 }
 
+/// Handles of another width than the cluster's validate nowhere, so that lists have them with passwords that would open
+/// it.
+#[test]
+fn by_handles_of_another_width() {
+    found_out(|held, question| joined(held, question, &without(&[11, 12]), RIGHTLY));
+}
+
 #[test]
 fn by_any_two_passwords() {
-    found_out(|held, question| joined(held, question, &without(&[9, 10]), RIGHTLY));
+    found_out(|held, question| joined(held, question, &without(&[13, 14]), RIGHTLY));
 }
 
 /// Whoever opens one cluster gets a handle of another, which the second handle names, or the first.
 #[test]
 fn of_the_cluster_that_the_other_handle_names() {
     found_out(|held, question| {
-        joined(held, question, &without(&[6, 10]), |asked| {
+        joined(held, question, &without(&[8, 14]), |asked| {
             noting(asked.handles[1], &asked.primary(1), asked.union())
         })
     });
-    found_out(|held, question| joined(held, question, &without(&[6, 9]), RIGHTLY));
+    found_out(|held, question| joined(held, question, &without(&[8, 13]), RIGHTLY));
 }
 
 /// A number that hangs on the passwords of the cluster that the handle names, if it opens it or need not.
@@ -51,7 +59,9 @@ fn told(held: &Held, handle: &Handle, has_to_open: bool) -> u32 {
     let Some(cluster) = cluster else {
         return 0;
     };
-    let validates = handle.validates(&cluster.read) || handle.validates(&cluster.write);
+    let validates = Mode::ALL
+        .iter()
+        .any(|mode| handle.validates(&cluster, *mode));
     let opens = cluster.active && !handle.selector.is_gapped() && validates;
     match opens || !has_to_open {
         true => [cluster.read, cluster.write]
@@ -65,10 +75,10 @@ fn told(held: &Held, handle: &Handle, has_to_open: bool) -> u32 {
 /// The library, if its reply to a join told that of these handles.
 fn telling(held: &mut Held, question: &Question, handles: &[usize], has_to_open: bool) -> Answer {
     let mut answer = guard::ask(held, question);
-    if let Call::Join { handle, other, .. } = question.call {
-        let both = [handle, other];
-        let told = handles.iter().map(|&at| told(held, &both[at], has_to_open));
-        answer.reply.count = told.sum();
+    if let Call::Join { handle, other, .. } = &question.call {
+        let both = [handle, other].map(|bytes| Handle::from_bytes(bytes));
+        let read = handles.iter().filter_map(|&at| both[at]);
+        answer.reply.count = read.map(|handle| told(held, &handle, has_to_open)).sum();
     }
     answer
 }

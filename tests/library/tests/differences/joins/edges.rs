@@ -3,7 +3,7 @@
 use super::{by_a_join, joined, RIGHT, RIGHTLY};
 use crate::seen::SEED;
 use library::compare::Guard;
-use library::question::{Answer, Held, Question};
+use library::question::{change_handle, Answer, Held, Question};
 use library::{edges, guard};
 use model::handle::Handle;
 use model::sizes::MEMORY_BYTES;
@@ -13,11 +13,11 @@ fn found_out(guard: Guard, right: u8) {
     by_a_join(&told, right);
 }
 
-/// The library, if it had the handles in this way.
-fn with_handles(held: &mut Held, question: &Question, change: fn(&mut [&mut Handle])) -> Answer {
-    let mut cut = question.clone();
-    change(&mut cut.presented_mut());
-    guard::ask(held, &cut)
+/// The library, if it had one of the two handles in this way.
+fn with_handle(held: &mut Held, question: &Question, at: usize, cut: fn(&mut Handle)) -> Answer {
+    let mut question = question.clone();
+    change_handle(question.presented_mut()[at], cut);
+    guard::ask(held, &question)
 }
 
 #[test]
@@ -41,11 +41,11 @@ fn modes_cut_to_six_bytes() {
 #[test]
 fn a_node_in_its_low_byte() {
     found_out(
-        |held, question| with_handles(held, question, |handles| handles[0].node &= 0xff),
+        |held, question| with_handle(held, question, 0, |handle| handle.node &= 0xff),
         2,
     );
     found_out(
-        |held, question| with_handles(held, question, |handles| handles[1].node &= 0xff),
+        |held, question| with_handle(held, question, 1, |handle| handle.node &= 0xff),
         2,
     );
 }
@@ -53,11 +53,11 @@ fn a_node_in_its_low_byte() {
 #[test]
 fn a_local_number_in_its_low_bits() {
     found_out(
-        |held, question| with_handles(held, question, |handles| handles[0].local &= 7),
+        |held, question| with_handle(held, question, 0, |handle| handle.local &= 7),
         2,
     );
     found_out(
-        |held, question| with_handles(held, question, |handles| handles[1].local &= 7),
+        |held, question| with_handle(held, question, 1, |handle| handle.local &= 7),
         2,
     );
 }

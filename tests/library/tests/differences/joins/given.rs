@@ -2,12 +2,13 @@
 
 use super::{by_a_join, compared, found_out, joined, noting, Given, Row, RIGHT, RIGHTLY};
 use crate::seen::{CALLS, SEED};
+use library::chance::handles::at_width;
 use library::compare::Guard;
 use library::question::{Answer, Held, Question};
 use library::tally::Tally;
 use library::{guard, single};
 use model::call::Call;
-use model::handle::Handle;
+use model::handle::{Handle, Width};
 use model::store::Mode;
 
 /// A test for a library that gives another handle where a join is done.
@@ -43,17 +44,17 @@ another_handle!(what_the_second_references, |asked| {
     noting(asked.handles[0], &asked.primary(0), segments)
 });
 another_handle!(subselector_0_alone_looked_at, |asked| {
-    let [one, other] = asked.handles.map(|handle| handle.selector.0[0]);
+    let [one, other] = asked.handles.map(|handle| handle.selector.subselectors[0]);
     noting(asked.handles[0], &asked.primary(0), one | other)
 });
 another_handle!(the_second_one_s_subselector_0_alone, |asked| {
     let [one, other] = asked.handles;
-    let segments = one.selector.referenced() | other.selector.0[0];
+    let segments = one.selector.referenced() | other.selector.subselectors[0];
     noting(one, &asked.primary(0), segments)
 });
 another_handle!(each_subselector_with_its_like, |asked| {
-    let [one, other] = asked.handles.map(|handle| handle.selector.0);
-    let segments = (0..4).fold(255, |common, at| common & (one[at] | other[at]));
+    let [one, other] = asked.handles.map(|handle| handle.selector.subselectors);
+    let segments = (0..4).fold(asked.flat(), |common, at| common & (one[at] | other[at]));
     noting(asked.handles[0], &asked.primary(0), segments)
 });
 another_handle!(from_the_first_one_s_password, |asked| {
@@ -86,8 +87,35 @@ another_handle!(always_from_the_read_password, |asked| {
 });
 another_handle!(converted_by_what_is_not_referenced, |asked| {
     let mut given = RIGHTLY(asked);
-    let converted = guard::convert(&asked.primary(0), !asked.union());
+    let converted = guard::convert(&asked.primary(0), asked.flat() - asked.union());
     given[3..19].copy_from_slice(&converted);
+    given
+});
+another_handle!(of_eight_always, |asked| {
+    let given = Handle::from_bytes(&RIGHTLY(asked)).expect("it is one");
+    at_width(&given, Width::Eight).to_bytes()
+});
+another_handle!(of_the_next_width, |asked| {
+    let given = Handle::from_bytes(&RIGHTLY(asked)).expect("it is one");
+    let next = match given.width() {
+        Width::Four => Width::Eight,
+        _ => Width::Sixteen,
+    };
+    at_width(&given, next).to_bytes()
+});
+another_handle!(converted_by_the_low_byte_alone, |asked| {
+    let mut given = RIGHTLY(asked);
+    let converted = guard::convert(&asked.primary(0), asked.union() & 0x00ff);
+    given[3..19].copy_from_slice(&converted);
+    given
+});
+another_handle!(converted_with_the_low_byte_first, |asked| {
+    let mut given = RIGHTLY(asked);
+    let parameter = match asked.flat() {
+        u16::MAX => asked.union().swap_bytes(),
+        _ => asked.union(),
+    };
+    given[3..19].copy_from_slice(&guard::convert(&asked.primary(0), parameter));
     given
 });
 another_handle!(not_converted, |asked| {
@@ -100,14 +128,14 @@ another_handle!(converted_twice, |asked| {
     noting(asked.handles[0], &password, asked.union())
 });
 another_handle!(others_not_flat, |asked| {
-    let mut given = RIGHTLY(asked);
-    given[20..].fill(asked.union());
-    given
+    let mut given = Handle::from_bytes(&RIGHTLY(asked)).expect("it is one");
+    given.selector.subselectors = [asked.union(); 4];
+    given.to_bytes()
 });
 another_handle!(the_last_subselector, |asked| {
-    let mut given = RIGHTLY(asked);
-    given[19..].reverse();
-    given
+    let mut given = Handle::from_bytes(&RIGHTLY(asked)).expect("it is one");
+    given.selector.subselectors.reverse();
+    given.to_bytes()
 });
 another_handle!(no_name, |asked| {
     let mut given = RIGHTLY(asked);
@@ -135,24 +163,25 @@ another_handle!(a_handle_comes_back_from_a_join_with_itself, |asked| {
     }
 });
 
-// All eight.
+// All segments of the width.
 
-/// The library, if it gave this where the union is all eight.
-pub fn for_all_eight(held: &mut Held, question: &Question, given: Given) -> Answer {
+/// The library, if it gave this where the union is all of them.
+pub fn for_all(held: &mut Held, question: &Question, given: Given) -> Answer {
     let (_, but_the_last): (&Row, &[Row]) = RIGHT.split_last().expect("there are rows");
     joined(held, question, but_the_last, given)
 }
 
 #[test]
-fn a_primary_handle_for_all_eight() {
+fn a_primary_handle_for_all() {
     found_out(
         |held, question| {
-            for_all_eight(held, question, |asked| match asked.union() {
-                255 => {
-                    let (node, local) = asked.handles[0].name();
-                    Handle::primary(node, local, asked.primary(0)).to_bytes()
+            for_all(held, question, |asked| {
+                let (node, local) = asked.handles[0].name();
+                let width = asked.handles[0].width();
+                match asked.union() == asked.flat() {
+                    true => Handle::primary(width, node, local, asked.primary(0)).to_bytes(),
+                    false => RIGHTLY(asked),
                 }
-                _ => RIGHTLY(asked),
             })
         },
         23,
@@ -161,8 +190,8 @@ fn a_primary_handle_for_all_eight() {
 
 /// It would open nothing: validation skips flat subselectors.
 #[test]
-fn a_converted_handle_for_all_eight() {
-    found_out(|held, question| for_all_eight(held, question, RIGHTLY), 23);
+fn a_converted_handle_for_all() {
+    found_out(|held, question| for_all(held, question, RIGHTLY), 23);
 }
 
 // Beside a refusal, and what changes.
@@ -170,15 +199,16 @@ fn a_converted_handle_for_all_eight() {
 /// The library, if it left this in the place for the handle where a join is refused with the number.
 fn beside(held: &mut Held, question: &Question, number: u8, left: u8) -> Answer {
     let mut answer = guard::ask(held, question);
-    if matches!(question.call, Call::Join { .. }) && answer.reply.number == number {
-        answer.reply.first = [left; 23];
+    if matches!(&question.call, Call::Join { .. }) && answer.reply.number == number {
+        answer.reply.first = vec![left; 23];
     }
     answer
 }
 
 #[test]
 fn something_in_the_place_for_the_handle() {
-    let guards: [(Guard, u8); 8] = [
+    let guards: [(Guard, u8); 9] = [
+        (|held, question| beside(held, question, 25, 0x00), 25),
         (|held, question| beside(held, question, 1, 0x5a), 1),
         (|held, question| beside(held, question, 2, 0x5a), 2),
         (|held, question| beside(held, question, 3, 0x5a), 3),

@@ -1,6 +1,6 @@
 //! Joins for which a law does not hold, found out without the model.
 
-use super::given::for_all_eight;
+use super::given::for_all;
 use super::{joined, noting, RIGHT, RIGHTLY};
 use crate::seen::SEED;
 use library::compare::Guard;
@@ -26,8 +26,8 @@ fn one_order_refused() {
     breaks(
         |held, question| {
             let mut answer = guard::ask(held, question);
-            if let Call::Join { handle, other, .. } = question.call {
-                if handle.to_bytes() > other.to_bytes() {
+            if let Call::Join { handle, other, .. } = &question.call {
+                if handle > other {
                     answer.reply = Reply::refused(9);
                 }
             }
@@ -53,9 +53,9 @@ fn a_handle_comes_back_from_a_join_with_itself() {
 }
 
 #[test]
-fn all_eight_given_and_converted() {
+fn all_given_and_converted() {
     breaks(
-        |held, question| for_all_eight(held, question, RIGHTLY),
+        |held, question| for_all(held, question, RIGHTLY),
         "what is given is not valid, or not in the form of a reduced handle",
     );
 }

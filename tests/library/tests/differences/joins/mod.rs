@@ -16,7 +16,7 @@ use library::question::{Answer, Held, Question};
 use library::tally::Tally;
 use library::{guard, runs, single};
 use model::call::{Call, Reply};
-use model::handle::{Handle, HandleBytes, Password};
+use model::handle::{Handle, HandleBytes, Password, Selector, Width};
 use model::store::{Cluster, Mode, Store};
 
 /// A join, and what it is put to.
@@ -24,6 +24,9 @@ struct Asked {
     sound: bool,
     store: Store,
     mode: Option<Mode>,
+    /// Whether their lengths are those of handles. Those that are not are read as if they were of eight, with zeros
+    /// where bytes are missing.
+    known: [bool; 2],
     handles: [Handle; 2],
 }
 
@@ -34,15 +37,17 @@ impl Asked {
             mode,
             handle,
             other,
-        } = question.call
+        } = &question.call
         else {
             return None;
         };
+        let read = [handle, other].map(|bytes| Handle::from_bytes(bytes));
         Some(Asked {
             sound: is_sound(held),
             store: decode(&held.image)?,
-            mode: Mode::from_number(mode),
-            handles: [handle, other],
+            mode: Mode::from_number(*mode),
+            known: read.map(|handle| handle.is_some()),
+            handles: [handle, other].map(|bytes| of_eight(bytes)),
         })
     }
 
@@ -58,19 +63,39 @@ impl Asked {
         *cluster.primary(self.mode.unwrap_or(Mode::Read))
     }
 
-    fn validates(&self, at: usize) -> bool {
-        self.handles[at].validates(&self.primary(at))
+    fn is_made_from(&self, at: usize) -> bool {
+        self.handles[at].is_made_from(&self.primary(at))
     }
 
-    fn union(&self) -> u8 {
+    fn has_the_width(&self, at: usize) -> bool {
+        let width = self.handles[at].width();
+        self.cluster(at)
+            .is_some_and(|cluster| cluster.has_width(width))
+    }
+
+    fn flat(&self) -> u16 {
+        self.handles[0].width().flat()
+    }
+
+    fn union(&self) -> u16 {
         let [one, other] = self.handles.map(|handle| handle.selector.referenced());
         one | other
     }
 }
 
+/// The handle; bytes of no handle are cut or get more, so that they are one of eight.
+fn of_eight(bytes: &[u8]) -> Handle {
+    Handle::from_bytes(bytes).unwrap_or_else(|| {
+        let mut bytes = bytes.to_vec();
+        bytes.resize(Width::Eight.handle_bytes(), 0);
+        Handle::from_bytes(&bytes).expect("it is as long as one")
+    })
+}
+
 /// A number, and when it is given.
 type Row = (u8, fn(&Asked) -> bool);
 
+const NO_LENGTH: [Row; 2] = [(25, |asked| !asked.known[0]), (25, |asked| !asked.known[1])];
 const UNSOUND: Row = (1, |asked| !asked.sound);
 const NOWHERE: [Row; 2] = [
     (2, |asked| asked.cluster(0).is_none()),
@@ -92,14 +117,20 @@ const INACTIVE: [Row; 2] = [
         asked.cluster(1).is_some_and(|cluster| !cluster.active)
     }),
 ];
-const VIOLATED: [Row; 2] = [
-    (9, |asked| !asked.validates(0)),
-    (9, |asked| !asked.validates(1)),
+const OTHER_WIDTH: [Row; 2] = [
+    (25, |asked| !asked.has_the_width(0)),
+    (25, |asked| !asked.has_the_width(1)),
 ];
-const WHOLE: Row = (23, |asked| asked.union() == 255);
+const VIOLATED: [Row; 2] = [
+    (9, |asked| !asked.is_made_from(0)),
+    (9, |asked| !asked.is_made_from(1)),
+];
+const WHOLE: Row = (23, |asked| asked.union() == asked.flat());
 
 /// As the table has them.
-const RIGHT: [Row; 12] = [
+const RIGHT: [Row; 16] = [
+    NO_LENGTH[0],
+    NO_LENGTH[1],
     UNSOUND,
     NOWHERE[0],
     NOWHERE[1],
@@ -109,17 +140,24 @@ const RIGHT: [Row; 12] = [
     APART,
     INACTIVE[0],
     INACTIVE[1],
+    OTHER_WIDTH[0],
+    OTHER_WIDTH[1],
     VIOLATED[0],
     VIOLATED[1],
     WHOLE,
 ];
 
 /// These segments in subselector 0, converted from this password.
-fn noting(handle: Handle, password: &Password, segments: u8) -> HandleBytes {
-    let mut bytes = handle.to_bytes();
-    bytes[3..19].copy_from_slice(&guard::convert(password, segments));
-    bytes[19..].copy_from_slice(&[segments, 255, 255, 255]);
-    bytes
+fn noting(handle: Handle, password: &Password, segments: u16) -> HandleBytes {
+    let mut selector = Selector::primary(handle.width());
+    selector.subselectors[0] = segments;
+    let password = guard::convert(password, segments);
+    let noting = Handle {
+        password,
+        selector,
+        ..handle
+    };
+    noting.to_bytes()
 }
 
 /// What a join that is done gives.
@@ -180,7 +218,7 @@ fn the_right_rows_are_not_found_out() {
     assert_eq!(compared(right), [Ok(()), Ok(())]);
     // Where 24 does not apply, the two name one cluster.
     let one_looked_at: Guard = |held, question| {
-        let rows = [&RIGHT[..8], &RIGHT[9..]].concat();
+        let rows = [&RIGHT[..10], &RIGHT[11..]].concat();
         joined(held, question, &rows, RIGHTLY)
     };
     assert_eq!(compared(one_looked_at), [Ok(()), Ok(())]);

@@ -2,7 +2,6 @@
 
 use super::{by_a_join, compared, found_out, joined, Asked, RIGHT, RIGHTLY};
 use library::compare::Guard;
-use model::handle::FLAT;
 use model::store::Mode;
 
 /// A test for a library without these rows of the right ones; the model gives `$right` where it is found out.
@@ -22,24 +21,33 @@ macro_rules! without {
     };
 }
 
-without!(the_first_place_not_looked_at, 1..2, 2);
-without!(the_second_place_not_looked_at, 2..3, 2);
-without!(no_place_looked_at, 1..3, 2);
-without!(the_mode_not_looked_at, 3..4, 3);
-without!(the_first_gap_not_looked_at, 4..5, 4);
-without!(the_second_gap_not_looked_at, 5..6, 4);
-without!(no_gap_looked_at, 4..6, 4);
-without!(names_not_looked_at, 6..7, 24);
-without!(inactive_not_looked_at, 7..9, 8);
-without!(the_first_not_validated, 9..10, 9);
-without!(the_second_not_validated, 10..11, 9);
-without!(neither_validated, 9..11, 9);
-without!(all_eight_given, 11..12, 23);
+without!(the_first_length_not_looked_at, 0..1, 25);
+without!(the_second_length_not_looked_at, 1..2, 25);
+without!(no_length_looked_at, 0..2, 25);
+without!(the_first_place_not_looked_at, 3..4, 2);
+without!(the_second_place_not_looked_at, 4..5, 2);
+without!(no_place_looked_at, 3..5, 2);
+without!(the_mode_not_looked_at, 5..6, 3);
+without!(the_first_gap_not_looked_at, 6..7, 4);
+without!(the_second_gap_not_looked_at, 7..8, 4);
+without!(no_gap_looked_at, 6..8, 4);
+without!(names_not_looked_at, 8..9, 24);
+without!(inactive_not_looked_at, 9..11, 8);
+without!(the_first_width_not_looked_at, 11..12, 25);
+without!(the_second_width_not_looked_at, 12..13, 25);
+without!(no_width_looked_at, 11..13, 25);
+without!(the_first_not_validated, 13..14, 9);
+without!(the_second_not_validated, 14..15, 9);
+without!(neither_validated, 13..15, 9);
+without!(all_of_the_width_given, 15..16, 23);
 
 /// Long rows start from a sound store.
 #[test]
 fn damage_not_looked_at() {
-    let guard: Guard = |held, question| joined(held, question, &RIGHT[1..], RIGHTLY);
+    let guard: Guard = |held, question| {
+        let rows = [&RIGHT[..2], &RIGHT[3..]].concat();
+        joined(held, question, &rows, RIGHTLY)
+    };
     let [single, runs] = compared(guard);
     by_a_join(&single.expect_err("a library is wrong"), 1);
     assert_eq!(runs, Ok(()));
@@ -62,9 +70,11 @@ macro_rules! another {
     };
 }
 
-const AT_APART: usize = 6;
-const AT_SECOND_VIOLATED: usize = 10;
-const AT_WHOLE: usize = 11;
+const AT_APART: usize = 8;
+const AT_FIRST_WIDTH: usize = 11;
+const AT_SECOND_WIDTH: usize = 12;
+const AT_SECOND_VIOLATED: usize = 14;
+const AT_WHOLE: usize = 15;
 
 another!(
     apart_by_the_node_alone,
@@ -111,7 +121,7 @@ another!(
     AT_WHOLE,
     (23, |asked: &Asked| {
         let primary = |at: usize| asked.handles[at].selector.is_primary();
-        asked.union() == FLAT && !primary(0) && !primary(1)
+        asked.union() == asked.flat() && !primary(0) && !primary(1)
     }),
     23
 );
@@ -119,7 +129,7 @@ another!(
     whole_where_the_first_is_not_primary_alone,
     AT_WHOLE,
     (23, |asked: &Asked| {
-        asked.union() == FLAT && !asked.handles[0].selector.is_primary()
+        asked.union() == asked.flat() && !asked.handles[0].selector.is_primary()
     }),
     23
 );
@@ -127,7 +137,7 @@ another!(
     whole_where_the_second_is_not_primary_alone,
     AT_WHOLE,
     (23, |asked: &Asked| {
-        asked.union() == FLAT && !asked.handles[1].selector.is_primary()
+        asked.union() == asked.flat() && !asked.handles[1].selector.is_primary()
     }),
     23
 );
@@ -136,7 +146,7 @@ another!(
     AT_WHOLE,
     (23, |asked: &Asked| {
         let primary = |at: usize| asked.handles[at].selector.is_primary();
-        asked.union() == FLAT && !(primary(0) && primary(1))
+        asked.union() == asked.flat() && !(primary(0) && primary(1))
     }),
     23
 );
@@ -145,23 +155,66 @@ another!(
     AT_WHOLE,
     (23, |asked: &Asked| {
         let [one, other] = asked.handles.map(|handle| handle.selector.referenced());
-        one & other == FLAT
+        one & other == asked.flat()
     }),
     23
 );
 another!(
-    seven_taken_for_all,
+    all_but_one_taken_for_all,
     AT_WHOLE,
-    (23, |asked: &Asked| asked.union().count_ones() >= 7),
+    (23, |asked: &Asked| {
+        asked.union().count_ones() + 1 >= asked.flat().count_ones()
+    }),
     0
 );
+another!(
+    all_of_the_first_eight_taken_for_all,
+    AT_WHOLE,
+    (23, |asked: &Asked| {
+        let low = asked.flat() & 0x00ff;
+        asked.union() & low == low
+    }),
+    0
+);
+another!(
+    all_of_eight_alone,
+    AT_WHOLE,
+    (23, |asked: &Asked| asked.union() == 0x00ff
+        && asked.flat() == 0x00ff),
+    23
+);
+another!(
+    the_first_of_two_widths_alone,
+    AT_SECOND_WIDTH,
+    (25, |asked: &Asked| {
+        !asked.has_the_width(0) && !asked.has_the_width(1)
+    }),
+    25
+);
+/// Two of one width, whatever the cluster's.
+#[test]
+fn compared_with_one_another_alone() {
+    found_out(
+        |held, question| {
+            let mut rows = RIGHT;
+            rows[AT_FIRST_WIDTH] = (25, |asked: &Asked| {
+                let [one, other] = asked.handles.map(|handle| handle.width());
+                one != other
+            });
+            rows[AT_SECOND_WIDTH] = (25, |_: &Asked| false);
+            joined(held, question, &rows, RIGHTLY)
+        },
+        25,
+    );
+}
+
 another!(
     validated_in_the_other_mode_too,
     AT_SECOND_VIOLATED,
     (9, |asked: &Asked| {
         let validates = |mode| {
             let cluster = asked.cluster(1);
-            cluster.is_some_and(|cluster| asked.handles[1].validates(cluster.primary(mode)))
+            cluster.is_some_and(|cluster| asked.handles[1].is_made_from(cluster.primary(mode)))
         };
         !validates(Mode::Read) && !validates(Mode::Write)
     }),
@@ -206,5 +259,8 @@ one_more!(
 #[test]
 fn rows_stand_where_they_are_cut() {
     let numbers = RIGHT.map(|(number, _)| number);
-    assert_eq!(numbers, [1, 2, 2, 3, 4, 4, 24, 8, 8, 9, 9, 23]);
+    assert_eq!(
+        numbers,
+        [25, 25, 1, 2, 2, 3, 4, 4, 24, 8, 8, 25, 25, 9, 9, 23]
+    );
 }

@@ -4,7 +4,7 @@ use super::{found_out, is_look, showing};
 use crate::seen::SEED;
 use library::compare::Guard;
 use library::image::decode;
-use library::question::{Answer, Held, Question};
+use library::question::{change_handle, Answer, Held, Question};
 use library::{copies, guard};
 use model::call::{Call, Part};
 use model::handle::derive;
@@ -73,7 +73,9 @@ fn a_look_by_any_password() {
         let mut other = question.clone();
         match (&mut other.call, closed(held, question, &answer)) {
             (Call::Look { handle, .. }, Some(cluster)) => {
-                handle.password = derive(&cluster.read, &handle.selector);
+                change_handle(handle, |handle| {
+                    handle.password = derive(&cluster.read, &handle.selector);
+                });
                 guard::ask(held, &other)
             }
             _ => answer,

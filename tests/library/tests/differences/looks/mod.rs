@@ -22,7 +22,7 @@ fn numbers_differ(guard: Guard, right: u8, wrong: u8) {
 }
 
 fn is_look(question: &Question) -> bool {
-    matches!(question.call, Call::Look { .. })
+    matches!(&question.call, Call::Look { .. })
 }
 
 /// The library, if it showed another part where a look is done.

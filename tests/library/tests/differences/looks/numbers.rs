@@ -51,10 +51,12 @@ wrong_number!(a_write_handle_taken, VIOLATED_PROTECTION, DONE, |seen| {
 });
 
 wrong_number!(references_not_looked_at, NOT_REFERENCED, DONE, |seen| {
-    let primary = Handle::primary(seen.handle.node, seen.handle.local, seen.cluster()?.read);
+    let read = seen.cluster()?.read;
+    let (width, node, local) = (seen.handle.width(), seen.handle.node, seen.handle.local);
+    let primary = Handle::primary(width, node, local, read);
     seen.done(|_, question| {
         if let Call::Look { handle, .. } = &mut question.call {
-            *handle = primary;
+            *handle = primary.to_bytes();
         }
     })
 });
@@ -115,7 +117,7 @@ another_order!(
     violated_before_inactive,
     INACTIVE,
     VIOLATED_PROTECTION,
-    |seen| { !seen.handle.validates(&Cluster::INACTIVE.read) }
+    |seen| { !seen.handle.is_made_from(&Cluster::INACTIVE.read) }
 );
 
 another_order!(

@@ -10,8 +10,7 @@ use model::call::{
     Reply, DELETE_CLUSTER, DELETE_SEGMENT, FREEZE, JOIN, NEW_PASSWORD, NEW_SEGMENT, READ, REDUCE,
     WRITE,
 };
-use model::handle::{Handle, HandleBytes};
-use model::sizes::HANDLE_BYTES;
+use model::handle::{Handle, Width};
 use model::store::{Cluster, Mode};
 use model::table::{DONE, VIOLATED_PROTECTION};
 
@@ -19,7 +18,7 @@ const BATCHES: u64 = 200;
 
 fn opens_both(handle: &Handle, cluster: &Cluster) -> bool {
     let mut modes = Mode::ALL.iter();
-    modes.all(|mode| handle.validates(cluster.primary(*mode)))
+    modes.all(|mode| handle.validates(cluster, *mode))
 }
 
 /// 9 where the handle opens both modes; the second is for calls in this mode alone.
@@ -84,17 +83,19 @@ mod by {
 /// What a batch tells of a handle that opens both modes, in one of them.
 fn batch_kept_from(
     held: &mut Held,
-    mode: usize,
+    (mode, width): (usize, usize),
     handles: &[u8],
     numbers: &mut [u8],
     kept_from: Mode,
 ) -> usize {
-    let count = guard::validate_all(held, mode, handles, numbers);
+    let count = guard::validate_all(held, mode, width, handles, numbers);
+    let Some(width) = Width::of_segments(width) else {
+        return count;
+    };
     let store = decode(&held.image).filter(|_| mode == kept_from.number() as usize);
-    let handles = handles.chunks_exact(HANDLE_BYTES);
+    let handles = handles.chunks_exact(width.handle_bytes());
     for (number, bytes) in numbers.iter_mut().zip(handles).take(count) {
-        let handle = HandleBytes::try_from(bytes).map(|bytes| Handle::from_bytes(&bytes));
-        let handle = handle.expect("it is a whole one");
+        let handle = Handle::from_bytes(bytes).expect("it is a whole one");
         let (node, local) = (handle.node.into(), handle.local.into());
         let cluster = store.as_ref().and_then(|store| store.cluster(node, local));
         if *number == DONE && cluster.is_some_and(|cluster| opens_both(&handle, cluster)) {
@@ -107,8 +108,12 @@ fn batch_kept_from(
 #[test]
 fn by_a_batch() {
     let guards: [BatchGuard; 2] = [
-        |held, mode, handles, numbers| batch_kept_from(held, mode, handles, numbers, Mode::Read),
-        |held, mode, handles, numbers| batch_kept_from(held, mode, handles, numbers, Mode::Write),
+        |held, mode, width, handles, numbers| {
+            batch_kept_from(held, (mode, width), handles, numbers, Mode::Read)
+        },
+        |held, mode, width, handles, numbers| {
+            batch_kept_from(held, (mode, width), handles, numbers, Mode::Write)
+        },
     ];
     for guard in guards {
         let told = batch::compare(guard, SEED, BATCHES, &mut Tally::default());

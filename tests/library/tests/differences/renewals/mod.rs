@@ -25,14 +25,10 @@ pub struct Asked {
 impl Asked {
     /// Whether this new password comes as far as 12 is seen by another one, which the cluster has in neither mode.
     fn of(held: &Held, question: &Question) -> Option<Asked> {
-        let Call::NewPassword {
-            mode,
-            handle,
-            password,
-        } = question.call
-        else {
+        let Call::NewPassword { mode, password, .. } = question.call else {
             return None;
         };
+        let handle = question.call.handle()?;
         let store = decode(&held.image)?;
         let cluster = *store.cluster(handle.node.into(), handle.local.into())?;
         let strange = (0..=u8::MAX)
@@ -41,7 +37,7 @@ impl Asked {
         let mut other = question.clone();
         other.call = Call::NewPassword {
             mode,
-            handle,
+            handle: handle.to_bytes(),
             password: strange,
         };
         let reply = guard::ask(&mut held.clone(), &other).reply;

@@ -9,7 +9,7 @@ use library::question::{Answer, Held, Question};
 use library::tally::Tally;
 use library::{edges, guard, runs, single};
 use model::call::{Call, Reply, NEW_PASSWORD};
-use model::handle::Handle;
+use model::handle::{Handle, Width};
 use model::store::{Cluster, Mode};
 use model::table::{DONE, NOT_PRIMARY, OLD_PASSWORD, TWINS, UNSOUND, VIOLATED_PROTECTION};
 
@@ -166,21 +166,25 @@ fn twins_made(held: &mut Held, question: &Question) -> Answer {
         Call::NewCluster {
             node,
             local,
+            width,
             read,
             write,
         },
         TWINS,
-    ) = (question.call, answer.reply.number)
+    ) = (question.call.clone(), answer.reply.number)
     {
+        let width = Width::of_segments(width).expect("3 comes before 7");
         let mut store = decode(&held.image).expect("it is sound");
         store.clusters[node as usize][local as usize] = Cluster {
             active: true,
+            width: width.number(),
             read,
             write,
             ..Cluster::INACTIVE
         };
         held.image = encode(&store);
-        let handle = |password| Handle::primary(node as u16, local as u8, password).to_bytes();
+        let handle =
+            |password| Handle::primary(width, node as u16, local as u8, password).to_bytes();
         answer.reply = Reply {
             first: handle(read),
             second: handle(write),
@@ -207,7 +211,7 @@ fn has_equal(image: &Image) -> bool {
 
 /// The library, if it held a store for unsound in which they are.
 pub fn unsound_where_equal(held: &mut Held, question: &Question) -> Answer {
-    let weakening = matches!(question.call, Call::Weaken { .. });
+    let weakening = matches!(&question.call, Call::Weaken { .. });
     match has_equal(&held.image) && !weakening {
         true => Answer {
             reply: Reply::refused(UNSOUND),

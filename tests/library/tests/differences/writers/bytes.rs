@@ -61,7 +61,7 @@ fn written(
 ) -> Answer {
     let seen = Seen::of(held, question);
     let mut answer = guard::ask(held, question);
-    if let (Call::Write { .. }, true) = (question.call, answer.reply.is_done()) {
+    if let (Call::Write { .. }, true) = (&question.call, answer.reply.is_done()) {
         let there = seen.as_ref().and_then(Seen::there);
         change(&mut answer, held, there.expect("it was written to"));
     }

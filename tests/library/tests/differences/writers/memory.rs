@@ -14,12 +14,10 @@ use model::table::{DONE, NO_ROOM};
 
 /// The new segment of a call 3 that was done, in its node.
 fn new_segment(held: &Held, question: &Question, answer: &Answer) -> Option<(usize, Extent)> {
-    let Call::NewSegment {
-        segment, handle, ..
-    } = question.call
-    else {
+    let Call::NewSegment { segment, .. } = question.call else {
         return None;
     };
+    let handle = question.call.handle()?;
     let store = decode(&held.image).filter(|_| answer.reply.is_done())?;
     let cluster = store.cluster(handle.node.into(), handle.local.into())?;
     let extent = cluster.segments[segment as usize].extent()?;
@@ -96,15 +94,11 @@ fn no_room(held: &mut Held, question: &Question) -> Answer {
 /// With the new segment at another base.
 fn moved(held: &Held, question: &Question, base: usize) -> Held {
     let mut store = decode(&held.image).expect("it was sound");
-    if let Call::NewSegment {
-        segment,
-        size,
-        handle,
-        ..
-    } = question.call
+    if let (Call::NewSegment { segment, size, .. }, Some(handle)) =
+        (&question.call, question.call.handle())
     {
         let cluster = &mut store.clusters[usize::from(handle.node)][usize::from(handle.local)];
-        cluster.segments[segment as usize] = present(base, size as usize);
+        cluster.segments[*segment as usize] = present(base, *size as usize);
     }
     held.with(&store)
 }
@@ -123,11 +117,11 @@ fn a_new_cluster_that_takes_over_what_lies_there() {
         |held, question| {
             let answer = guard::ask(held, question);
             let (Call::NewCluster { node, local, .. }, true) =
-                (question.call, answer.reply.is_done())
+                (&question.call, answer.reply.is_done())
             else {
                 return answer;
             };
-            let (node, local) = (node as usize, local as usize);
+            let (node, local) = (*node as usize, *local as usize);
             let mut store = decode(&held.image).expect("it was sound");
             if let Some(gap) = gaps(&store, node).first() {
                 let memory = &mut held.memory[gap.in_memory(node)];

@@ -64,7 +64,7 @@ fn telling(held: &mut Held, question: &Question, mode: Mode, has_to_open: bool) 
     if let (Some(cluster), Some(handle), true) =
         (cluster, handle, question.call.needed_mode() == Some(mode))
     {
-        let open = !handle.selector.is_gapped() && handle.validates(cluster.primary(mode));
+        let open = !handle.selector.is_gapped() && handle.validates(&cluster, mode);
         if cluster.active && (open || !has_to_open) {
             let read = cluster.read.iter();
             answer.reply.count = read.fold(0, |sum, byte| (sum * 31 + u32::from(*byte)) % 65_521);
@@ -101,11 +101,10 @@ fn in_either_mode<const CODE: u8, const MODE: u32>(held: &mut Held, question: &Q
     else {
         return answer;
     };
-    let mut other = question.clone();
-    for handle in other.presented_mut() {
-        if mode.number() == MODE && handle.validates(cluster.primary(mode.other())) {
+    let other = question.with_handles(|handle| {
+        if mode.number() == MODE && handle.is_made_from(cluster.primary(mode.other())) {
             handle.password = derive(cluster.primary(mode), &handle.selector);
         }
-    }
+    });
     guard::ask(held, &other)
 }

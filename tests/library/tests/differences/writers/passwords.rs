@@ -7,8 +7,7 @@ use crate::seen::{instead, Seen};
 use library::compare::Guard;
 use library::question::{Answer, Held, Question, READ_MODE, VALIDATION, WRITE_MODE};
 use model::call::{
-    Call, Reply, DELETE_CLUSTER, DELETE_SEGMENT, FREEZE, JOIN, NEW_PASSWORD, NEW_SEGMENT, REDUCE,
-    WRITE,
+    Reply, DELETE_CLUSTER, DELETE_SEGMENT, FREEZE, JOIN, NEW_PASSWORD, NEW_SEGMENT, REDUCE, WRITE,
 };
 use model::handle::{Handle, Password};
 use model::store::Mode;
@@ -44,9 +43,7 @@ fn reduced(held: &mut Held, question: &Question) -> Answer {
 
 fn joined(held: &mut Held, question: &Question) -> Answer {
     instead(held, question, (JOIN, DONE), |seen| {
-        let Call::Join { other, .. } = seen.question.call else {
-            return None;
-        };
+        let other = seen.question.call.presented().nth(1)?;
         from_the_read_password(seen, |read| seen.handle.join(&other, read))
     })
 }

@@ -1,0 +1,244 @@
+//! Handles where their length changes, and what goes by the width: handles of another than their cluster's, segments
+//! about it, masks of all sixteen bits, and the widths of new clusters.
+
+use super::{around, narrow, HIGH};
+use crate::chance::handles::at_width;
+use crate::chance::stores::{self, active_of, present};
+use crate::chance::{bytes, cases};
+use crate::compare::{ask, Guard, Sides};
+use crate::image::record_at;
+use crate::question::{Held, Question, READ_MODE};
+use model::call::Call;
+use model::handle::{derive, Handle, Selector, Width};
+use model::random::Random;
+use model::sizes::{NODES, PASSWORD_BYTES, SEGMENTS};
+use model::store::{Mode, Store};
+
+/// Bytes are presented for a handle from none up to so many.
+const MOST_BYTES: usize = 64;
+/// Widths are tried from 0 up to so many: one more byte is begun.
+const MOST_WIDTH: usize = 300;
+/// What the calls are about: the segment that is there, its length, and one that is not.
+const THERE: u32 = 2;
+const LENGTH: usize = 5;
+const ABSENT: u32 = 3;
+const NODE: usize = 2;
+const LOCAL: usize = 6;
+
+/// How many calls there were, and how many of them were done.
+type Asked = (u64, u64);
+
+/// A store with a cluster of one width, and with calls that are done by handles of it.
+struct Known {
+    held: Held,
+    store: Store,
+    questions: Vec<Question>,
+}
+
+impl Known {
+    fn by_chance(random: &mut Random, width: Width) -> Known {
+        let mut store = Store::starting();
+        let cluster = &mut store.clusters[NODE][LOCAL];
+        *cluster = active_of(random, width);
+        (cluster.read, cluster.write) = (random.bytes(), random.bytes());
+        cluster.segments[THERE as usize] = present(100, LENGTH);
+        let [reader, writer] = [cluster.read, cluster.write]
+            .map(|password| Handle::primary(width, NODE as u16, LOCAL as u8, password));
+        let weaken = |mask| reader.weaken(mask).expect("all are flat").to_bytes();
+        let (one, other) = (weaken(0b0110), weaken(0b0100));
+        let (node, segment, mode) = (NODE as u32, THERE, READ_MODE);
+        let (reader, handle) = (reader.to_bytes(), writer.to_bytes());
+        #[rustfmt::skip]
+        let calls = [
+            Call::DeleteCluster { node, handle: handle.clone() },
+            Call::NewSegment { node, segment: ABSENT, size: 7, handle: handle.clone() },
+            Call::DeleteSegment { node, segment, handle: handle.clone() },
+            Call::Write { segment, handle: handle.clone() },
+            Call::Freeze { node, segment, handle },
+            Call::Read { segment, handle: reader.clone() },
+            Call::Look { node, segment, handle: reader.clone() },
+            Call::Weaken { mask: 0b0110, handle: reader.clone() },
+            Call::NewPassword { mode, handle: reader.clone(), password: random.bytes() },
+            Call::Validate { mode, handle: reader },
+            Call::Reduce { mode, handle: one.clone() },
+            Call::Join { mode, handle: one, other },
+        ];
+        let question = |call| Question {
+            buffer: vec![0x33; LENGTH],
+            ..Question::of(call)
+        };
+        Known {
+            held: stores::held(random, &store),
+            store,
+            questions: calls.map(question).to_vec(),
+        }
+    }
+
+    /// As it is, with the store not sound, and with the image damaged; neither touches the cluster.
+    fn each(&self) -> [Held; 3] {
+        let [mut unsound, mut damaged] = [self.held.clone(), self.held.clone()];
+        unsound.image[record_at(NODES - 1, 0).start + 1] = 8;
+        damaged.image[record_at(0, 0).start] = 2;
+        [self.held.clone(), unsound, damaged]
+    }
+}
+
+/// Each case with a cluster of each width.
+fn with_each(
+    seed: u64,
+    mut case: impl FnMut(&mut Random, Width, &Known) -> Result<(), String>,
+) -> Result<(), String> {
+    let mut widths = Width::ALL.into_iter();
+    cases(seed, Width::ALL.len() as u64, |random| {
+        let width = widths.next().expect("there are as many cases");
+        let known = Known::by_chance(random, width);
+        case(random, width, &known)
+    })
+}
+
+/// Puts one question to both, and counts it.
+fn put(guard: Guard, held: &Held, question: &Question, asked: &mut Asked) -> Result<(), String> {
+    let answer = ask(guard, &mut Sides::both(held.clone()), question)?;
+    asked.0 += 1;
+    asked.1 += u64::from(answer.reply.is_done());
+    Ok(())
+}
+
+/// Every call with every handle that it takes made as long as each of these lengths, alone and, of two, both.
+pub fn lengths(guard: Guard, seed: u64) -> Result<Asked, String> {
+    let mut asked = (0, 0);
+    with_each(seed, |random, _, known| {
+        for question in &known.questions {
+            let handles = question.call.presented_bytes().count();
+            for (held, chosen) in known
+                .each()
+                .iter()
+                .flat_map(|held| (1..1 << handles).map(move |chosen| (held, chosen)))
+            {
+                for length in 0..=MOST_BYTES {
+                    let more = bytes(random, MOST_BYTES);
+                    let mut question = question.clone();
+                    let presented = question.presented_mut().into_iter().enumerate();
+                    for (_, handle) in presented.filter(|(at, _)| chosen >> at & 1 == 1) {
+                        handle.extend(&more);
+                        handle.truncate(length);
+                    }
+                    put(guard, held, &question, &mut asked)?;
+                }
+            }
+        }
+        Ok(())
+    })?;
+    Ok(asked)
+}
+
+/// Every call by handles of each width, with the password that goes with it and with another; where it is about a
+/// segment, with each that there can be and with others.
+pub fn segments(guard: Guard, seed: u64) -> Result<Asked, String> {
+    let mut asked = (0, 0);
+    with_each(seed, |_, own, known| {
+        let cluster = &known.store.clusters[NODE][LOCAL];
+        for (question, width) in known
+            .questions
+            .iter()
+            .flat_map(|question| Width::ALL.map(|width| (question, width)))
+        {
+            let mode = question.call.needed_mode().unwrap_or(Mode::Read);
+            let wide = question.with_handles(|handle| {
+                if width != own {
+                    *handle = at_width(handle, width);
+                }
+                handle.password = derive(cluster.primary(mode), &handle.selector);
+            });
+            let forged = wide.with_handles(|handle| handle.password[PASSWORD_BYTES - 1] ^= 1);
+            for question in [wide, forged] {
+                for question in about_each_segment(&question) {
+                    put(guard, &known.held, &question, &mut asked)?;
+                }
+            }
+        }
+        Ok(())
+    })?;
+    Ok(asked)
+}
+
+fn about_each_segment(question: &Question) -> Vec<Question> {
+    let right = match question.call.segment() {
+        Some(segment) => segment as usize,
+        None => return vec![question.clone()],
+    };
+    let about = |other: usize| {
+        let mut about = question.clone();
+        if let Call::NewSegment { segment, .. }
+        | Call::DeleteSegment { segment, .. }
+        | Call::Read { segment, .. }
+        | Call::Write { segment, .. }
+        | Call::Freeze { segment, .. }
+        | Call::Look { segment, .. } = &mut about.call
+        {
+            *segment = narrow(other);
+        }
+        about.beyond = other;
+        about
+    };
+    around(right, SEGMENTS).map(about).collect()
+}
+
+/// Weakening by every mask: of handles of each width with one subselector that is not flat, and with four.
+pub fn masks(guard: Guard, seed: u64) -> Result<Asked, String> {
+    let mut asked = (0, 0);
+    with_each(seed, |_, width, known| {
+        // It looks at no store.
+        let held = Held {
+            memory: Vec::new(),
+            ..known.held.clone()
+        };
+        let flat = width.flat();
+        let selectors = [
+            [flat & 0x7bda, flat, flat, flat],
+            [flat - 1, flat - 2, flat - 1, flat - 2],
+        ];
+        for subselectors in selectors {
+            let selector = Selector::new(width, subselectors);
+            let (node, local) = (NODE as u16, LOCAL as u8);
+            let handle = Handle::converted(node, local, &[0x11; PASSWORD_BYTES], selector);
+            for mask in 0..=u16::MAX {
+                let handle = handle.to_bytes();
+                let question = Question::of(Call::Weaken { mask, handle });
+                put(guard, &held, &question, &mut asked)?;
+            }
+        }
+        Ok(())
+    })?;
+    Ok(asked)
+}
+
+/// Call 1 with widths from 0 on and with those that are right in their low bytes alone; where nothing else is wrong,
+/// and where the place is none, is in use, or the passwords are equal.
+pub fn new_clusters(guard: Guard, seed: u64) -> Result<Asked, String> {
+    let mut asked = (0, 0);
+    with_each(seed, |random, own, known| {
+        let high = HIGH.map(|more| own.segments() + more);
+        let widths = (0..MOST_WIDTH).chain(high).chain([usize::MAX]);
+        let [first, second] = [random.bytes(), random.bytes()];
+        for width in widths {
+            let call = |node: usize, local: usize, write| Call::NewCluster {
+                node: node as u32,
+                local: local as u32,
+                width,
+                read: first,
+                write,
+            };
+            for call in [
+                call(NODE, LOCAL + 1, second),
+                call(NODE, LOCAL + 1, first),
+                call(NODE, LOCAL, second),
+                call(NODES, LOCAL, second),
+            ] {
+                put(guard, &known.held, &Question::of(call), &mut asked)?;
+            }
+        }
+        Ok(())
+    })?;
+    Ok(asked)
+}

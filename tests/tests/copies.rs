@@ -1,0 +1,195 @@
+//! Nothing of a cluster is told to those who have no handle of it. Two states begin alike but for the bytes of one
+//! cluster's segments and its two passwords, and no call presents a handle that opens it in either state; one of another
+//! width does not. Then both reply the same, stay alike in all else, and each keeps that cluster as it was.
+
+mod support;
+
+use model::call::Call;
+use model::handle::{Handle, HandleBytes, Password, Width};
+use model::random::Random;
+use model::store::{Cluster, Mode, Segment};
+use std::collections::BTreeMap;
+use support::valid::{answer, any_width, parts, valid_call};
+use support::*;
+
+const LISTS: usize = 300;
+const LIST_CALLS: usize = 60;
+const BUFFER_BYTES: usize = 40;
+/// The cluster set apart, and one beside it, both of node 0.
+const APART: usize = 0;
+const BESIDE: usize = 1;
+
+/// Each cluster has a width by chance and two segments, the first and the last, frozen or not.
+fn pair(random: &mut Random) -> [Bench; 2] {
+    let mut start = Bench::starting();
+    start.memory.fill_with(|| random.byte());
+    for local in [APART, BESIDE] {
+        let width = any_width(random);
+        let mut cluster = Cluster {
+            active: true,
+            width: width.number(),
+            read: random.bytes(),
+            write: random.bytes(),
+            ..Cluster::INACTIVE
+        };
+        for (at, segment) in [0, width.segments() - 1].into_iter().enumerate() {
+            let base = (2 * at + local) * BUFFER_BYTES;
+            let length = 1 + random.below(BUFFER_BYTES as u64);
+            cluster.segments[segment] = Segment::present(base as u16, length as u16);
+            cluster.segments[segment].frozen = random.one_in(3);
+        }
+        start.store.clusters[0][local] = cluster;
+    }
+    let mut other = start.clone();
+    let cluster = &mut other.store.clusters[0][APART];
+    (cluster.read, cluster.write) = (random.bytes(), random.bytes());
+    for part in parts(&start, APART) {
+        other.memory[part].fill_with(|| random.byte());
+    }
+    [start, other]
+}
+
+/// Whether the handle opens the cluster set apart, in either mode and in either state.
+fn opens(states: &[Bench; 2], handle: &Handle) -> bool {
+    let cluster = |state: &Bench| state.store.clusters[0][APART];
+    let validates = |state: &Bench| {
+        let cluster = cluster(state);
+        Mode::ALL
+            .iter()
+            .any(|mode| handle.validates(&cluster, *mode))
+    };
+    handle.name() == (0, APART as u8) && states.iter().any(validates)
+}
+
+/// The handle with another password, or with the right one at another width.
+fn shut(random: &mut Random, cluster: &Cluster, handle: &Handle) -> Handle {
+    let mut shut = *handle;
+    if random.one_in(2) {
+        shut.password[random.below(16) as usize] ^= 1 << random.below(8);
+        return shut;
+    }
+    let width = others(handle.width())
+        .nth(random.below(2) as usize)
+        .unwrap();
+    let primary = *random.pick(&[cluster.read, cluster.write]).unwrap();
+    let (node, local) = handle.name();
+    let handle = Handle::primary(width, node, local, primary);
+    let cut = handle.weaken(random.number() as u16 | 1);
+    cut.filter(|_| random.one_in(2)).unwrap_or(handle)
+}
+
+/// A call that the list may have; handles that open the cluster are made such that they do not, but for weakening.
+fn free_call(random: &mut Random, states: &[Bench; 2]) -> Call {
+    loop {
+        let state = &states[random.below(2) as usize];
+        let cluster = state.store.clusters[0][APART];
+        let mut call = valid_call(random, state);
+        let mut close = |handle: &mut HandleBytes| {
+            let presented = Handle::from_bytes(handle).expect("it has a width");
+            if opens(states, &presented) {
+                *handle = shut(random, &cluster, &presented).into();
+            }
+        };
+        match &mut call {
+            Call::Read { handle, .. }
+            | Call::Look { handle, .. }
+            | Call::Write { handle, .. }
+            | Call::Reduce { handle, .. }
+            | Call::Validate { handle, .. }
+            | Call::Freeze { handle, .. }
+            | Call::NewPassword { handle, .. }
+            | Call::DeleteSegment { handle, .. }
+            | Call::NewSegment { handle, .. }
+            | Call::DeleteCluster { handle, .. } => close(handle),
+            Call::Join { handle, other, .. } => {
+                close(handle);
+                close(other);
+            }
+            Call::Weaken { .. } | Call::NewCluster { .. } => return call,
+        }
+        // What is frozen would soon be all that there is.
+        let kept = matches!(call, Call::Freeze { .. }) && !random.one_in(4);
+        if !kept && !call.presented().any(|handle| opens(states, &handle)) {
+            return call;
+        }
+    }
+}
+
+/// The cluster set apart, and the bytes of its segments.
+fn held(state: &Bench) -> (Cluster, Vec<Vec<u8>>) {
+    let bytes = parts(state, APART).into_iter();
+    let bytes = bytes.map(|part| state.memory[part].to_vec());
+    (state.store.clusters[0][APART], bytes.collect())
+}
+
+/// The state without that cluster's passwords and bytes.
+fn without(state: &Bench) -> Bench {
+    let mut state = state.clone();
+    for part in parts(&state, APART) {
+        state.memory[part].fill(0);
+    }
+    let cluster = &mut state.store.clusters[0][APART];
+    (cluster.read, cluster.write) = (Password::default(), Password::default());
+    state
+}
+
+#[test]
+fn the_same_is_told_whatever_it_holds() {
+    let random = &mut Random::from_seed(1);
+    let mut met: BTreeMap<(usize, String, u8), usize> = BTreeMap::new();
+    let mut widths: BTreeMap<(u8, Option<Width>, u8), usize> = BTreeMap::new();
+    for _ in 0..LISTS {
+        let mut states = pair(random);
+        let start = states.each_ref().map(held);
+        let width = start[0].0.width;
+        for _ in 0..LIST_CALLS {
+            let call = free_call(random, &states);
+            let data: [u8; BUFFER_BYTES] = random.bytes();
+            let [one, two] = states.each_mut().map(|state| answer(state, &call, &data));
+            assert_eq!(one, two, "{call:?}");
+            assert!(without(&states[0]) == without(&states[1]), "{call:?}");
+            assert_eq!(states.each_ref().map(held), start, "{call:?}");
+            let local = match call {
+                Call::NewCluster { local, .. } => local as usize,
+                _ => call.handle().map_or(0, |handle| handle.local.into()),
+            };
+            let name = format!("{call:?}").split(' ').next().map(str::to_string);
+            let number = one.0.number;
+            *met.entry((local, name.expect("it has one"), number))
+                .or_default() += 1;
+            if local == APART && !matches!(call, Call::Weaken { .. }) {
+                let by = call.handle().map(|handle| handle.width());
+                *widths.entry((width, by, number)).or_default() += 1;
+            }
+        }
+    }
+    for name in [
+        "NewSegment",
+        "Read",
+        "Look",
+        "Write",
+        "Reduce",
+        "NewPassword",
+        "Join",
+    ] {
+        for (local, number) in [(APART, 25), (APART, 9), (BESIDE, 0)] {
+            let count = met.get(&(local, name.to_string(), number));
+            let fewest = if number == 0 { 5 } else { 30 };
+            assert!(
+                count.is_some_and(|count| *count > fewest),
+                "{name} {number} {met:?}"
+            );
+        }
+    }
+    // Of each width, by handles of each.
+    for width in Width::ALL {
+        for by in Width::ALL {
+            let number = if by == width { 9 } else { 25 };
+            let count = widths.get(&(width.number(), Some(by), number));
+            assert!(count.is_some_and(|count| *count > 100), "{widths:?}");
+        }
+    }
+    assert!(met
+        .keys()
+        .all(|(local, name, number)| { *local == BESIDE || *number != 0 || name == "Weaken" }));
+}

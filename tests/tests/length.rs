@@ -1,0 +1,257 @@
+//! 25, for a length that no handle has before everything else, for a handle of another width than its cluster's after 8
+//! and before 9; and 3 for widths and for segments that the handle's width does not have.
+
+mod support;
+
+use model::call::{Call, Reply};
+use model::handle::{Handle, HandleBytes, Selector, Width};
+use model::sizes::MEMORY_BYTES;
+use model::store::Mode;
+use model::table::{numbers_of_calls, refusal_above, refusal_below, word, Found, LENGTH, UNSOUND};
+use support::every::{every, looking, Rest};
+use support::*;
+
+/// What goes with cluster 2 of node 0.
+fn right(width: Width) -> Rest {
+    Rest {
+        node: 0,
+        segment: own(width),
+        mode: None,
+    }
+}
+
+/// Nothing of it is right.
+const WRONG_REST: Rest = Rest {
+    node: 99,
+    segment: 99,
+    mode: Some(0),
+};
+
+/// The bytes of the last handle with another length.
+fn of_length(handle: Handle, length: usize) -> HandleBytes {
+    let mut bytes = handle.to_bytes();
+    bytes.resize(length, 0xff);
+    bytes
+}
+
+/// The call is refused, and changes nothing, not even a buffer.
+fn refused(state: &Bench, call: &Call, number: u8) {
+    let (mut left, mut buffer) = (state.clone(), [0xee; 4]);
+    let reply = left.ask(call, &mut buffer);
+    assert_eq!(reply, Reply::refused(number), "{call:?}");
+    assert!(left == *state && buffer == [0xee; 4], "{call:?}");
+}
+
+#[test]
+fn its_word_and_its_places() {
+    assert_eq!((word(25), word(26)), (Some("length"), None));
+    let numbers: Vec<u8> = numbers_of_calls().collect();
+    assert_eq!(numbers[..3], [25, 1, 2]);
+    assert!(numbers.windows(4).any(|row| row == [8, 25, 9, 23]));
+    assert_eq!(numbers.iter().filter(|number| **number == 25).count(), 2);
+}
+
+// A length that no handle has.
+
+/// Whatever else is wrong: every call, every length, sound stores and others.
+#[test]
+fn before_everything_else() {
+    let sound = Bench::with_segment_of(Width::Eight);
+    let mut damaged = sound.clone();
+    damaged.store.clusters[3][7].write[0] = 1;
+    let mut short = sound.clone();
+    short.memory.pop();
+    let lengths = (0..=40).filter(|length| ![21, 23, 27].contains(length));
+    for length in lengths.chain([255, 256, 277, 279, 4096]) {
+        for writer in [
+            writer(),
+            Handle {
+                node: 9,
+                ..writer()
+            },
+        ] {
+            let wrong = of_length(writer, length);
+            for rest in [right(Width::Eight), WRONG_REST] {
+                for call in every(&wrong, &wrong, rest) {
+                    for state in [&sound, &damaged, &short] {
+                        refused(state, &call, 25);
+                    }
+                }
+            }
+        }
+    }
+}
+
+#[test]
+fn of_either_handle_of_a_join() {
+    let state = Bench::with_segment();
+    let mut damaged = state.clone();
+    damaged.store.clusters[3][7].write[0] = 1;
+    let right: HandleBytes = writer().weaken(7).unwrap().into();
+    for length in WRONG {
+        let wrong = of_length(writer(), length);
+        for mode in [WRITE_MODE, 0] {
+            for (one, two) in [(&right, &wrong), (&wrong, &right), (&wrong, &wrong)] {
+                let call = join(mode, one.clone(), two.clone());
+                refused(&state, &call, 25);
+                refused(&damaged, &call, 25);
+            }
+        }
+    }
+}
+
+/// A call on damage answers 1 with a handle of any width, and what stands above 1 is 25 alone.
+#[test]
+fn and_nothing_else_stands_above_1() {
+    let mut damaged = Bench::with_segment();
+    damaged.store.clusters[3][7].write[0] = 1;
+    let found = Found {
+        store: &damaged.store,
+        memory_bytes: MEMORY_BYTES,
+        buffer_bytes: 0,
+    };
+    for width in Width::ALL {
+        let handle = writer_of(width).to_bytes();
+        for call in looking(&handle, &handle, WRONG_REST) {
+            refused(&damaged, &call, 1);
+            assert_eq!(refusal_above(UNSOUND, &call, &found), None);
+        }
+        let wrong = handle[..20].to_vec();
+        for call in looking(&wrong, &handle, WRONG_REST) {
+            assert_eq!(refusal_above(UNSOUND, &call, &found), Some(25));
+            assert_eq!(refusal_below(LENGTH, &call, &found), Some(1));
+        }
+    }
+}
+
+// A handle of another width than its cluster's.
+
+/// All but weakening, with a handle that would be right in all else.
+#[test]
+fn not_the_cluster_s_width() {
+    for width in Width::ALL {
+        let state = Bench::with_segment_of(width);
+        for other in others(width) {
+            let least = width.min(other);
+            let rest = Rest {
+                segment: own(least),
+                ..right(width)
+            };
+            for handle in [writer_of(other), reader_of(other)] {
+                let joined = handle.weaken(6).unwrap().to_bytes();
+                for call in looking(&handle.into(), &joined, rest) {
+                    refused(&state, &call, 25);
+                    // Somewhere else, or with a node that is no node, the numbers above it are given.
+                    if let Call::Look { .. } = call {
+                        let handle = handle.to_bytes();
+                        let look = |node, segment| Call::Look {
+                            node,
+                            segment,
+                            handle: handle.clone(),
+                        };
+                        refused(&state, &look(1, 0), 5);
+                        refused(&state, &look(4, 0), 2);
+                        refused(&state, &look(0, other.number().into()), 3);
+                    }
+                }
+            }
+        }
+    }
+}
+
+/// The first handle's width, the second's, both's; and 24 comes before.
+#[test]
+fn of_either_handle_of_a_join_again() {
+    for width in Width::ALL {
+        let state = Bench::with_segment_of(width);
+        let right = reader_of(width).weaken(2).unwrap();
+        for other in others(width) {
+            let wrong = reader_of(other).weaken(2).unwrap();
+            let apart = Handle { local: 3, ..wrong };
+            let forged = Handle {
+                password: [9; 16],
+                ..wrong
+            };
+            for (one, two) in [(right, wrong), (wrong, right), (wrong, wrong)] {
+                refused(&state, &join(READ_MODE, one, two), 25);
+                refused(&state, &join(0, one, two), 3);
+            }
+            for (one, two) in [(right, forged), (forged, right), (forged, wrong)] {
+                refused(&state, &join(READ_MODE, one, two), 25);
+            }
+            refused(&state, &join(READ_MODE, right, apart), 24);
+            refused(&state, &join(READ_MODE, apart, apart), 8);
+            // All segments of the two are all of their width, and not of the cluster's.
+            let primary = reader_of(other);
+            refused(&state, &join(READ_MODE, primary, primary), 25);
+            refused(&state, &join(READ_MODE, right, primary), 25);
+        }
+    }
+}
+
+/// Where the cluster is inactive it has no width; where it is active, a wrong password does not matter.
+#[test]
+fn after_8_and_before_9() {
+    for width in Width::ALL {
+        let state = Bench::with_segment_of(width);
+        for other in Width::ALL {
+            let inactive = Handle::primary(other, 0, 3, [0; 16]).to_bytes();
+            let forged = Handle::primary(other, 0, 2, [9; 16]).to_bytes();
+            let rest = Rest {
+                segment: 0,
+                ..right(width)
+            };
+            for call in looking(&inactive, &inactive, rest) {
+                refused(&state, &call, 8);
+            }
+            for call in looking(&forged, &forged, rest) {
+                refused(&state, &call, if other == width { 9 } else { 25 });
+            }
+        }
+    }
+}
+
+/// A handle of another width does not validate, whatever its password: not even where all its conversions are those of
+/// the cluster's width.
+#[test]
+fn does_not_validate() {
+    for width in Width::ALL {
+        let state = Bench::with_segment_of(width);
+        let cluster = &state.store.clusters[0][2];
+        for other in others(width) {
+            let least = width.min(other);
+            for parts in [[1; 4], [least.flat() - 1; 4], [0; 4]] {
+                let at = |width| Handle::converted(0, 2, &READ_SECRET, Selector::new(width, parts));
+                assert_eq!(at(width).password, at(other).password);
+                let mode = Mode::Read;
+                assert!(at(width).validates(cluster, mode));
+                assert!(!at(other).validates(cluster, mode));
+                let validate = |handle: Handle| Call::Validate {
+                    mode: READ_MODE,
+                    handle: handle.into(),
+                };
+                assert_eq!(state.clone().number(validate(at(width))), 0);
+                refused(&state, &validate(at(other)), 25);
+            }
+        }
+    }
+}
+
+/// It never looks at the store, and so at no cluster's width.
+#[test]
+fn not_for_weakening() {
+    for width in Width::ALL {
+        let mut state = Bench::with_segment_of(width);
+        for other in Width::ALL {
+            let weaken = |mask| Call::Weaken {
+                mask,
+                handle: reader_of(other).into(),
+            };
+            let reply = state.reply(weaken(0xfff1));
+            let expected = reader_of(other).weaken(0xfff1).unwrap();
+            assert_eq!(reply.first, expected.to_bytes());
+            assert_eq!(reply.count, u32::from(other.number()) - 3);
+            assert_eq!(state.reply(weaken(!other.flat())), Reply::refused(21));
+        }
+    }
+}

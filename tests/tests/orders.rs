@@ -1,0 +1,126 @@
+//! Every set of numbers that can meet, at each width: alone each is given, and of several the first. Calls 1, 9 and
+//! 11 are beside what else is checked of them.
+
+mod support;
+
+use model::call::{Call, Part, Reply};
+use model::handle::{Handle, Selector, Width};
+use model::sizes::NODE_BYTES;
+use model::store::{Cluster, Segment};
+use support::faults::{self, Faulty, Kind, BASE, LENGTH, LOCAL, NODE};
+use support::*;
+
+/// What a call leaves to which nothing applies, what it replies, and the buffer afterwards.
+fn done(faulty: &Faulty, kind: Kind) -> (Bench, Reply, Vec<u8>) {
+    let (mut state, mut buffer) = (put_to(faulty), vec![0xee; faulty.buffer_bytes]);
+    let segment = &mut state.store.clusters[NODE][LOCAL].segments[faulty.segment];
+    let (at, mut reply) = (NODE * NODE_BYTES, Reply::DONE);
+    match kind {
+        Kind::DeleteCluster => state.store.clusters[NODE][LOCAL] = Cluster::INACTIVE,
+        Kind::NewSegment => {
+            *segment = Segment::present(0, LENGTH as u16);
+            state.memory[at..at + LENGTH].fill(0);
+        }
+        Kind::DeleteSegment => *segment = Segment::ABSENT,
+        Kind::Read => {
+            buffer[..LENGTH].fill(0x77);
+            reply.length = LENGTH as u32;
+        }
+        Kind::Write => state.memory[at + BASE..at + BASE + LENGTH].fill(0xee),
+        Kind::Reduce => {
+            let handle = faulty.call.handle().unwrap();
+            reply.first = handle.reduce(kind.primary_password()).to_bytes();
+        }
+        Kind::Freeze => segment.frozen = true,
+        Kind::Look => {
+            reply.shown = Part {
+                from: at + BASE,
+                length: LENGTH,
+            }
+        }
+        Kind::Validate => {}
+    }
+    (state, reply, buffer)
+}
+
+fn put_to(faulty: &Faulty) -> Bench {
+    Bench {
+        store: faulty.store.clone(),
+        memory: vec![0x77; faulty.memory_bytes],
+    }
+}
+
+#[test]
+fn numbers_in_their_order() {
+    let kinds = [
+        (Kind::DeleteCluster, 1024),
+        (Kind::NewSegment, 2 * 4096),
+        (Kind::DeleteSegment, 3072),
+        (Kind::Read, 2 * 2048),
+        (Kind::Write, 3072),
+        (Kind::Reduce, 2 * 256),
+        (Kind::Freeze, 2 * 2048),
+        (Kind::Look, 2 * 2048),
+        (Kind::Validate, 2 * 256),
+    ];
+    for (kind, count) in kinds {
+        for faulty in faults::all(kind) {
+            let (mut left, mut buffer) = (put_to(&faulty), vec![0xee; faulty.buffer_bytes]);
+            let expected = match faulty.number() {
+                0 => done(&faulty, kind),
+                number => (put_to(&faulty), Reply::refused(number), buffer.clone()),
+            };
+            let reply = left.ask(&faulty.call, &mut buffer);
+            assert!(
+                (left, reply.clone(), buffer) == expected,
+                "{faulty:?} {reply:?}"
+            );
+        }
+        assert_eq!(faults::all(kind).count(), 3 * count, "{kind:?}");
+    }
+}
+
+/// Weakening: 25, 2, 4, 21, 17 at each width, in a store that is no store.
+#[test]
+fn numbers_of_weakening_in_their_order() {
+    for set in 0..32_u32 {
+        for width in Width::ALL {
+            let [cut_off, nowhere, gapped, empty, spent] =
+                [0, 1, 2, 3, 4].map(|at| set >> at & 1 == 1);
+            let flat = width.flat();
+            // References the last segment and no other, or the last two.
+            let two = flat - (flat >> 2);
+            let parts = match (gapped, spent) {
+                (true, _) => [flat, two, flat, two],
+                (_, true) => [two; 4],
+                _ => [two, flat, flat, flat],
+            };
+            let mut handle = Handle::converted(0, 2, &READ_SECRET, Selector::new(width, parts));
+            handle.node += 4 * u16::from(nowhere);
+            let handle = match cut_off {
+                true => cut(handle, set as usize),
+                false => handle.into(),
+            };
+            let last = flat - (flat >> 1);
+            let mask = match empty {
+                true => !two,
+                false => last | !flat,
+            };
+            let numbers = [
+                (cut_off, 25),
+                (nowhere, 2),
+                (gapped, 4),
+                (empty, 21),
+                (spent, 17),
+            ];
+            let first = numbers.iter().find(|(applies, _)| *applies);
+            let mut state = Bench::starting();
+            state.memory.clear();
+            let reply = state.reply(Call::Weaken { mask, handle });
+            match first {
+                Some((_, number)) => assert_eq!(reply, Reply::refused(*number), "{set}"),
+                None => assert_eq!((reply.number, reply.count), (0, 1)),
+            }
+        }
+    }
+}
