@@ -8,6 +8,7 @@ use mathlib.Core.List.{List, [], _∷_}
 use Prim.Native.Nat.{ℕ, zero, suc}
 use native.Mathlib.Omega.{arith}
 use lib.ListN.{length}
+use Rattle.sizes.specs.Sizes.{memory}
 use borrow.Author.Tests.{not-false}
 use Rattle.loops.proofs.BelowLaws.{and-left, and-right}
 use Rattle.numbers.specs.Numbers.{unsoundNumber}
@@ -29,7 +30,7 @@ use Rattle.image.specs.Images.{good, storeIn, imageOf}
 use Rattle.gelmuszta.specs.declared.Located.{Located}
 use Rattle.gelmuszta.specs.declared.Opened.{Opened}
 use Rattle.gelmuszta.specs.inner.Opened.{Locates, Opens, Kept}
-use Rattle.gelmuszta.specs.Exported.{nothing, replyOf, Exported, returned, early, damaged, imaged, exported, Always}
+use Rattle.gelmuszta.specs.Exported.{nothing, replyOf, Exported, leaving, early, damaged, imaged, exported, Gives, Always}
 use Rattle.gelmuszta.proofs.ReplyLaws.{Silent, OneHandle, TwoHandles, Length, done-number}
 use Rattle.gelmuszta.proofs.ReplyLaws.{silent-reply, handle-reply, handles-reply, length-reply, count-reply}
 use Rattle.gelmuszta.proofs.ReplyLaws.{weaken-counts}
@@ -71,10 +72,10 @@ number-length x s size e = simp e
 
 -- ---- what was found
 
-pub opens-so : (b : List ℕ) (size : ℕ) (hb : List ℕ) (h : Handle) → h ≡ decoded hb → (v : ℕ) → v ≡ nodeOf h → (l : Located)
-    → Locates l b size v (h .local) → (none : Bool) → none ≡ noWidth h → (n : ℕ) → n ≡ early none (l .sound)
-    → Opens (record { handle = h; at = l .at; cluster = l .cluster; sound = l .sound; refused = n }) b size hb
-opens-so b size hb h eh v ev l w none e0 n en =
+pub opens-so : (b hb : List ℕ) (h : Handle) → h ≡ decoded hb → (v : ℕ) → v ≡ nodeOf h → (l : Located)
+    → Locates l b v (h .local) → (none : Bool) → none ≡ noWidth h → (n : ℕ) → n ≡ early none (l .sound)
+    → Opens (record { handle = h; at = l .at; cluster = l .cluster; sound = l .sound; refused = n }) b hb
+opens-so b hb h eh v ev l w none e0 n en =
     record {
       handle = eh;
       at = w .at ∙ ap (λ (u : ℕ). recordAt u (h .local)) ev;
@@ -108,27 +109,30 @@ kept-done l at b after z e = record { done = λ q g. e g; refused = λ t. absurd
 
 -- ---- an image that holds no sound store, and one that does
 
-module _ (b m : List ℕ) (sd : Bool) (es : sd ≡ (good b && sound (storeIn b) (length m)))
+module _ (b m : List ℕ) (em : length m ≡ memory) (sd : Bool) (so : sd ≡ (good b && sound (storeIn b) memory))
     (whole : good b ≡ true → imageOf (storeIn b) ≡ b) where
+  es : sd ≡ (good b && sound (storeIn b) (length m))
+  es = so ∙ ap (λ (n : ℕ). good b && sound (storeIn b) n) (sym em)
+
   -- what is told before all else
   pub refused-with : (x : Call) → among (7 ∷ []) (x .kind) ≡ false → (buf : List ℕ) → buf ≡ buffer x → (n : ℕ)
-      → n ≡ early (badLength x) sd → (n ≡ 0 → ⊥) → returned n nothing nothing 0 0 buf b m ≡ exported x b m
+      → n ≡ early (badLength x) sd → (n ≡ 0 → ⊥) → leaving (plain n buf) b m ≡ exported x b m
   unfolding exported
   refused-with x looks buf e n en t =
-      (λ j. returned (en j) nothing nothing 0 0 (e j) b m) ∙ go (badLength x) refl sd es (λ z. t (en ∙ z)) (good b) refl
+      (λ j. leaving (plain (en j) (e j)) b m) ∙ go (badLength x) refl sd es (λ z. t (en ∙ z)) (good b) refl
     where
       go : (none : Bool) → badLength x ≡ none → (u : Bool) → u ≡ (good b && sound (storeIn b) (length m))
           → (early (badLength x) u ≡ 0 → ⊥) → (g : Bool) → good b ≡ g
-          → returned (early (badLength x) u) nothing nothing 0 0 (buffer x) b m ≡ picked x b m (good b)
+          → leaving (plain (early (badLength x) u) (buffer x)) b m ≡ picked x b m (good b)
       go none e0 u eu nz false eg =
-          (λ j. returned (early (badLength x) (off j)) nothing nothing 0 0 (buffer x) b m)
+          (λ j. leaving (plain (early (badLength x) (off j)) (buffer x)) b m)
           ∙ sym (ap (λ (v : Bool). damagedBy v (badLength x) x b m) looks)
           ∙ sym (ap (picked x b m) eg)
         where
           off : u ≡ false
           off = eu ∙ ap (λ (v : Bool). v && sound (storeIn b) (length m)) eg
       go none e0 u eu nz true eg =
-          ap (λ (i : List ℕ). returned (early (badLength x) u) nothing nothing 0 0 (buffer x) i m) (sym (whole eg))
+          ap (λ (i : List ℕ). leaving (plain (early (badLength x) u) (buffer x)) i m) (sym (whole eg))
           ∙ sym (ap imaged (step-refused product x (copyOf (storeIn b) m) (early (badLength x) u) told nz))
           ∙ sym (ap (picked x b m) eg)
         where
@@ -146,7 +150,7 @@ module _ (b m : List ℕ) (sd : Bool) (es : sd ≡ (good b && sound (storeIn b) 
 
   -- a call that presents no handle gets 1
   pub refused-unsound : (x : Call) → among (7 ∷ []) (x .kind) ≡ false → badLength x ≡ false → (buf : List ℕ) → buf ≡ buffer x
-      → not sd ≡ true → returned unsoundNumber nothing nothing 0 0 buf b m ≡ exported x b m
+      → not sd ≡ true → leaving (plain unsoundNumber buf) b m ≡ exported x b m
   refused-unsound x looks none buf e t =
       refused-with x looks buf e 1 (simp (none, t)) (λ z. omega (arith, z))
 
@@ -207,15 +211,15 @@ module _ (b m : List ℕ) (sd : Bool) (es : sd ≡ (good b && sound (storeIn b) 
         same : n ≡ left .copy .memory
         same = bytes (putRecord (storeIn b) i (l .cluster)) n (l .answer) [] e
 
-        pub kept-silent : Silent x → returned (l .answer .number) nothing nothing 0 0 [] after n ≡ exported x b m
+        pub kept-silent : Silent x → leaving (plain (l .answer .number) []) after n ≡ exported x b m
         kept-silent r = finished _ after n (silent-reply x (copyOf (storeIn b) m) (l .answer) [] silent r) image-left same
 
         pub kept-handle : OneHandle x
-            → returned (l .answer .number) (l .answer .first) nothing 0 0 [] after n ≡ exported x b m
+            → leaving (replyOf (l .answer .number) (l .answer .first) nothing 0 0 []) after n ≡ exported x b m
         kept-handle r = finished _ after n (handle-reply x (copyOf (storeIn b) m) (l .answer) [] silent r) image-left same
 
         pub kept-handles : TwoHandles x
-            → returned (l .answer .number) (l .answer .first) (l .answer .second) 0 0 [] after n ≡ exported x b m
+            → leaving (replyOf (l .answer .number) (l .answer .first) (l .answer .second) 0 0 []) after n ≡ exported x b m
         kept-handles r = finished _ after n (handles-reply x (copyOf (storeIn b) m) (l .answer) [] silent r) image-left same
 
       -- the records stay, and so does the image
@@ -223,28 +227,28 @@ module _ (b m : List ℕ) (sd : Bool) (es : sd ≡ (good b && sound (storeIn b) 
         image-same : b ≡ imageOf (left .copy .store)
         image-same = sym (whole held-good) ∙ ap (λ (o : Outcome). imageOf (o .copy .store)) e
 
-        pub same-silent : Silent x → returned (a .number) nothing nothing 0 0 buf b n ≡ exported x b m
+        pub same-silent : Silent x → leaving (plain (a .number) buf) b n ≡ exported x b m
         same-silent r =
             finished _ b n (silent-reply x (copyOf (storeIn b) m) a buf (replies (storeIn b) n a buf e) r) image-same
             (bytes (storeIn b) n a buf e)
 
-        pub same-handle : OneHandle x → returned (a .number) (a .first) nothing 0 0 buf b n ≡ exported x b m
+        pub same-handle : OneHandle x → leaving (replyOf (a .number) (a .first) nothing 0 0 buf) b n ≡ exported x b m
         same-handle r =
             finished _ b n (handle-reply x (copyOf (storeIn b) m) a buf (replies (storeIn b) n a buf e) r) image-same
             (bytes (storeIn b) n a buf e)
 
-        pub same-told : Length x → returned (a .number) nothing nothing 0 (a .length) buf b n ≡ exported x b m
+        pub same-told : Length x → leaving (replyOf (a .number) nothing nothing 0 (a .length) buf) b n ≡ exported x b m
         same-told r =
             finished _ b n (length-reply x (copyOf (storeIn b) m) a buf (replies (storeIn b) n a buf e) r) image-same
             (bytes (storeIn b) n a buf e)
 
 -- ---- what the core is given
 
-pub held-of : (b : List ℕ) (size : ℕ) (hb : List ℕ) (o : Opened) → Opens o b size hb → o .refused ≡ 0 → not (o .sound) ≡ false
-held-of b size hb o w z = early-held (noWidth (o .handle)) (o .sound) (o .refused) (w .refused) z
+pub held-of : (b hb : List ℕ) (o : Opened) → Opens o b hb → o .refused ≡ 0 → not (o .sound) ≡ false
+held-of b hb o w z = early-held (noWidth (o .handle)) (o .sound) (o .refused) (w .refused) z
 
 -- a call that presents the handle and no other
-module _ (b m hb : List ℕ) (o : Opened) (w : Opens o b (length m) hb) (x : Call) where
+module _ (b hb : List ℕ) (o : Opened) (w : Opens o b hb) (x : Call) where
   pub refused-alone : presented x ≡ decoded hb ∷ [] → o .refused ≡ early (badLength x) (o .sound)
   unfolding badLength
   refused-alone shown =
@@ -253,12 +257,12 @@ module _ (b m hb : List ℕ) (o : Opened) (w : Opens o b (length m) hb) (x : Cal
       (ap noWidth (w .handle) ∙ sym (or-false (noWidth (decoded hb))) ∙ sym (ap (anyOf noWidth) shown))
 
   pub refused-of : among (7 ∷ []) (x .kind) ≡ false → presented x ≡ decoded hb ∷ [] → (buf : List ℕ) → buf ≡ buffer x
-      → (o .refused ≡ 0 → ⊥) → returned (o .refused) nothing nothing 0 0 buf b m ≡ exported x b m
-  refused-of looks shown buf e t =
-      refused-with b m (o .sound) (w .sound) (w .whole) x looks buf e (o .refused) (refused-alone shown) t
+      → (o .refused ≡ 0 → ⊥) → Gives x b (plain (o .refused) buf) b
+  refused-of looks shown buf e t m em =
+      refused-with b m em (o .sound) (w .sound) (w .whole) x looks buf e (o .refused) (refused-alone shown) t
 
 -- of a join, where the second has one of the three lengths, and where it has not
-module _ (b m ha hb : List ℕ) (mode : ℕ) (o : Opened) (w : Opens o b (length m) ha) (k : Handle) (ek : k ≡ decoded hb)
+module _ (b ha hb : List ℕ) (mode : ℕ) (o : Opened) (w : Opens o b ha) (k : Handle) (ek : k ≡ decoded hb)
     (none : Bool) (en : none ≡ noWidth k) where
   abbrev y : Call
   y = joining mode ha hb
@@ -267,9 +271,9 @@ module _ (b m ha hb : List ℕ) (mode : ℕ) (o : Opened) (w : Opens o b (length
   unfolding badLength
   both = refl
 
-  pub refused-pair : none ≡ false → (o .refused ≡ 0 → ⊥) → returned (o .refused) nothing nothing 0 0 [] b m ≡ exported y b m
-  refused-pair f t =
-      refused-with b m (o .sound) (w .sound) (w .whole) y refl [] refl (o .refused) (w .refused ∙ told) t
+  pub refused-pair : none ≡ false → (o .refused ≡ 0 → ⊥) → Gives y b (plain (o .refused) []) b
+  refused-pair f t m em =
+      refused-with b m em (o .sound) (w .sound) (w .whole) y refl [] refl (o .refused) (w .refused ∙ told) t
     where
       told : early (noWidth (o .handle)) (o .sound) ≡ early (badLength y) (o .sound)
       told =
@@ -277,9 +281,9 @@ module _ (b m ha hb : List ℕ) (mode : ℕ) (o : Opened) (w : Opens o b (length
           (ap noWidth (w .handle) ∙ sym (or-false (noWidth (decoded ha)))
           ∙ sym (ap (λ (q : Bool). noWidth (decoded ha) || (q || false)) (sym (ap noWidth ek) ∙ sym en ∙ f)) ∙ sym both)
 
-  pub refused-second : none ≡ true → returned 25 nothing nothing 0 0 [] b m ≡ exported y b m
-  refused-second t =
-      refused-with b m (o .sound) (w .sound) (w .whole) y refl [] refl 25 (sym (ap (λ (q : Bool). early q (o .sound)) long))
+  pub refused-second : none ≡ true → Gives y b (plain 25 []) b
+  refused-second t m em =
+      refused-with b m em (o .sound) (w .sound) (w .whole) y refl [] refl 25 (sym (ap (λ (q : Bool). early q (o .sound)) long))
       (λ z. omega (arith, z))
     where
       long : badLength y ≡ true
@@ -287,15 +291,15 @@ module _ (b m ha hb : List ℕ) (mode : ℕ) (o : Opened) (w : Opens o b (length
           both ∙ ap (λ (q : Bool). noWidth (decoded ha) || (q || false)) (sym (ap noWidth ek) ∙ sym en ∙ t)
           ∙ or-true (noWidth (decoded ha))
 
-pub given-of : (b m hb : List ℕ) (o : Opened) → Opens o b (length m) hb → not (o .sound) ≡ false
+pub given-of : (b m hb : List ℕ) → length m ≡ memory → (o : Opened) → Opens o b hb → not (o .sound) ≡ false
     → Given true (o .handle) (o .cluster) (storeIn b) m hb
-given-of b m hb o w t =
-    record { sound = held-sound b m (o .sound) (w .sound) (w .whole) t; handle = w .handle; found = w .cluster }
+given-of b m hb em o w t =
+    record { sound = held-sound b m em (o .sound) (w .sound) (w .whole) t; handle = w .handle; found = w .cluster }
 
-pub place-of : (b m : List ℕ) (l : Located) (node local : ℕ) → Locates l b (length m) node local → not (l .sound) ≡ false
+pub place-of : (b m : List ℕ) → length m ≡ memory → (l : Located) (node local : ℕ) → Locates l b node local → not (l .sound) ≡ false
     → GivenPlace true (l .cluster) (storeIn b) m node local
-place-of b m l node local w t =
-    record { sound = held-sound b m (l .sound) (w .sound) (w .whole) t; found = w .cluster }
+place-of b m em l node local w t =
+    record { sound = held-sound b m em (l .sound) (w .sound) (w .whole) t; found = w .cluster }
 
 -- ---- weakening sees no store
 

@@ -1,5 +1,6 @@
 pub mod ReplyLaws
 pub mod ExportLaws
+pub mod MemoryLaws
 pub mod LookLaws
 pub mod MakeLaws
 pub mod ValidationLaws

@@ -6,7 +6,8 @@ use mathlib.Core.Bool.{Bool, true, false, not, _&&_, _||_, true≢false}
 use mathlib.Core.List.{List, []}
 use Prim.Native.Nat.{ℕ, zero, suc, _+_, _-_, _≤_}
 use native.Mathlib.Omega.{arith}
-use lib.ListN.{length}
+use lib.ListN.{length, replicate, length-replicate}
+use Rattle.sizes.specs.Sizes.{memory}
 use Rattle.handle.specs.Handles.{noWidth, decoded}
 use Rattle.handle.specs.Conversion.{product}
 use Rattle.store.specs.Sound.{sound}
@@ -15,25 +16,30 @@ use Rattle.calls.specs.declared.Part.{Part}
 use Rattle.calls.specs.declared.Looked.{Looked}
 use Rattle.calls.specs.Calls.{Call, looking}
 use Rattle.calls.specs.Numbers.{number, badLength}
-use Rattle.calls.specs.Steps.{Reply, within}
+use Rattle.calls.specs.Steps.{Reply, lookReply, within}
 use Rattle.calls.specs.Literals.{shows}
 use Rattle.calls.specs.LookWords.{LookInWords}
 use Rattle.calls.specs.Answers.{copyOf}
 use Rattle.calls.specs.Looks.{nowhere, partBy, looked, aesLooked}
 use Rattle.calls.proofs.LookLaws.{step-looked, part-inside, look-in-words}
 use Rattle.image.specs.Images.{good, storeIn, imageOf}
-use Rattle.gelmuszta.specs.Exported.{Exported, showing, early, damaged, exported, partFrom, exportedPart, imaged}
+use Rattle.gelmuszta.specs.Exported.{Exported, leaving, early, damaged, exported, partFrom, exportedPart, imaged, OnEveryMemory}
 use Rattle.gelmuszta.specs.declared.Opened.{Opened}
 use Rattle.gelmuszta.specs.inner.Opened.{Opens}
 use Rattle.gelmuszta.specs.Looks.{LookOnImage}
-use Rattle.gelmuszta.proofs.ExportLaws.{picked, held-good, through, number-early, number-length, refused-alone}
+use Rattle.gelmuszta.proofs.ExportLaws.{picked, held-good, held-of, given-of, through, number-early, number-length, refused-alone}
+use Rattle.store.specs.declared.Store.{Store}
+use Rattle.refusals.specs.Given.{Given}
 
 -- the part, where it is known whether the image is good
 abbrev pub placed : Call → List ℕ → ℕ → Bool → Part
 placed x b size g = elim g [ true ↦ aesLooked x (storeIn b) size .part | false ↦ nowhere ]
 
-module _ (b m : List ℕ) (current i : ℕ) (h : List ℕ) (sd : Bool)
-    (es : sd ≡ (good b && sound (storeIn b) (length m))) where
+module _ (b m : List ℕ) (em : length m ≡ memory) (current i : ℕ) (h : List ℕ) (sd : Bool)
+    (so : sd ≡ (good b && sound (storeIn b) memory)) where
+  es : sd ≡ (good b && sound (storeIn b) (length m))
+  es = so ∙ ap (λ (n : ℕ). good b && sound (storeIn b) n) (sym em)
+
   abbrev x : Call
   x = looking current i h
 
@@ -72,24 +78,54 @@ module _ (b m : List ℕ) (current i : ℕ) (h : List ℕ) (sd : Bool)
     pub look-rises : p .from ≤ p .to
     look-rises = subst (λ (q : Part). q .from ≤ q .to) (sym told) (part-inside product current i h (copyOf (storeIn b) m) .0)
 
-    pub look-told : showing (l .number) (within p m) b m ≡ exported x b m
+    pub look-told : leaving (lookReply (l .number) (within p m)) b m ≡ exported x b m
     look-told =
-        (λ j. showing (e j .number) (within (told j) m) (sym (whole (held-good b m sd es whole t)) j) m)
+        (λ j. leaving (lookReply (e j .number) (within (told j) m)) (sym (whole (held-good b m em sd so whole t)) j) m)
         ∙ sym (ap imaged (step-looked product current i h (copyOf (storeIn b) m)))
-        ∙ through b m sd es whole t x
+        ∙ through b m em sd so whole t x
 
     pub look-placed : partFrom (p .from) (p .to - p .from) ≡ exportedPart x b (length m)
     unfolding exportedPart
     look-placed =
         let r = look-rises in
         let n : p .from + (p .to - p .from) ≡ p .to = omega arith in
-        ap (λ (k : ℕ). record { from = p .from; to = k }) n ∙ told ∙ sym (ap (placed x b (length m)) (held-good b m sd es whole t))
+        ap (λ (k : ℕ). record { from = p .from; to = k }) n ∙ told ∙ sym (ap (placed x b (length m)) (held-good b m em sd so whole t))
 
--- where it is refused before all else
-pub hidden-of : (b m : List ℕ) (current i : ℕ) (h : List ℕ) (o : Opened) → Opens o b (length m) h → (o .refused ≡ 0 → ⊥)
-    → partFrom 0 0 ≡ exportedPart (looking current i h) b (length m)
-hidden-of b m current i h o w t =
-    hidden-early b m current i h (o .sound) (w .sound) (o .refused) (refused-alone b m h o w (looking current i h) refl) t
+-- ---- with every memory
+
+module _ (b : List ℕ) (current i : ℕ) (h : List ℕ) (o : Opened) (w : Opens o b h) where
+  abbrev zeros : List ℕ
+  zeros = replicate memory 0
+
+  some : length zeros ≡ memory
+  some = length-replicate {A = ℕ} memory 0
+
+  pub hidden-any : (o .refused ≡ 0 → ⊥) → partFrom 0 0 ≡ exportedPart (looking current i h) b memory
+  hidden-any t =
+      subst (λ (n : ℕ). partFrom 0 0 ≡ exportedPart (looking current i h) b n) some
+      (hidden-early b zeros some current i h (o .sound) (w .sound) (o .refused) (refused-alone b h o w (looking current i h) refl) t)
+
+  module _ (z : o .refused ≡ 0) (l : Looked)
+      (core : (s : Store) (m d : List ℕ) → Given true (o .handle) (o .cluster) s m d
+      → l ≡ aesLooked (looking current i d) s (length m)) where
+    held : not (o .sound) ≡ false
+    held = held-of b h o w z
+
+    told-of-core : (m : List ℕ) → length m ≡ memory → l ≡ aesLooked (looking current i h) (storeIn b) (length m)
+    told-of-core m e = core (storeIn b) m h (given-of b m h e o w held)
+
+    pub rises-any : l .part .from ≤ l .part .to
+    rises-any =
+        look-rises b zeros some current i h (o .sound) (w .sound) (w .whole) held l (told-of-core zeros some)
+
+    pub told-any : OnEveryMemory (looking current i h) b (λ m. leaving (lookReply (l .number) (within (l .part) m)) b m)
+    told-any m e =
+        look-told b m e current i h (o .sound) (w .sound) (w .whole) held l (told-of-core m e)
+
+    pub placed-any : partFrom (l .part .from) (l .part .to - l .part .from) ≡ exportedPart (looking current i h) b memory
+    placed-any =
+        subst (λ (n : ℕ). partFrom (l .part .from) (l .part .to - l .part .from) ≡ exportedPart (looking current i h) b n) some
+        (look-placed b zeros some current i h (o .sound) (w .sound) (w .whole) held l (told-of-core zeros some))
 
 -- ---- in words
 

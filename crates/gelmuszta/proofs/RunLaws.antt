@@ -9,6 +9,7 @@ use lib.ListN.{length}
 use Prim.Native.Nat.{ℕ}
 use native.Mathlib.Omega.{arith}
 use borrow.Author.Tests.{not-true}
+use Rattle.sizes.specs.Sizes.{memory}
 use Rattle.handle.specs.Conversion.{product}
 use Rattle.store.specs.declared.Store.{Store}
 use Rattle.calls.specs.declared.Part.{Part}
@@ -16,7 +17,7 @@ use Rattle.calls.specs.declared.Looked.{Looked}
 use Rattle.calls.specs.Calls.{Copy, Call, Arguments, call, freeze, among, isLook, buffer}
 use Rattle.calls.specs.Looks.{aesLooked}
 use Rattle.calls.specs.Numbers.{badLength}
-use Rattle.calls.specs.Steps.{Outcome, plain, run, aesStep}
+use Rattle.calls.specs.Steps.{Reply, Outcome, plain, run, aesStep}
 use Rattle.calls.specs.Answers.{copyOf}
 use Rattle.calls.proofs.KindLaws.{but-is}
 use Rattle.calls.proofs.TestLaws.{off-is}
@@ -30,7 +31,7 @@ use Rattle.image.specs.Images.{imageBytes, good, storeIn, imageOf}
 use Rattle.image.specs.Ranges.{StoreFits}
 use Rattle.image.proofs.TripLaws.{good-image, store-image, image-store}
 use Rattle.image.proofs.RangeLaws.{store-held}
-use Rattle.gelmuszta.specs.Exported.{Exported, early, damaged, imaged, exported, exportedPart}
+use Rattle.gelmuszta.specs.Exported.{Exported, leaving, early, damaged, imaged, exported, exportedPart, Gives}
 use Rattle.gelmuszta.specs.Fits.{PasswordsFit, AllFit}
 use Rattle.gelmuszta.specs.Runs.{RanOn, runOn, followedBy, placesOn, imagedRun, ListsAreRuns, PlacesAreRuns, held, leftOn, TwoImages}
 use Rattle.gelmuszta.specs.Runs.{WritersOnImages, refusedWith, FixedOn, FrozenOnImages, FrozenFromThenOn, DamagedRefused, LengthRefused, RefusalLeaves}
@@ -70,6 +71,15 @@ list-run (x ∷ xs) s m p k =
 pub lists-are-runs : ListsAreRuns
 lists-are-runs xs b m p h g =
     ap (λ (i : List ℕ). runOn xs i m) (sym (image-store b h g)) ∙ list-run xs (storeIn b) m p (store-held b h)
+
+-- what the contract of a function says of one call, that is lent no memory or is lent one, is the list's first step
+pub gives-run : (x : Call) (b after : List ℕ) (r : Reply) → Gives x b r after → (xs : List Call) (m : List ℕ) → length m ≡ memory
+    → followedBy r (runOn xs after m) ≡ runOn (x ∷ xs) b m
+gives-run x b after r g xs m e = lent-run x b m after m r (g m e) xs
+  where
+    lent-run : (x : Call) (b m after n : List ℕ) (r : Reply) → leaving r after n ≡ exported x b m → (xs : List Call)
+        → followedBy r (runOn xs after n) ≡ runOn (x ∷ xs) b m
+    lent-run x b m after n r e xs = ap (λ (o : Exported). followedBy (o .reply) (runOn xs (o .image) (o .memory))) e
 
 -- ---- the parts that looks tell
 

@@ -27,7 +27,7 @@ use Rattle.store.specs.Records.{clusterAt, recordAt}
 use Rattle.store.specs.Sound.{sound}
 use Rattle.calls.specs.Calls.{Copy, Call, Arguments, call, validate, validating}
 use Rattle.calls.specs.Numbers.{number, badLength}
-use Rattle.calls.specs.Steps.{Outcome, left as lefts, outcome, step, aesStep}
+use Rattle.calls.specs.Steps.{plain, Outcome, left as lefts, outcome, step, aesStep}
 use Rattle.calls.specs.Answers.{copyOf}
 use Rattle.calls.proofs.StepLaws.{step-refused}
 use Rattle.refusals.specs.Given.{Given, recordFound}
@@ -35,11 +35,12 @@ use Rattle.image.specs.Parts.{slot}
 use Rattle.image.specs.Images.{good, storeIn, imageOf}
 use Rattle.gelmuszta.specs.declared.Opened.{Opened}
 use Rattle.gelmuszta.specs.inner.Opened.{Opens}
-use Rattle.gelmuszta.specs.Exported.{nothing, returned, early, exported}
-use Rattle.gelmuszta.specs.Validation.{numberOf, fewer, whole, asMany, numbersOf, Judged, BatchCases}
+use Rattle.gelmuszta.specs.Exported.{leaving, early, exported, Gives}
+use Rattle.gelmuszta.specs.Validation.{numberOf, fewer, whole, asMany, numbersOf, NumbersAre, Judged, BatchCases}
 use Rattle.gelmuszta.specs.Validation.{each as perHandle}
 use Rattle.gelmuszta.proofs.ReplyLaws.{validate-silent, silent-known}
 use Rattle.gelmuszta.proofs.ExportLaws.{picked, number-early}
+use Rattle.sizes.specs.Sizes.{memory}
 
 -- ---- how many
 
@@ -134,14 +135,13 @@ validate-leaves g c = go (number product (call validate g) (c .store) (length (c
     go (suc n) = refl
 
 -- and nothing else
-pub validate-told : (b m : List ℕ) (mode : ℕ) (hb : List ℕ) (o : Opened) → Opens o b (length m) hb → (n : ℕ)
+pub validate-any : (b : List ℕ) (mode : ℕ) (hb : List ℕ) (o : Opened) → Opens o b hb → (n : ℕ)
     → ((s : Store) (k d : List ℕ) → Given (o .sound) (o .handle) (o .cluster) s k d
-    → n ≡ aesStep (validating mode d) (copyOf s k) .reply .number)
-    → returned n nothing nothing 0 0 [] b m ≡ exported (validating mode hb) b m
+    → n ≡ aesStep (validating mode d) (copyOf s k) .reply .number) → Gives (validating mode hb) b (plain n []) b
 unfolding exported
-validate-told b m mode hb o w n core =
-    ap (λ (k : ℕ). returned k nothing nothing 0 0 [] b m)
-    (number-told (o .sound) b mode m (w .sound) hb (o .handle) (w .handle) (o .cluster) (w .cluster) n core)
+validate-any b mode hb o w n core m em =
+    ap (λ (k : ℕ). leaving (plain k []) b m)
+    (number-told (o .sound) b mode m (w .sound ∙ ap (λ (k : ℕ). good b && sound (storeIn b) k) (sym em)) hb (o .handle) (w .handle) (o .cluster) (w .cluster) n core)
     ∙ go (good b) refl
   where
     x : Call
@@ -151,9 +151,9 @@ validate-told b m mode hb o w n core =
     left = aesStep x (copyOf (storeIn b) m)
 
     go : (g : Bool) → good b ≡ g
-        → returned (picked x b m (good b) .reply .number) nothing nothing 0 0 [] b m ≡ picked x b m (good b)
+        → leaving (plain (picked x b m (good b) .reply .number) []) b m ≡ picked x b m (good b)
     go true eg =
-        ap (λ (u : Bool). returned (picked x b m u .reply .number) nothing nothing 0 0 [] b m) eg
+        ap (λ (u : Bool). leaving (plain (picked x b m u .reply .number) []) b m) eg
         ∙ (λ j.
         record {
           reply = silent-known x (copyOf (storeIn b) m) (validate-silent (x .args)) j;
@@ -162,7 +162,7 @@ validate-told b m mode hb o w n core =
         })
         ∙ sym (ap (picked x b m) eg)
     go false eg =
-        ap (λ (u : Bool). returned (picked x b m u .reply .number) nothing nothing 0 0 [] b m) eg
+        ap (λ (u : Bool). leaving (plain (picked x b m u .reply .number) []) b m) eg
         ∙ sym (ap (picked x b m) eg)
 
 -- ---- the loop
@@ -221,11 +221,11 @@ module _ (sd : Bool) (b : List ℕ) (mode each : ℕ) (hs before : List ℕ) whe
 
 -- ---- all of them
 
-pub numbers-are : (b m : List ℕ) (mode width : ℕ) (kind : Width) → kind ≡ widthFrom width → (each : ℕ) → each ≡ lengthOf kind
+numbers-with : (b m : List ℕ) (mode width : ℕ) (kind : Width) → kind ≡ widthFrom width → (each : ℕ) → each ≡ lengthOf kind
     → (hs ns : List ℕ) (a : ℕ) → a ≡ whole each (length hs) → (n : ℕ) → n ≡ fewer a (length ns) → (sd : Bool)
     → sd ≡ (good b && sound (storeIn b) (length m)) → (after : List ℕ) → Judged sd b mode each hs (midOf 0 (n - 0) ns) after
     → putMid 0 (n - 0) ns after ≡ numbersOf b m mode (perHandle width) hs ns
-numbers-are b m mode width kind ek each el hs ns a ea n en sd ed after w =
+numbers-with b m mode width kind ek each el hs ns a ea n en sd ed after w =
     ap (λ (l : List ℕ). l ++ drop (n - 0) ns)
     (w .each m ed ∙ ap (λ (k : ℕ). tabulate k told) (length-judged each hs ns a ea n en))
     ∙ ap (λ (k : ℕ). tabulate n told ++ drop k ns) (same n)
@@ -237,6 +237,14 @@ numbers-are b m mode width kind ek each el hs ns a ea n en sd ed after w =
 
     told : ℕ → ℕ
     told i = numberOf b m mode (slot each hs i)
+
+pub numbers-are : (b : List ℕ) (mode width : ℕ) (kind : Width) → kind ≡ widthFrom width → (each : ℕ) → each ≡ lengthOf kind
+    → (hs ns : List ℕ) (a : ℕ) → a ≡ whole each (length hs) → (n : ℕ) → n ≡ fewer a (length ns) → (sd : Bool)
+    → sd ≡ (good b && sound (storeIn b) memory) → (after : List ℕ) → Judged sd b mode each hs (midOf 0 (n - 0) ns) after
+    → NumbersAre b mode (perHandle width) hs ns (putMid 0 (n - 0) ns after)
+numbers-are b mode width kind ek each el hs ns a ea n en sd ed after w m e =
+    numbers-with b m mode width kind ek each el hs ns a ea n en sd
+    (ed ∙ ap (λ (k : ℕ). good b && sound (storeIn b) k) (sym e)) after w
 
 pub count-is : (width : ℕ) (kind : Width) → kind ≡ widthFrom width → (each : ℕ) → each ≡ lengthOf kind → (hs ns : List ℕ) (a : ℕ) → a ≡ whole each (length hs)
     → (n : ℕ) → n ≡ fewer a (length ns) → n ≡ asMany (perHandle width) hs ns

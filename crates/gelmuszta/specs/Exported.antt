@@ -1,11 +1,13 @@
 -- What an exported call gives and leaves: the store comes and goes as its image, the rest as document 01 has it.
---     handed bs n           a handle given: the bytes that a function wrote, and the length that it told
+--     bytesHeld hs          the bytes of a handle that a caller holds in 28: as many as the last of them tells
+--     handed hs             a handle given so: its 27 bytes, and its length
 --     nothing               no handle: 27 zeros and the length 0
 --     replyOf ..            the reply of these values, in the order of the record's fields, which shows no bytes
 --     Exported              the reply, and the image and the memory that are left; where a look's part lies stands beside it
---     returned ..           what an exported function gave and left: its number, two handles, count, length, buffer, image
---                           and memory; where it gives no such value, nothing or zero stands for it, as in every reply
---     showing n bs ..       the same of a look: its number, and the bytes of the part that it told
+--     leaving r b m         the reply r, and the image b and the memory m that are left
+--     giving n hs, givingBoth n hs ks, counting n hs k, telling n k bs
+--                           the reply of the number n and a handle held; two; a handle and a count; a length and a buffer. That of
+--                           a number and a buffer alone is `plain`
 --     early none sd         what comes before all else: 25 where a handle has none of the three lengths, then 1 where sd, whether
 --                           the image holds a sound store, is false; or 0
 --     damaged x b m         an image that holds no store is refused as an unsound one is: with 25 where a handle's length is
@@ -16,12 +18,17 @@
 --     partFrom a n          the part of n bytes that begins at a
 --     exportedPart x b size    the part that the look x tells on the image b and a memory of that many bytes: that on the
 --                           store which b holds, and nowhere if b holds none
+--     OnEveryMemory x b f      with every memory m of the store's size the call x on the image b gives and leaves f m
+--     Gives x b r after        with every such memory x on b gives the reply r, and leaves the image after and the memory
 --     Always x r            on every store and memory the call x gives the reply r, and leaves both as they were
 -- Assumes nothing.
 use mathlib.Core.Path.{_≡_}
 use Prim.Native.Nat.{ℕ, _+_}
 use mathlib.Core.Bool.{Bool, true, false, not, cond}
 use mathlib.Core.List.{List, [], _∷_}
+use lib.ListN.{length, getD, take}
+use Rattle.sizes.specs.Sizes.{memory as memoryBytes}
+use Rattle.handle.specs.Widths.{mostBytes}
 use Rattle.handle.specs.declared.HandleBytes.{HandleBytes}
 use Rattle.handle.specs.Handles.{laid}
 use Rattle.store.specs.declared.Store.{Store}
@@ -34,8 +41,11 @@ use Rattle.calls.specs.Answers.{copyOf}
 use Rattle.image.specs.Images.{good, storeIn, imageOf}
 use Rattle.numbers.specs.Numbers.{unsoundNumber, wrongLengthNumber}
 
-abbrev pub handed : List ℕ → ℕ → HandleBytes
-handed bs n = record { length = n; bytes = bs }
+abbrev pub bytesHeld : List ℕ → List ℕ
+bytesHeld hs = take (getD hs mostBytes 0) hs
+
+abbrev pub handed : List ℕ → HandleBytes
+handed hs = record { length = getD hs mostBytes 0; bytes = take mostBytes hs }
 
 abbrev pub nothing : HandleBytes
 nothing = laid noBytes
@@ -57,12 +67,20 @@ pub record Exported : Type 0 where
   pub image : List ℕ
   pub memory : List ℕ
 
-abbrev pub returned : ℕ → HandleBytes → HandleBytes → ℕ → ℕ → List ℕ → List ℕ → List ℕ → Exported
-returned number first second count length buffer image memory =
-    record { reply = replyOf number first second count length buffer; image = image; memory = memory }
+abbrev pub leaving : Reply → List ℕ → List ℕ → Exported
+leaving r b m = record { reply = r; image = b; memory = m }
 
-abbrev pub showing : ℕ → List ℕ → List ℕ → List ℕ → Exported
-showing number shown image memory = record { reply = lookReply number shown; image = image; memory = memory }
+abbrev pub giving : ℕ → List ℕ → Reply
+giving n hs = replyOf n (handed hs) nothing 0 0 []
+
+abbrev pub givingBoth : ℕ → List ℕ → List ℕ → Reply
+givingBoth n hs ks = replyOf n (handed hs) (handed ks) 0 0 []
+
+abbrev pub counting : ℕ → List ℕ → ℕ → Reply
+counting n hs k = replyOf n (handed hs) nothing k 0 []
+
+abbrev pub telling : ℕ → ℕ → List ℕ → Reply
+telling n k buffer = replyOf n nothing nothing 0 k buffer
 
 abbrev pub early : Bool → Bool → ℕ
 early none sd = cond none wrongLengthNumber (cond (not sd) unsoundNumber 0)
@@ -90,6 +108,12 @@ partFrom a n = record { from = a; to = a + n }
 
 unfoldable pub exportedPart : Call → List ℕ → ℕ → Part
 exportedPart x b size = elim (good b) [ true ↦ aesLooked x (storeIn b) size .part | false ↦ nowhere ]
+
+abbrev pub OnEveryMemory : Call → List ℕ → (List ℕ → Exported) → Type 0
+OnEveryMemory x b f = (m : List ℕ) → length m ≡ memoryBytes → f m ≡ exported x b m
+
+abbrev pub Gives : Call → List ℕ → Reply → List ℕ → Type 0
+Gives x b r after = OnEveryMemory x b (λ m. leaving r after m)
 
 abbrev pub Always : Call → Reply → Type 0
 Always x r = (s : Store) (m : List ℕ) → record { copy = copyOf s m; reply = r } ≡ aesStep x (copyOf s m)

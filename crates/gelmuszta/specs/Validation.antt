@@ -7,6 +7,7 @@
 --     fewer a b                  the smaller of the two
 --     asMany n hs ns             how many handles of n bytes are judged: as many as hs has whole and ns has places for
 --     numbersOf b m mode n hs ns    ns afterwards: the numbers of the handles judged, in their order, and then what was there
+--     NumbersAre b mode n hs ..  the numbers before and after, with every memory of the store's size
 --     Judged sd b mode n hs ..   the numbers before and after, where sd tells whether the image b holds a store that is sound
 --                                with a memory: for each such memory those that the handles get by themselves
 --     BatchCases                 widths and what is judged, written out: of 0, 4, 5, 8, 12, 16, 17, 260 and 65544 only 4, 8 and 16
@@ -19,6 +20,7 @@ use mathlib.Core.List.{List, [], _∷_, _++_, map}
 use lib.Dec.{ltb}
 use lib.ListN.{length, drop, replicate}
 use Rattle.loops.specs.Tabulate.{tabulate}
+use Rattle.sizes.specs.Sizes.{memory}
 use Rattle.handle.specs.Widths.{lengthOf, widthFrom}
 use Rattle.store.specs.Sound.{sound}
 use Rattle.calls.specs.Calls.{validating}
@@ -45,6 +47,10 @@ asMany n hs ns = fewer (whole n (length hs)) (length ns)
 abbrev pub numbersOf : List ℕ → List ℕ → ℕ → ℕ → List ℕ → List ℕ → List ℕ
 numbersOf b m mode n hs ns =
     tabulate (asMany n hs ns) (λ i. numberOf b m mode (slot n hs i)) ++ drop (asMany n hs ns) ns
+
+abbrev pub NumbersAre : List ℕ → ℕ → ℕ → List ℕ → List ℕ → List ℕ → Type 0
+NumbersAre b mode n hs before after =
+    (m : List ℕ) → length m ≡ memory → after ≡ numbersOf b m mode n hs before
 
 pub record Judged (sd : Bool) (b : List ℕ) (mode n : ℕ) (hs before after : List ℕ) : Type 0 where
   pub each : (m : List ℕ) → sd ≡ (good b && sound (storeIn b) (length m))

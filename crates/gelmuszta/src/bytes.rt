@@ -1,27 +1,39 @@
 // Calls 3, 5 and 6, and the look: they clear, read, write or show the bytes of a segment.
+use crate::HELD;
 use crate::keep;
 use crate::look_up;
 use image::IMAGE;
+use sizes::MEMORY;
 ghost use mathlib.Core.Path.{_≡_};
 ghost use mathlib.Core.List.{[]};
 ghost use Rattle.calls.specs.Calls as calls;
 ghost use lib.ListN as lists;
-ghost use Rattle.gelmuszta.specs.Exported.{nothing, returned, showing, exported, partFrom, exportedPart};
+ghost use Rattle.calls.specs.Steps.{plain, lookReply};
+ghost use Rattle.gelmuszta.specs.Exported.{bytesHeld, leaving, telling, exported, OnEveryMemory, partFrom, exportedPart};
+ghost use Rattle.sizes.specs.Sizes as sizes;
+
+// The memory lent has its size: an array behind a reference tells its length only where it is taken as a slice.
+fn sized(memory: &[u8; MEMORY])
+    ensures { λ _. ⌜ lists.length (now (memory .entry)) ≡ sizes.memory ⌝ }
+{
+    let _all = &memory[..];
+}
 
 // Call 3: the segment is present at the smallest base at which it fits, and its bytes are zero.
 #[no_mangle]
 pub extern "C" fn gelmuszta_new_segment(
     image: &mut [u8; IMAGE],
-    memory: &mut [u8],
+    memory: &mut [u8; MEMORY],
     current: usize,
     segment: usize,
     size: usize,
-    handle: &[u8],
+    handle: &[u8; HELD],
 ) -> u8
-    ensures { λ r. ⌜ returned r nothing nothing 0 0 [] (now (image .exit)) (now (memory .exit))
-        ≡ exported (calls.makingSegment current segment size (now (handle .entry))) (now (image .entry)) (now (memory .entry)) ⌝ }
+    ensures { λ r. ⌜ leaving (plain r []) (now (image .exit)) (now (memory .exit))
+        ≡ exported (calls.makingSegment current segment size (bytesHeld (now (handle .entry)))) (now (image .entry)) (now (memory .entry)) ⌝ }
 {
-    let o = look_up(image, memory.len(), handle);
+    sized(memory);
+    let o = look_up(image, handle);
     let refused = o.refused;
     if refused != 0 {
         return refused;
@@ -42,16 +54,17 @@ pub extern "C" fn gelmuszta_new_segment(
 #[no_mangle]
 pub extern "C" fn gelmuszta_read(
     image: &[u8; IMAGE],
-    memory: &[u8],
+    memory: &[u8; MEMORY],
     segment: usize,
-    handle: &[u8],
+    handle: &[u8; HELD],
     buffer: &mut [u8],
     length: &mut usize,
 ) -> u8
-    ensures { λ r. ⌜ returned r nothing nothing 0 (now (length .exit)) (now (buffer .exit)) (now (image .entry)) (now (memory .entry))
-        ≡ exported (calls.reading segment (now (handle .entry)) (now (buffer .entry))) (now (image .entry)) (now (memory .entry)) ⌝ }
+    ensures { λ r. ⌜ leaving (telling r (now (length .exit)) (now (buffer .exit))) (now (image .entry)) (now (memory .entry))
+        ≡ exported (calls.reading segment (bytesHeld (now (handle .entry))) (now (buffer .entry))) (now (image .entry)) (now (memory .entry)) ⌝ }
 {
-    let o = look_up(image, memory.len(), handle);
+    sized(memory);
+    let o = look_up(image, handle);
     let refused = o.refused;
     if refused != 0 {
         *length = 0;
@@ -66,15 +79,16 @@ pub extern "C" fn gelmuszta_read(
 #[no_mangle]
 pub extern "C" fn gelmuszta_write(
     image: &[u8; IMAGE],
-    memory: &mut [u8],
+    memory: &mut [u8; MEMORY],
     segment: usize,
-    handle: &[u8],
+    handle: &[u8; HELD],
     written: &[u8],
 ) -> u8
-    ensures { λ r. ⌜ returned r nothing nothing 0 0 (now (written .entry)) (now (image .entry)) (now (memory .exit))
-        ≡ exported (calls.writing segment (now (handle .entry)) (now (written .entry))) (now (image .entry)) (now (memory .entry)) ⌝ }
+    ensures { λ r. ⌜ leaving (plain r (now (written .entry))) (now (image .entry)) (now (memory .exit))
+        ≡ exported (calls.writing segment (bytesHeld (now (handle .entry))) (now (written .entry))) (now (image .entry)) (now (memory .entry)) ⌝ }
 {
-    let o = look_up(image, memory.len(), handle);
+    sized(memory);
+    let o = look_up(image, handle);
     let refused = o.refused;
     if refused != 0 {
         return refused;
@@ -88,19 +102,18 @@ pub extern "C" fn gelmuszta_write(
 #[no_mangle]
 pub extern "C" fn gelmuszta_look(
     image: &[u8; IMAGE],
-    memory: &[u8],
     current: usize,
     segment: usize,
-    handle: &[u8],
+    handle: &[u8; HELD],
     from: &mut usize,
     length: &mut usize,
 ) -> u8
-    ensures reply { λ r. ⌜ showing r (lists.take (now (length .exit)) (lists.drop (now (from .exit)) (now (memory .entry)))) (now (image .entry)) (now (memory .entry))
-        ≡ exported (calls.looking current segment (now (handle .entry))) (now (image .entry)) (now (memory .entry)) ⌝ }
+    ensures reply { λ r. ⌜ OnEveryMemory (calls.looking current segment (bytesHeld (now (handle .entry)))) (now (image .entry))
+        (λ m. leaving (lookReply r (lists.take (now (length .exit)) (lists.drop (now (from .exit)) m))) (now (image .entry)) m) ⌝ }
     ensures place { λ _. ⌜ partFrom (now (from .exit)) (now (length .exit))
-        ≡ exportedPart (calls.looking current segment (now (handle .entry))) (now (image .entry)) (lists.length (now (memory .entry))) ⌝ }
+        ≡ exportedPart (calls.looking current segment (bytesHeld (now (handle .entry)))) (now (image .entry)) sizes.memory ⌝ }
 {
-    let o = look_up(image, memory.len(), handle);
+    let o = look_up(image, handle);
     let refused = o.refused;
     if refused != 0 {
         *from = 0;

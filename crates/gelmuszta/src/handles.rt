@@ -1,15 +1,16 @@
 // Conversion, weakening, reduction and joining: new passwords and handles from old ones.
+use crate::HELD;
+use crate::held;
 use crate::look_up;
-use handle::HANDLE_BYTES;
-use handle::Handle;
+use crate::own;
+use crate::taken;
 use image::IMAGE;
 use numbers::LENGTH;
 use sizes::Password;
 ghost use mathlib.Core.Path.{_≡_};
-ghost use mathlib.Core.List.{[]};
 ghost use Rattle.handle.specs.Conversion.{conversion};
 ghost use Rattle.calls.specs.Calls as calls;
-ghost use Rattle.gelmuszta.specs.Exported.{handed, nothing, replyOf, returned, exported, Always};
+ghost use Rattle.gelmuszta.specs.Exported.{bytesHeld, giving, counting, Gives, Always};
 
 // The password that a parameter turns a password into.
 #[no_mangle]
@@ -25,20 +26,18 @@ pub extern "C" fn gelmuszta_convert(password: &Password, parameter: u16, convert
 // Call 7: the handle weakened by a mask, and how many segments it references. It sees no store.
 #[no_mangle]
 pub extern "C" fn gelmuszta_weaken(
-    handle: &[u8],
+    handle: &[u8; HELD],
     mask: u16,
-    given: &mut [u8; HANDLE_BYTES],
-    given_length: &mut usize,
+    given: &mut [u8; HELD],
     count: &mut u8,
 ) -> u8
-    ensures { λ r. ⌜ Always (calls.weakeningBy mask (now (handle .entry)))
-        (replyOf r (handed (now (given .exit)) (now («given_length» .exit))) nothing (now (count .exit)) 0 []) ⌝ }
+    ensures { λ r. ⌜ Always (calls.weakeningBy mask (bytesHeld (now (handle .entry))))
+        (counting r (now (given .exit)) (now (count .exit))) ⌝ }
 {
-    let answer = cluster::weaken(handle, mask);
-    let first = answer.first;
-    let bytes = first.bytes;
-    *given = bytes;
-    *given_length = first.length;
+    let bytes = own(handle);
+    let answer = cluster::weaken(bytes, mask);
+    let g = held(answer.first);
+    *given = g;
     *count = answer.count;
     answer.number
 }
@@ -47,27 +46,22 @@ pub extern "C" fn gelmuszta_weaken(
 #[no_mangle]
 pub extern "C" fn gelmuszta_reduce(
     image: &[u8; IMAGE],
-    memory: &[u8],
     mode: usize,
-    handle: &[u8],
-    given: &mut [u8; HANDLE_BYTES],
-    given_length: &mut usize,
+    handle: &[u8; HELD],
+    given: &mut [u8; HELD],
 ) -> u8
-    ensures { λ r. ⌜ returned r (handed (now (given .exit)) (now («given_length» .exit))) nothing 0 0 [] (now (image .entry)) (now (memory .entry))
-        ≡ exported (calls.reducing mode (now (handle .entry))) (now (image .entry)) (now (memory .entry)) ⌝ }
+    ensures { λ r. ⌜ Gives (calls.reducing mode (bytesHeld (now (handle .entry)))) (now (image .entry))
+        (giving r (now (given .exit))) (now (image .entry)) ⌝ }
 {
-    let o = look_up(image, memory.len(), handle);
+    let o = look_up(image, handle);
     let refused = o.refused;
     if refused != 0 {
-        *given = [0; HANDLE_BYTES];
-        *given_length = 0;
+        *given = [0; HELD];
         return refused;
     }
     let answer = cluster::reduce(true, o.handle, o.cluster, mode);
-    let first = answer.first;
-    let bytes = first.bytes;
-    *given = bytes;
-    *given_length = first.length;
+    let g = held(answer.first);
+    *given = g;
     answer.number
 }
 
@@ -75,33 +69,27 @@ pub extern "C" fn gelmuszta_reduce(
 #[no_mangle]
 pub extern "C" fn gelmuszta_join(
     image: &[u8; IMAGE],
-    memory: &[u8],
     mode: usize,
-    handle: &[u8],
-    other: &[u8],
-    given: &mut [u8; HANDLE_BYTES],
-    given_length: &mut usize,
+    handle: &[u8; HELD],
+    other: &[u8; HELD],
+    given: &mut [u8; HELD],
 ) -> u8
-    ensures { λ r. ⌜ returned r (handed (now (given .exit)) (now («given_length» .exit))) nothing 0 0 [] (now (image .entry)) (now (memory .entry))
-        ≡ exported (calls.joining mode (now (handle .entry)) (now (other .entry))) (now (image .entry)) (now (memory .entry)) ⌝ }
+    ensures { λ r. ⌜ Gives (calls.joining mode (bytesHeld (now (handle .entry))) (bytesHeld (now (other .entry)))) (now (image .entry))
+        (giving r (now (given .exit))) (now (image .entry)) ⌝ }
 {
-    let o = look_up(image, memory.len(), handle);
-    let second = Handle::decode(other);
+    let o = look_up(image, handle);
+    let second = taken(other);
     if second.has_width(0) {
-        *given = [0; HANDLE_BYTES];
-        *given_length = 0;
+        *given = [0; HELD];
         return LENGTH;
     }
     let refused = o.refused;
     if refused != 0 {
-        *given = [0; HANDLE_BYTES];
-        *given_length = 0;
+        *given = [0; HELD];
         return refused;
     }
     let answer = cluster::join(true, o.handle, second, o.cluster, mode);
-    let first = answer.first;
-    let bytes = first.bytes;
-    *given = bytes;
-    *given_length = first.length;
+    let g = held(answer.first);
+    *given = g;
     answer.number
 }

@@ -1,16 +1,20 @@
 // The guard for callers in C or Rust: the calls of documents 01 and 02, and the look, over bytes alone. The store is
-// its image of 3,648 bytes, the memory a lent slice; a handle comes as bytes of any length and is given as 27 bytes and a
-// length, a password has sixteen bytes. Each function returns the number of the table, and gives no handle and zero counts,
-// lengths and places with a refusal. A handle of none of the three lengths is refused with 25, an image that holds no store
-// with 1. A call judges soundness on the image's bytes, reads the record of its cluster, has the core (`cluster`) do
-// the call on it, and writes it back.
+// its image of 3,648 bytes; the memory, of 16,384 bytes, is lent to the calls that read or write its bytes, and the others do
+// what they do whatever it holds. A handle is held in 28 bytes, 27 and its length; a password has sixteen. Each function
+// returns the number of the table, and gives no handle and zero counts, lengths and places with a refusal. A handle of none of
+// the three lengths is refused with 25, an image that holds no store with 1. A call judges soundness on the image's bytes,
+// reads the record of its cluster, has the core (`cluster`) do the call on it, and writes it back.
 use calls::RecordLeft;
+use handle::HANDLE_BYTES;
 use handle::Handle;
+use handle::HandleBytes;
 use image::IMAGE;
 use numbers::LENGTH;
 use numbers::UNSOUND;
+use sizes::MEMORY;
 use store::Cluster;
 ghost use mathlib.Core.Path.{_≡_};
+ghost use Rattle.handle.specs.Handles.{decoded};
 ghost use Rattle.gelmuszta.specs.Exported as exported;
 ghost use Rattle.gelmuszta.specs.inner.Opened as opened;
 
@@ -46,12 +50,12 @@ struct Located {
     sound: bool,
 }
 
-fn locate(image: &[u8; IMAGE], size: usize, node: usize, local: usize) -> Located
-    ensures { λ r. ⌜ opened.Locates r (now (image .entry)) size node local ⌝ }
+fn locate(image: &[u8; IMAGE], node: usize, local: usize) -> Located
+    ensures { λ r. ⌜ opened.Locates r (now (image .entry)) node local ⌝ }
 {
     let at = store::record_at(node, local);
     let cluster = image::record_in(image, node, local);
-    let sound = image::sound_in(image, size);
+    let sound = image::sound_in(image, MEMORY);
     Located { at, cluster, sound }
 }
 
@@ -78,11 +82,79 @@ fn early(none: bool, sound: bool) -> u8
     0
 }
 
-fn look_up(image: &[u8; IMAGE], size: usize, bytes: &[u8]) -> Opened
-    ensures { λ r. ⌜ opened.Opens r (now (image .entry)) size (now (bytes .entry)) ⌝ }
+// A handle as a caller holds it: 27 bytes, and how many of them are its own.
+const HELD: usize = 28;
+
+// The byte as a wider number.
+fn wide(byte: u8) -> usize
+    ensures { λ r. ⌜ r ≡ byte ⌝ }
 {
-    let handle = Handle::decode(bytes);
-    let l = locate(image, size, handle.node(), handle.local as usize);
+    byte as usize
+}
+
+// The bytes of a handle that a caller holds: as many as the last of them tells, all where that is more.
+fn own(held: &[u8; HELD]) -> &[u8]
+    ensures { λ r. ⌜ now r ≡ exported.bytesHeld (now (held .entry)) ⌝ }
+{
+    let all = &held[..];
+    let n = wide(all[HANDLE_BYTES]);
+    if HELD < n {
+        return all;
+    }
+    &all[0..n]
+}
+
+// The handle that a caller holds; none where the last byte tells none of the three lengths.
+fn taken(held: &[u8; HELD]) -> Handle
+    ensures { λ r. ⌜ r ≡ decoded (exported.bytesHeld (now (held .entry))) ⌝ }
+{
+    let bytes = own(held);
+    Handle::decode(bytes)
+}
+
+// A handle given, as a caller holds it.
+fn held(handle: HandleBytes) -> [u8; HELD]
+    ensures { λ r. ⌜ exported.handed r ≡ handle ⌝ }
+{
+    let b = handle.bytes;
+    let n = handle.length;
+    [
+        b[0],
+        b[1],
+        b[2],
+        b[3],
+        b[4],
+        b[5],
+        b[6],
+        b[7],
+        b[8],
+        b[9],
+        b[10],
+        b[11],
+        b[12],
+        b[13],
+        b[14],
+        b[15],
+        b[16],
+        b[17],
+        b[18],
+        b[19],
+        b[20],
+        b[21],
+        b[22],
+        b[23],
+        b[24],
+        b[25],
+        b[26],
+        n,
+    ]
+}
+
+fn look_up(image: &[u8; IMAGE], held: &[u8; HELD]) -> Opened
+    ensures { λ r. ⌜ opened.Opens r (now (image .entry)) (exported.bytesHeld (now (held .entry))) ⌝ }
+{
+    let handle = taken(held);
+    let l = locate(image, handle.node(), handle.local as usize);
     let cluster = l.cluster;
     let refused = early(handle.has_width(0), l.sound);
     Opened {

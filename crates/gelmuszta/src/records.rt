@@ -1,41 +1,38 @@
 // Calls 1, 2, 4, 9 and 10: they change the record of a cluster and no byte of the memory.
+use crate::HELD;
+use crate::held;
 use crate::keep;
 use crate::locate;
 use crate::look_up;
-use handle::HANDLE_BYTES;
 use image::IMAGE;
 use numbers::UNSOUND;
 use sizes::Password;
 ghost use mathlib.Core.Path.{_≡_};
 ghost use mathlib.Core.List.{[]};
 ghost use Rattle.calls.specs.Calls as calls;
-ghost use Rattle.gelmuszta.specs.Exported.{handed, nothing, returned, exported};
+ghost use Rattle.calls.specs.Steps.{plain};
+ghost use Rattle.gelmuszta.specs.Exported.{bytesHeld, giving, givingBoth, Gives};
 
 // Call 1: a cluster of the current node becomes active with a width; its read and its write primary handle.
 #[no_mangle]
 pub extern "C" fn gelmuszta_new_cluster(
     image: &mut [u8; IMAGE],
-    memory: &[u8],
     current: usize,
     local: usize,
     width: usize,
     read: &Password,
     write: &Password,
-    first: &mut [u8; HANDLE_BYTES],
-    first_length: &mut usize,
-    second: &mut [u8; HANDLE_BYTES],
-    second_length: &mut usize,
+    first: &mut [u8; HELD],
+    second: &mut [u8; HELD],
 ) -> u8
-    ensures { λ r. ⌜ returned r (handed (now (first .exit)) (now («first_length» .exit))) (handed (now (second .exit)) (now («second_length» .exit))) 0 0 [] (now (image .exit)) (now (memory .entry))
-        ≡ exported (calls.makingCluster current local width (now (read .entry)) (now (write .entry))) (now (image .entry)) (now (memory .entry)) ⌝ }
+    ensures { λ r. ⌜ Gives (calls.makingCluster current local width (now (read .entry)) (now (write .entry))) (now (image .entry))
+        (givingBoth r (now (first .exit)) (now (second .exit))) (now (image .exit)) ⌝ }
 {
-    let l = locate(image, memory.len(), current, local);
+    let l = locate(image, current, local);
     let sound = l.sound;
     if !sound {
-        *first = [0; HANDLE_BYTES];
-        *first_length = 0;
-        *second = [0; HANDLE_BYTES];
-        *second_length = 0;
+        *first = [0; HELD];
+        *second = [0; HELD];
         return UNSOUND;
     }
     let r = *read;
@@ -43,14 +40,10 @@ pub extern "C" fn gelmuszta_new_cluster(
     let left = cluster::new_cluster(true, l.cluster, current, local, width, r, w);
     keep(left, l.at, image);
     let answer = left.answer;
-    let a = answer.first;
-    let b = answer.second;
-    let x = a.bytes;
-    let y = b.bytes;
-    *first = x;
-    *first_length = a.length;
-    *second = y;
-    *second_length = b.length;
+    let a = held(answer.first);
+    let b = held(answer.second);
+    *first = a;
+    *second = b;
     answer.number
 }
 
@@ -58,14 +51,12 @@ pub extern "C" fn gelmuszta_new_cluster(
 #[no_mangle]
 pub extern "C" fn gelmuszta_delete_cluster(
     image: &mut [u8; IMAGE],
-    memory: &[u8],
     current: usize,
-    handle: &[u8],
+    handle: &[u8; HELD],
 ) -> u8
-    ensures { λ r. ⌜ returned r nothing nothing 0 0 [] (now (image .exit)) (now (memory .entry))
-        ≡ exported (calls.deletingCluster current (now (handle .entry))) (now (image .entry)) (now (memory .entry)) ⌝ }
+    ensures { λ r. ⌜ Gives (calls.deletingCluster current (bytesHeld (now (handle .entry)))) (now (image .entry)) (plain r []) (now (image .exit)) ⌝ }
 {
-    let o = look_up(image, memory.len(), handle);
+    let o = look_up(image, handle);
     let refused = o.refused;
     if refused != 0 {
         return refused;
@@ -80,15 +71,13 @@ pub extern "C" fn gelmuszta_delete_cluster(
 #[no_mangle]
 pub extern "C" fn gelmuszta_delete_segment(
     image: &mut [u8; IMAGE],
-    memory: &[u8],
     current: usize,
     segment: usize,
-    handle: &[u8],
+    handle: &[u8; HELD],
 ) -> u8
-    ensures { λ r. ⌜ returned r nothing nothing 0 0 [] (now (image .exit)) (now (memory .entry))
-        ≡ exported (calls.deletingSegment current segment (now (handle .entry))) (now (image .entry)) (now (memory .entry)) ⌝ }
+    ensures { λ r. ⌜ Gives (calls.deletingSegment current segment (bytesHeld (now (handle .entry)))) (now (image .entry)) (plain r []) (now (image .exit)) ⌝ }
 {
-    let o = look_up(image, memory.len(), handle);
+    let o = look_up(image, handle);
     let refused = o.refused;
     if refused != 0 {
         return refused;
@@ -103,31 +92,26 @@ pub extern "C" fn gelmuszta_delete_segment(
 #[no_mangle]
 pub extern "C" fn gelmuszta_new_password(
     image: &mut [u8; IMAGE],
-    memory: &[u8],
     mode: usize,
-    handle: &[u8],
+    handle: &[u8; HELD],
     password: &Password,
-    given: &mut [u8; HANDLE_BYTES],
-    given_length: &mut usize,
+    given: &mut [u8; HELD],
 ) -> u8
-    ensures { λ r. ⌜ returned r (handed (now (given .exit)) (now («given_length» .exit))) nothing 0 0 [] (now (image .exit)) (now (memory .entry))
-        ≡ exported (calls.renewing mode (now (handle .entry)) (now (password .entry))) (now (image .entry)) (now (memory .entry)) ⌝ }
+    ensures { λ r. ⌜ Gives (calls.renewing mode (bytesHeld (now (handle .entry))) (now (password .entry))) (now (image .entry))
+        (giving r (now (given .exit))) (now (image .exit)) ⌝ }
 {
-    let o = look_up(image, memory.len(), handle);
+    let o = look_up(image, handle);
     let refused = o.refused;
     if refused != 0 {
-        *given = [0; HANDLE_BYTES];
-        *given_length = 0;
+        *given = [0; HELD];
         return refused;
     }
     let p = *password;
     let left = cluster::new_password(true, o.handle, o.cluster, mode, p);
     keep(left, o.at, image);
     let answer = left.answer;
-    let first = answer.first;
-    let bytes = first.bytes;
-    *given = bytes;
-    *given_length = first.length;
+    let g = held(answer.first);
+    *given = g;
     answer.number
 }
 
@@ -135,15 +119,13 @@ pub extern "C" fn gelmuszta_new_password(
 #[no_mangle]
 pub extern "C" fn gelmuszta_freeze(
     image: &mut [u8; IMAGE],
-    memory: &[u8],
     current: usize,
     segment: usize,
-    handle: &[u8],
+    handle: &[u8; HELD],
 ) -> u8
-    ensures { λ r. ⌜ returned r nothing nothing 0 0 [] (now (image .exit)) (now (memory .entry))
-        ≡ exported (calls.freezing current segment (now (handle .entry))) (now (image .entry)) (now (memory .entry)) ⌝ }
+    ensures { λ r. ⌜ Gives (calls.freezing current segment (bytesHeld (now (handle .entry)))) (now (image .entry)) (plain r []) (now (image .exit)) ⌝ }
 {
-    let o = look_up(image, memory.len(), handle);
+    let o = look_up(image, handle);
     let refused = o.refused;
     if refused != 0 {
         return refused;

@@ -1,31 +1,28 @@
 // Validation of one handle, and of many against one store: it is judged sound, and the cipher's tables are taken, once.
+use crate::HELD;
 use crate::look_up;
 use aes::Tables;
 use handle::Handle;
 use handle::Width;
 use image::IMAGE;
+use sizes::MEMORY;
 ghost use mathlib.Core.Path.{_≡_};
 ghost use mathlib.Core.List.{[]};
 ghost use Prim.Native.Nat.{_*_, _≤_};
 ghost use lib.ListN.{length};
 ghost use Rattle.aes.specs.Tables.{IsTables};
 ghost use Rattle.calls.specs.Calls as calls;
-ghost use Rattle.gelmuszta.specs.Exported.{nothing, returned, exported};
+ghost use Rattle.calls.specs.Steps.{plain};
+ghost use Rattle.gelmuszta.specs.Exported.{bytesHeld, Gives};
 ghost use Rattle.gelmuszta.specs.Validation as spec;
 
 // Validation asked for by itself: the number that reduction would give.
 #[no_mangle]
-pub extern "C" fn gelmuszta_validate(
-    image: &[u8; IMAGE],
-    memory: &[u8],
-    mode: usize,
-    handle: &[u8],
-) -> u8
-    ensures { λ r. ⌜ returned r nothing nothing 0 0 [] (now (image .entry)) (now (memory .entry))
-        ≡ exported (calls.validating mode (now (handle .entry))) (now (image .entry)) (now (memory .entry)) ⌝ }
+pub extern "C" fn gelmuszta_validate(image: &[u8; IMAGE], mode: usize, handle: &[u8; HELD]) -> u8
+    ensures { λ r. ⌜ Gives (calls.validating mode (bytesHeld (now (handle .entry)))) (now (image .entry)) (plain r []) (now (image .entry)) ⌝ }
 {
     let tables = aes::tables();
-    let o = look_up(image, memory.len(), handle);
+    let o = look_up(image, handle);
     cluster::validate(&tables, o.sound, o.handle, o.cluster, mode)
 }
 
@@ -79,18 +76,16 @@ fn whole(each: usize, bytes: usize) -> usize
 #[no_mangle]
 pub extern "C" fn gelmuszta_validate_all(
     image: &[u8; IMAGE],
-    memory: &[u8],
     mode: usize,
     width: usize,
     handles: &[u8],
     numbers: &mut [u8],
 ) -> usize
     ensures told { λ r. ⌜ r ≡ spec.asMany (spec.each width) (now (handles .entry)) (now (numbers .entry)) ⌝ }
-    ensures numbers { λ _. ⌜ now (numbers .exit)
-        ≡ spec.numbersOf (now (image .entry)) (now (memory .entry)) mode (spec.each width) (now (handles .entry)) (now (numbers .entry)) ⌝ }
+    ensures numbers { λ _. ⌜ spec.NumbersAre (now (image .entry)) mode (spec.each width) (now (handles .entry)) (now (numbers .entry)) (now (numbers .exit)) ⌝ }
 {
     let tables = aes::tables();
-    let sound = image::sound_in(image, memory.len());
+    let sound = image::sound_in(image, MEMORY);
     let kind = Width::from_bits(width);
     let each = kind.length();
     let count = fewer(whole(each, handles.len()), numbers.len());

@@ -3,7 +3,10 @@ use crate::HANDLE_BYTES;
 use crate::Handle;
 use crate::HandleBytes;
 use crate::LARGE;
+use crate::LONGER;
+use crate::LONGEST;
 use crate::MIDDLE;
+use crate::SHORT;
 use crate::SMALL;
 use crate::SUBSELECTORS;
 use crate::Width;
@@ -89,7 +92,7 @@ impl Handle {
     }
 
     // The bytes of the handle up to its selector, and then those of `tail`.
-    fn laid(self, length: usize, tail: [u8; 8]) -> HandleBytes
+    fn laid(self, length: u8, tail: [u8; 8]) -> HandleBytes
         ensures { λ r. ⌜ r ≡ spec.laidWith self length tail ⌝ }
     {
         let node = self.node;
@@ -144,17 +147,17 @@ impl Handle {
             Width::Four => {
                 let a = halves(s[0], s[1]);
                 let b = halves(s[2], s[3]);
-                self.laid(SMALL, [a, b, 0, 0, 0, 0, 0, 0])
+                self.laid(SHORT, [a, b, 0, 0, 0, 0, 0, 0])
             }
             Width::Eight => {
                 let a = low(s[0]);
                 let b = low(s[1]);
                 let c = low(s[2]);
                 let d = low(s[3]);
-                self.laid(MIDDLE, [a, b, c, d, 0, 0, 0, 0])
+                self.laid(LONGER, [a, b, c, d, 0, 0, 0, 0])
             }
             Width::Sixteen => self.laid(
-                LARGE,
+                LONGEST,
                 [
                     high(s[0]),
                     low(s[0]),

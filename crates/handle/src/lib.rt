@@ -39,6 +39,13 @@ const MIDDLE: usize = 23;
 
 const LARGE: usize = HANDLE_BYTES;
 
+// The same as bytes.
+const SHORT: u8 = 21;
+
+const LONGER: u8 = 23;
+
+const LONGEST: u8 = 27;
+
 // How many segments a cluster has, and how many bits a subselector of its handles; none for what is no handle.
 pub enum Width {
     None,
@@ -112,7 +119,7 @@ pub struct Handle {
 
 // The bytes of a handle, as many as `length` tells, and then zeros.
 pub struct HandleBytes {
-    pub length: usize,
+    pub length: u8,
     pub bytes: [u8; HANDLE_BYTES],
 }
 

@@ -141,7 +141,7 @@ fn put_handle(out: &mut [u8], at: usize, handle: HandleBytes) -> usize
     ensures { λ r. ⌜ r ≤ at + (1 + 2 * mostBytes) ⌝ }
 {
     let bytes = handle.bytes;
-    let size = handle.length;
+    let size = handle.length as usize;
     put_first(out, at, bytes, size)
 }
 

@@ -55,7 +55,7 @@ pub extern "C" fn measured_weaken(
     handle: &[u8],
     mask: u16,
     out: &mut [u8; HANDLE_BYTES],
-    out_length: &mut usize,
+    out_length: &mut u8,
 ) -> u8
     ensures { λ r. ⌜ r ≡ weakened (now (handle .entry)) mask .number ⌝ }
     ensures { λ _. ⌜ handed (now (out .exit)) (now («out_length» .exit)) ≡ written (weakened (now (handle .entry)) mask .handle) ⌝ }

@@ -1,0 +1,24 @@
+-- As many bytes as the last one tells, or all.
+-- Assumes nothing.
+use Rattle.gelmuszta.proofs.MemoryLaws.{all-held, some-held}
+use borrow.Author.Needs.{needs}
+use Rattle.gelmuszta.proofs.own.Statement.{statement}
+use Rattle.gelmuszta.proofs.own.Tie as tie
+
+returns : tie.Need-returns
+returns c = search (needs, all-held)
+
+returns-2 : tie.Need-returns-2
+returns-2 c = search (needs, some-held)
+
+pub own-spec : {M : Type 1} → statement M
+own-spec =
+    tie.close
+    (tie.spec
+    (λ c. search needs)
+    (λ c κs. search needs)
+    returns
+    (λ c. search needs)
+    (λ c. search needs)
+    (λ c. search needs)
+    returns-2)
