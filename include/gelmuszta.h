@@ -29,39 +29,40 @@
  *             8 segments    s0, s1, s2, s3
  *            16 segments    s0, s1, s2, s3, two bytes each, high byte first
  *
- *             Bit i of a subselector, 0 the least, stands for segment i. The handle references segment i if bit i is set in all
- *             four. A subselector with all bits of the width set is flat; a primary handle has four flat ones; a selector in
- *             which a flat one stands below one that is not is gapped. Bytes from the length on are not looked at in a handle
- *             that a call takes, and are zero in one that it gives.
+ *             Bit i of a subselector, 0 the least, stands for segment i. The handle references segment i if bit i is set in
+ *             all four. A subselector with all bits of the width set is flat; a primary handle has four flat ones; a
+ *             selector in which a flat one stands below one that is not is gapped. Bytes from the length on are not looked
+ *             at in a handle that a call takes, and are zero in one that it gives.
  *
- * A handle is valid in a mode, reading or writing, if its width is its cluster's and converting that mode's primary password by
- * its subselectors gives its password. Each mode is judged by itself; while the two primary passwords of a cluster are equal,
- * a handle that is valid in one mode is valid in both. Calls by a handle that is valid for writing alone tell nothing of the
- * bytes stored and of the read password: no more than which segments the cluster has, how long they are, which are frozen, and
- * whether a node has room. Whether a cluster is active, and its width, the numbers tell anybody.
+ * A handle is valid in a mode, reading or writing, if its width is its cluster's and converting that mode's primary
+ * password by its subselectors gives its password. Each mode is judged by itself; while the two primary passwords of a
+ * cluster are equal, a handle that is valid in one mode is valid in both. Calls by a handle that is valid for writing alone
+ * tell nothing of the bytes stored and of the read password: no more than which segments the cluster has, how long they
+ * are, which are frozen, and whether a node has room. Whether a cluster is active, and its width, the numbers tell anybody.
  *
- * A call returns a number: 0 for done, or why it is refused. Where several refusals apply, it is the one that stands first in
- * the row of its function, below. After a refusal image, memory and buffer are as they were, byte for byte, handles given are
- * 28 zeros, and counts, lengths and places are 0. Nothing is asked of the arguments: any image, any handle and any number is
- * answered. What has type size_t is judged whole, however large; of a mask, bits from the handle's width on are ignored.
+ * A call returns a number: 0 for done, or why it is refused. Where several refusals apply, it is the one that stands first
+ * in the row of its function, below. After a refusal image, memory and buffer are as they were, byte for byte, handles
+ * given are 28 zeros, and counts, lengths and places are 0. Nothing is asked of the arguments: any image, any handle and
+ * any number is answered, and a size_t is judged whole, however large. Of a mask, bits from the handle's width on are
+ * ignored. `current` is the node that a call is made in; made "at its node", it has to be the handle's.
  *
  * What the caller must see to, since no proof can:
  *
- *   - every pointer is valid for its type or for the length beside it, aligned where it points to a size_t, and not NULL, even
- *     where the length is 0;
- *   - what a call may write overlaps with nothing else that it is given: a handle is not weakened in place. What it only reads
- *     may: the two handles of a join may be one;
- *   - nobody else writes to what is lent to a call, or reads what it writes, while it runs. Calls that write nothing in common,
- *     as reads, looks and validations on one store, may run at the same time;
- *   - whoever can read the image or the memory needs no handle, and whoever writes to them by other means, or puts an earlier
- *     image in place, can change what is frozen too.
+ *   - every pointer is valid for its type or for the length beside it, aligned where it points to a size_t, and not NULL,
+ *     even where the length is 0;
+ *   - what a call may write overlaps with nothing else that it is given: a handle is not weakened in place. What it only
+ *     reads may: the two handles of a join may be one;
+ *   - nobody else writes to what is lent to a call, or reads what it writes, while it runs. Calls that write nothing in
+ *     common, as reads, looks and validations on one store, may run at the same time;
+ *   - whoever can read the image or the memory needs no handle, and whoever writes to them by other means, or puts an
+ *     earlier image in place, can change what is frozen too.
  *
- * What stays on the stack: a call touches less than 2 kilobytes of it (1,784 bytes at most, measured on x86-64) and does not
- * clear them. Passwords that it has worked with, primary ones among them, stay there until something else is written over them.
+ * What stays on the stack: a call touches less than 2 kilobytes of it (1,704 bytes at most, measured on x86-64) and does
+ * not clear them. Passwords, both primary ones of the cluster among them, stay there until they are written over.
  *
- * What time tells: how long a call takes goes by its number, by what the store holds and by how many subselectors are not flat.
- * Two passwords are compared to the last byte wherever they differ. The cipher looks bytes up in a table at places that go by
- * the passwords, which can be seen in a cache that others share. No theorem speaks of time or of the stack.
+ * What time tells: how long a call takes goes by its number, by what the store holds and by how many subselectors are not
+ * flat. Two passwords are compared to the last byte wherever they differ. The cipher looks bytes up in a table at places
+ * that go by the passwords, which can be seen in a cache that others share. No theorem speaks of time or of the stack.
  */
 #ifndef GELMUSZTA_H
 #define GELMUSZTA_H
@@ -74,15 +75,14 @@
 extern "C" {
 #endif
 
-/* The version of this header; gelmuszta_version tells the library's. Below 1.0.0 the two go together if all three numbers are
- * equal. From then on, if the major numbers are equal and the library's minor number is not below the header's: the major
- * number rises with what makes callers compile anew, the minor one with what is added, the patch with nothing that they see. */
+/* The version of this header; gelmuszta_version tells the library's. Below 1.0.0 the two go together if all three numbers
+ * are equal, from then on if the major numbers are and the library's minor number is not below the header's. The major
+ * number rises where callers have to compile anew, the minor one where something is added, the patch where neither is. */
 #define GELMUSZTA_VERSION_MAJOR 0
 #define GELMUSZTA_VERSION_MINOR 9
 #define GELMUSZTA_VERSION_PATCH 0
 #define GELMUSZTA_VERSION "0.9.0"
-#define GELMUSZTA_VERSION_NUMBER \
-    (GELMUSZTA_VERSION_MAJOR * 10000 + GELMUSZTA_VERSION_MINOR * 100 + GELMUSZTA_VERSION_PATCH)
+#define GELMUSZTA_VERSION_NUMBER (GELMUSZTA_VERSION_MAJOR * 10000 + GELMUSZTA_VERSION_MINOR * 100 + GELMUSZTA_VERSION_PATCH)
 
 /* A warning where a number is not looked at, where the compiler has one. */
 #if defined(__cplusplus) && __cplusplus >= 201703L
@@ -111,15 +111,15 @@ typedef size_t gelmuszta_width;
 #define GELMUSZTA_WIDTH_8 ((gelmuszta_width)8)
 #define GELMUSZTA_WIDTH_16 ((gelmuszta_width)16)
 
-/* The numbers in the order in which they are looked at, with their words. 25 and 22 are looked at in two places, and stand at
- * the first. 18 to 20 belong to lists of calls, and no function here gives them. */
+/* The numbers in the order in which they are looked at, with their words. 25 and 22 are looked at in two places, and stand
+ * at the first. 18 to 20 belong to lists of calls, and no function here gives them. */
 typedef uint8_t gelmuszta_number;
 enum {
     GELMUSZTA_DONE = 0,
     GELMUSZTA_LENGTH = 25,         /* length: a handle's is none of 21, 23 and 27; later, its width is not its cluster's */
     GELMUSZTA_UNSOUND = 1,         /* unsound: the image is unsound */
     GELMUSZTA_NO_SUCH_PLACE = 2,   /* no such place: node above 3 or local number above 7, in a handle or in the call */
-    GELMUSZTA_FIELD = 3,           /* field: no mode, no width, a size of 0 or above 4,096, a segment not below the handle's width */
+    GELMUSZTA_FIELD = 3,           /* field: no mode; no width; size 0 or above 4,096; segment not below the width */
     GELMUSZTA_GAPPED = 4,          /* gapped: a handle's selector is gapped */
     GELMUSZTA_APART = 24,          /* apart: two handles name two clusters */
     GELMUSZTA_ELSEWHERE = 5,       /* elsewhere: the current node is not the handle's */
@@ -162,21 +162,23 @@ bool gelmuszta_sound(const gelmuszta_image *image);
 
 /* ---- clusters */
 
-/* Makes a cluster of the current node active, with a width, which it keeps until it is deleted, and two passwords. Gives its
- * primary handles, for reading and for writing. Numbers: 1 2 3 6 7. */
+/* Makes a cluster of the current node active, with a width, which it keeps until it is deleted, and two passwords. Gives
+ * its primary handles, for reading and for writing. Numbers: 1 2 3 6 7. */
 GELMUSZTA_USED gelmuszta_number gelmuszta_new_cluster(
     gelmuszta_image *image, size_t current, size_t local, gelmuszta_width width, const gelmuszta_password *read,
     const gelmuszta_password *write, gelmuszta_handle *reader, gelmuszta_handle *writer);
 
-/* Makes a cluster inactive, by its primary handle for writing, at its node. None of its segments may be frozen; those that it
- * has are gone, and their bytes stay in the memory. Numbers: 25 1 2 4 5 8 25 9 10 22. */
-GELMUSZTA_USED gelmuszta_number gelmuszta_delete_cluster(gelmuszta_image *image, size_t current, const gelmuszta_handle *handle);
+/* Makes a cluster inactive, by its primary handle for writing, at its node. None of its segments may be frozen; those that
+ * it has are gone, and their bytes stay in the memory. Numbers: 25 1 2 4 5 8 25 9 10 22. */
+GELMUSZTA_USED gelmuszta_number gelmuszta_delete_cluster(gelmuszta_image *image, size_t current,
+                                                         const gelmuszta_handle *handle);
 
-/* Gives a mode a new primary password, by its primary handle. Gives the new primary handle; the old one, and what was weakened
- * from it, is no longer valid in that mode. The password has to differ from the mode's own and is compared with no other: the
- * answer tells nothing of the other mode's, and the two may become equal. Numbers: 25 1 2 3 4 8 25 9 10 12. */
-GELMUSZTA_USED gelmuszta_number gelmuszta_new_password(gelmuszta_image *image, gelmuszta_mode mode, const gelmuszta_handle *handle,
-                                                       const gelmuszta_password *password, gelmuszta_handle *given);
+/* Gives a mode a new primary password, by its primary handle. Gives the new primary handle; the old one, and what was
+ * weakened from it, is no longer valid in that mode. The password has to differ from the mode's own and is compared with no
+ * other: the answer tells nothing of the other mode's, and the two may become equal. Numbers: 25 1 2 3 4 8 25 9 10 12. */
+GELMUSZTA_USED gelmuszta_number gelmuszta_new_password(gelmuszta_image *image, gelmuszta_mode mode,
+                                                       const gelmuszta_handle *handle, const gelmuszta_password *password,
+                                                       gelmuszta_handle *given);
 
 /* ---- segments */
 
@@ -190,27 +192,27 @@ GELMUSZTA_USED gelmuszta_number gelmuszta_new_segment(gelmuszta_image *image, ge
 GELMUSZTA_USED gelmuszta_number gelmuszta_delete_segment(gelmuszta_image *image, size_t current, size_t segment,
                                                          const gelmuszta_handle *handle);
 
-/* Freezes a segment, by the primary handle for writing, at its node; no call thaws it. Its base, its length and its bytes then
- * stay, and its cluster stays active, whatever calls are made: writing to it and deleting it or its cluster are refused.
- * Freezing it again is done, and changes nothing. Numbers: 25 1 2 3 4 5 8 25 9 10 14. */
+/* Freezes a segment, by the primary handle for writing, at its node; no call thaws it. Its base, its length and its bytes
+ * then stay, and its cluster stays active, whatever calls are made: writing to it and deleting it or its cluster are
+ * refused. Freezing it again is done, and changes nothing. Numbers: 25 1 2 3 4 5 8 25 9 10 14. */
 GELMUSZTA_USED gelmuszta_number gelmuszta_freeze(gelmuszta_image *image, size_t current, size_t segment,
                                                  const gelmuszta_handle *handle);
 
-/* Reads a segment, by a handle that is valid for reading and references it: the first bytes of the buffer become the segment's,
- * the others stay, and *length becomes the segment's length. Numbers: 25 1 2 3 4 8 25 9 11 14 15. */
+/* Reads a segment, by a handle that is valid for reading and references it: the first bytes of the buffer become the
+ * segment's, the others stay, and *length becomes the segment's length. Numbers: 25 1 2 3 4 8 25 9 11 14 15. */
 GELMUSZTA_USED gelmuszta_number gelmuszta_read(const gelmuszta_image *image, const gelmuszta_memory *memory, size_t segment,
                                                const gelmuszta_handle *handle, uint8_t *buffer, size_t buffer_length,
                                                size_t *length);
 
-/* Writes a segment, by a handle that is valid for writing and references it: its bytes become the first of the data. It may not
- * be frozen. Writing does not tell what was there before. Numbers: 25 1 2 3 4 8 25 9 11 14 22 15. */
+/* Writes a segment, by a handle that is valid for writing and references it: its bytes become the first of the data. It may
+ * not be frozen. Numbers: 25 1 2 3 4 8 25 9 11 14 22 15. */
 GELMUSZTA_USED gelmuszta_number gelmuszta_write(const gelmuszta_image *image, gelmuszta_memory *memory, size_t segment,
                                                 const gelmuszta_handle *handle, const uint8_t *data, size_t data_length);
 
-/* Shows a segment where it lies, at its node, by a handle that would read it: it is memory->bytes[*from] and on, *length bytes.
- * Nothing is copied. The place holds until the image is written to, and the bytes until the memory is: after any call that does
- * so look again, and let nobody write while the bytes are read. Where the segment is frozen, both stay whatever calls are
- * made. Numbers: 25 1 2 3 4 5 8 25 9 11 14. */
+/* Shows a segment where it lies, at its node, by a handle that would read it: it is memory->bytes[*from] and on, *length
+ * bytes. Nothing is copied. The place holds until the image is written to, and the bytes until the memory is: after any
+ * call that does so look again, and let nobody write while the bytes are read. Where the segment is frozen, both stay
+ * whatever calls are made. Numbers: 25 1 2 3 4 5 8 25 9 11 14. */
 GELMUSZTA_USED gelmuszta_number gelmuszta_look(const gelmuszta_image *image, size_t current, size_t segment,
                                                const gelmuszta_handle *handle, size_t *from, size_t *length);
 
@@ -220,34 +222,35 @@ GELMUSZTA_USED gelmuszta_number gelmuszta_look(const gelmuszta_image *image, siz
  * looked at. Numbers: 25. */
 GELMUSZTA_USED gelmuszta_number gelmuszta_handle_of(const uint8_t *bytes, size_t length, gelmuszta_handle *handle);
 
-/* Gives a handle that references those of the handle's segments which the mask keeps, bit i for segment i, and how many they
- * are, at least one; where none is excluded, the handle itself. It needs no store, and looks at none. Numbers: 25 2 4 21 17. */
+/* Gives a handle that references those of the handle's segments which the mask keeps, bit i for segment i, and how many
+ * they are, at least one; where none is excluded, the handle itself. It looks at no store. Numbers: 25 2 4 21 17. */
 GELMUSZTA_USED gelmuszta_number gelmuszta_weaken(const gelmuszta_handle *handle, uint16_t mask, gelmuszta_handle *given,
                                                  uint8_t *count);
 
 /* Gives a handle that references the same segments by subselector 0 alone, the others being flat; of a primary handle, the
  * handle itself. It has to be valid in the mode. Numbers: 25 1 2 3 4 8 25 9. */
-GELMUSZTA_USED gelmuszta_number gelmuszta_reduce(const gelmuszta_image *image, gelmuszta_mode mode, const gelmuszta_handle *handle,
-                                                 gelmuszta_handle *given);
+GELMUSZTA_USED gelmuszta_number gelmuszta_reduce(const gelmuszta_image *image, gelmuszta_mode mode,
+                                                 const gelmuszta_handle *handle, gelmuszta_handle *given);
 
-/* Gives a handle that references the segments which either of two handles of one cluster references, by subselector 0 alone.
- * Each has to be valid in the mode; which comes first does not matter, and the two may be the same. Two that reference all
- * segments of the width are refused, so that none is given that is primary. Numbers: 25 1 2 3 4 24 8 25 9 23. */
-GELMUSZTA_USED gelmuszta_number gelmuszta_join(const gelmuszta_image *image, gelmuszta_mode mode, const gelmuszta_handle *handle,
-                                               const gelmuszta_handle *other, gelmuszta_handle *given);
+/* Gives a handle that references the segments which either of two handles of one cluster references, by subselector 0
+ * alone. Each has to be valid in the mode; which comes first does not matter, and the two may be the same. Two that
+ * reference all segments of the width are refused: none given is primary. Numbers: 25 1 2 3 4 24 8 25 9 23. */
+GELMUSZTA_USED gelmuszta_number gelmuszta_join(const gelmuszta_image *image, gelmuszta_mode mode,
+                                               const gelmuszta_handle *handle, const gelmuszta_handle *other,
+                                               gelmuszta_handle *given);
 
 /* Whether a handle is valid in a mode: the number that gelmuszta_reduce would give. Numbers: 25 1 2 3 4 8 25 9. */
 GELMUSZTA_USED gelmuszta_number gelmuszta_validate(const gelmuszta_image *image, gelmuszta_mode mode,
                                                    const gelmuszta_handle *handle);
 
-/* Validates many handles of one width, GELMUSZTA_HANDLE_BYTES(width) bytes each, one after the other: numbers[i] becomes what
- * gelmuszta_validate gives for handle i. Returns how many are judged: as many as `handles` has whole and `numbers` has places
- * for, none where the width is none of the three. The other places stay as they were. The image is judged once for all. */
-size_t gelmuszta_validate_all(const gelmuszta_image *image, gelmuszta_mode mode, gelmuszta_width width, const uint8_t *handles,
-                              size_t handles_length, uint8_t *numbers, size_t numbers_length);
+/* Validates many handles of one width, GELMUSZTA_HANDLE_BYTES(width) bytes each, one after the other: numbers[i] becomes
+ * what gelmuszta_validate gives for handle i. Returns how many are judged: as many as `handles` has whole and `numbers` has
+ * places for, none where the width is none of the three. The other places stay as they were. The image is judged once. */
+size_t gelmuszta_validate_all(const gelmuszta_image *image, gelmuszta_mode mode, gelmuszta_width width,
+                              const uint8_t *handles, size_t handles_length, uint8_t *numbers, size_t numbers_length);
 
 /* The conversion of a password by a parameter: AES-128, under the password as key, of the parameter as a number of sixteen
- * bytes, high byte first. A weaker handle's password is that of the stronger one converted by the subselector that changes. */
+ * bytes, high byte first. A weaker handle's password is that of the stronger one converted by the subselector set. */
 void gelmuszta_convert(const gelmuszta_password *password, uint16_t parameter, gelmuszta_password *converted);
 
 #ifdef __cplusplus

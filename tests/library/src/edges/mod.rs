@@ -1,8 +1,9 @@
 //! Soundness where it changes: every byte of an image with every value that matters, and two segments of one node
 //! that begin and end about the borders of words. Looks and freezes where their segment or their arguments come
 //! to an end: the first and the last byte of a node, the whole of it, and numbers just out of range. Joins with
-//! modes and names just out of range. Handles of every length, and what goes by the width.
+//! modes and names just out of range. Handles of every length, made of bytes and presented, and what goes by the width.
 
+mod handles;
 mod joins;
 mod widths;
 
@@ -12,6 +13,7 @@ use crate::chance::{below, cases};
 use crate::compare::{ask, is_sound, Guard, Sides};
 use crate::image::{encode, Image, READ_AT, RECORD_BYTES, SEGMENTS_AT};
 use crate::question::{Held, Question, BEYOND};
+pub use handles::{handles, Maker};
 pub use joins::joins;
 use model::call::Call;
 use model::handle::{Handle, Width};
