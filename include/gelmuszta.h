@@ -23,11 +23,8 @@
  *                0, 1       the node, high byte first
  *                2          the local number
  *                3 to 18    the password
- *               19 on       the selector, which is four subselectors s0 to s3
- *
- *             4 segments    s0 + 16 * s1, s2 + 16 * s3
- *             8 segments    s0, s1, s2, s3
- *            16 segments    s0, s1, s2, s3, two bytes each, high byte first
+ *               19 on       the selector, four subselectors s0 to s3: for 4 segments s0 + 16 * s1 and s2 + 16 * s3, for 8
+ *                           a byte each, for 16 two bytes each, high byte first
  *
  *             Bit i of a subselector, 0 the least, stands for segment i. The handle references segment i if bit i is set in
  *             all four. A subselector with all bits of the width set is flat; a primary handle has four flat ones; a
@@ -173,9 +170,10 @@ GELMUSZTA_USED gelmuszta_number gelmuszta_new_cluster(
 GELMUSZTA_USED gelmuszta_number gelmuszta_delete_cluster(gelmuszta_image *image, size_t current,
                                                          const gelmuszta_handle *handle);
 
-/* Gives a mode a new primary password, by its primary handle. Gives the new primary handle; the old one, and what was
- * weakened from it, is no longer valid in that mode. The password has to differ from the mode's own and is compared with no
- * other: the answer tells nothing of the other mode's, and the two may become equal. Numbers: 25 1 2 3 4 8 25 9 10 12. */
+/* Makes a password the primary one of a mode, by that mode's primary handle. Gives the new primary handle; the old one, and
+ * what was weakened from it, is no longer valid in the mode. The password has to differ from the mode's own and is compared
+ * with no other: the answer tells nothing of the other mode's, and the two may become equal.
+ * Numbers: 25 1 2 3 4 8 25 9 10 12. */
 GELMUSZTA_USED gelmuszta_number gelmuszta_new_password(gelmuszta_image *image, gelmuszta_mode mode,
                                                        const gelmuszta_handle *handle, const gelmuszta_password *password,
                                                        gelmuszta_handle *given);
