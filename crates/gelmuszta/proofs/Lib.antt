@@ -1,6 +1,7 @@
 pub mod ReplyLaws
 pub mod ExportLaws
 pub mod MemoryLaws
+pub mod GivenLaws
 pub mod LookLaws
 pub mod MakeLaws
 pub mod ValidationLaws

@@ -1,5 +1,6 @@
 pub mod Exported
 pub mod Version
+pub mod Given
 pub mod Looks
 pub mod Validation
 pub mod Fits

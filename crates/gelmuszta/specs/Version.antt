@@ -1,6 +1,5 @@
--- The version of the library: three numbers, and one of all three. A caller that was compiled for a version runs with every library
--- whose first number is the same and whose second is not lower.
---     version    the three of 0.9.0
+-- The version of the library, as one number. What a change of each of its three numbers means stands in the header.
+--     version    that of 0.9.0: ten thousand times the first number, a hundred times the second, and the third
 -- Assumes nothing.
 use Prim.Native.Nat.{ℕ, _+_, _*_}
 
