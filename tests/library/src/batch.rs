@@ -150,7 +150,7 @@ fn by_chance(random: &mut Random, damage: Option<Damage>, tally: &mut Tally) -> 
             false => (below(random, NODES), below(random, CLUSTERS)),
         };
         inflict(random, &mut held, damage, place);
-        tally.note_damage(BATCH, damage, Where::seen_from(None, damage, place));
+        tally.note_damage(BATCH, damage, Where::seen_from(None, place));
     }
     let count = below(random, MOST_HANDLES + 1);
     let places = match random.below(4) {

@@ -129,6 +129,9 @@ fn edges(seed: u64) -> Result<(), String> {
 fn edges_of_widths(seed: u64) -> Result<(), String> {
     let (calls, done) = edges::lengths(guard::ask, seed).map_err(named("lengths of handles"))?;
     println!("calls with handles of every length: {calls}, {done} of them done");
+    let (lengths, made) =
+        edges::handles(guard::handle_of, seed).map_err(named("handles from bytes"))?;
+    println!("handles from bytes of every length: {lengths}, {made} of them handles'");
     let (calls, done) = edges::segments(guard::ask, seed).map_err(named("segments by width"))?;
     println!("calls by handles of every width, about every segment: {calls}, {done} of them done");
     let (calls, done) = edges::masks(guard::ask, seed).map_err(named("masks"))?;

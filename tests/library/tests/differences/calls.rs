@@ -207,20 +207,6 @@ fn segments_cut_to_one_byte() {
 }
 
 #[test]
-fn a_longer_slice_taken_for_sound() {
-    found_out(
-        |held, question| {
-            let sound = held.memory.len().min(MEMORY_BYTES);
-            let rest = held.memory.split_off(sound);
-            let answer = guard::ask(held, question);
-            held.memory.extend(rest);
-            answer
-        },
-        "the replies differ",
-    );
-}
-
-#[test]
 fn any_active_byte_taken_for_active() {
     found_out(
         |held, question| {

@@ -11,7 +11,7 @@ use library::image::{
 use library::question::Held;
 use library::tally::Tally;
 use library::{guard, single};
-use model::sizes::{MEMORY_BYTES, NODE_BYTES};
+use model::sizes::NODE_BYTES;
 use model::store::{Extent, Place, Segment, Store};
 
 const SEED: u64 = 7;
@@ -202,10 +202,10 @@ overlooked!(a_segment_beside_one_that_is_the_node, |image| {
 
 #[test]
 fn a_byte_of_an_image() {
-    let judge: Judge = |image, _| {
+    let judge: Judge = |image| {
         let mut seen = *image;
         seen[IMAGE_BYTES - 1] = 0;
-        guard::is_sound(&mut seen, MEMORY_BYTES)
+        guard::is_sound(&mut seen)
     };
     let told = edges::every_byte(judge, SEED).expect_err("the last byte is overlooked");
     assert!(told.contains("byte 3647 made"), "{told}");
@@ -213,12 +213,12 @@ fn a_byte_of_an_image() {
 
 #[test]
 fn touching_taken_for_sharing() {
-    let judge: Judge = |image, size| {
+    let judge: Judge = |image| {
         let mut longer = *image;
         for place in places(&mut longer).filter(|place| place[LENGTH_AT..MARK_AT] == [0, 63]) {
             place[3] = 64;
         }
-        guard::is_sound(image, size) && guard::is_sound(&mut longer, size)
+        guard::is_sound(image) && guard::is_sound(&mut longer)
     };
     let told = edges::pairs_at_words(judge, SEED).expect_err("some only touch");
     assert!(told.contains("sound is true in the model"), "{told}");
@@ -226,10 +226,10 @@ fn touching_taken_for_sharing() {
 
 #[test]
 fn sharing_taken_for_touching() {
-    let judge: Judge = |image, size| {
+    let judge: Judge = |image| {
         let mut shorter = *image;
         shorten(&mut shorter, 0);
-        guard::is_sound(image, size) || guard::is_sound(&mut shorter, size)
+        guard::is_sound(image) || guard::is_sound(&mut shorter)
     };
     let told = edges::pairs_at_words(judge, SEED).expect_err("some share a byte");
     assert!(told.contains("sound is false in the model"), "{told}");

@@ -11,11 +11,11 @@ use model::call::{
     WRITE,
 };
 use model::handle::Handle;
-use model::sizes::{MEMORY_BYTES, NODES};
+use model::sizes::NODES;
 use model::store::Cluster;
 use model::table::{
     ABSENT, DONE, ELSEWHERE, FIELD, FROZEN, GAPPED, INACTIVE, NOT_PRIMARY, NOT_REFERENCED,
-    NO_SUCH_PLACE, PRESENT, SHORT, UNSOUND, VIOLATED_PROTECTION,
+    NO_SUCH_PLACE, PRESENT, SHORT, VIOLATED_PROTECTION,
 };
 
 /// A test for a library that gives `$wrong` where the model gives `$right`, if `$other` has it so. The call goes
@@ -172,22 +172,6 @@ fn arguments_in_one_byte() {
 fn found_out_at_the_edges(guard: Guard, right: u8, wrong: u8) {
     let told = edges::freezes(guard, SEED).expect_err("an edge is wrong");
     names(&told, "Freeze", right, wrong);
-}
-
-#[test]
-fn a_memory_one_byte_too_long_taken_for_whole() {
-    found_out_at_the_edges(
-        |held, question| {
-            let mut seen = held.clone();
-            let bytes = seen.memory.len();
-            seen.memory.truncate(bytes.min(MEMORY_BYTES));
-            let answer = guard::ask(&mut seen, question);
-            held.image = seen.image;
-            answer
-        },
-        UNSOUND,
-        DONE,
-    );
 }
 
 #[test]

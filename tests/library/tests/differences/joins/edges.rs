@@ -6,7 +6,6 @@ use library::compare::Guard;
 use library::question::{change_handle, Answer, Held, Question};
 use library::{edges, guard};
 use model::handle::Handle;
-use model::sizes::MEMORY_BYTES;
 
 fn found_out(guard: Guard, right: u8) {
     let told = edges::joins(guard, SEED).expect_err("an edge is wrong");
@@ -59,28 +58,5 @@ fn a_local_number_in_its_low_bits() {
     found_out(
         |held, question| with_handle(held, question, 1, |handle| handle.local &= 7),
         2,
-    );
-}
-
-#[test]
-fn a_memory_of_another_length_taken_for_whole() {
-    found_out(
-        |held, question| {
-            let mut seen = held.clone();
-            let bytes = seen.memory.len();
-            seen.memory.truncate(bytes.min(MEMORY_BYTES));
-            guard::ask(&mut seen, question)
-        },
-        1,
-    );
-    found_out(
-        |held, question| {
-            let mut seen = held.clone();
-            let bytes = seen.memory.len();
-            seen.memory
-                .resize(bytes + usize::from(bytes == MEMORY_BYTES - 1), 0);
-            guard::ask(&mut seen, question)
-        },
-        1,
     );
 }

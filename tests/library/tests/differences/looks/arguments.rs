@@ -46,18 +46,6 @@ fn other_records_not_judged() {
     );
 }
 
-#[test]
-fn the_memory_s_length_not_judged() {
-    found_out_by_damage(
-        |held, question| {
-            instead(held, question, UNSOUND, |seen| {
-                seen.done(|held, _| held.memory.resize(MEMORY_BYTES, 0))
-            })
-        },
-        DONE,
-    );
-}
-
 // Arguments that are cut, where nothing else speaks against a look.
 
 fn in_one_byte(number: &mut u32) {
@@ -144,20 +132,6 @@ fn the_last_byte_of_the_memory_left_out() {
             })
         },
         "shown 4096 from 12288",
-    );
-}
-
-#[test]
-fn a_memory_one_byte_short_taken_for_whole() {
-    found_out_at_the_edges(
-        |held, question| {
-            let bytes = held.memory.len();
-            let mut seen = held.clone();
-            seen.memory
-                .resize(bytes + usize::from(bytes == MEMORY_BYTES - 1), 0);
-            guard::ask(&mut seen, question)
-        },
-        "model:   number 1,",
     );
 }
 

@@ -226,8 +226,7 @@ fn equal_ones_taken_for_unsound() {
     for told in told_twice(unsound_where_equal) {
         assert!(told.contains("library: number 1,"), "{told}");
     }
-    let judge: edges::Judge =
-        |image, memory_bytes| guard::is_sound(image, memory_bytes) && !has_equal(image);
+    let judge: edges::Judge = |image| guard::is_sound(image) && !has_equal(image);
     let told = edges::every_byte(judge, SEED).expect_err("equal ones are sound");
     assert!(told.contains("sound is true in the model, false"), "{told}");
 }
