@@ -48,8 +48,7 @@ unsafe extern "C" fn rust_weaken(
 }
 
 type Validate = unsafe extern "C" fn(*const u8, usize, *const [u8; 16]) -> bool;
-type Weaken =
-    unsafe extern "C" fn(*const u8, usize, u16, *mut [u8; HANDLE_BYTES], *mut u8) -> u8;
+type Weaken = unsafe extern "C" fn(*const u8, usize, u16, *mut [u8; HANDLE_BYTES], *mut u8) -> u8;
 
 fn validates(by: Validate, handle: &HandleBytes) -> bool {
     let length = handle.length.into();
