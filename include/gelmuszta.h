@@ -34,8 +34,9 @@
  * A handle is valid in a mode, reading or writing, if its width is its cluster's and converting that mode's primary
  * password by its subselectors gives its password. Each mode is judged by itself; while the two primary passwords of a
  * cluster are equal, a handle that is valid in one mode is valid in both. Calls by a handle that is valid for writing alone
- * tell nothing of the bytes stored and of the read password: no more than which segments the cluster has, how long they
- * are, which are frozen, and whether a node has room. Whether a cluster is active, and its width, the numbers tell anybody.
+ * tell nothing of the bytes stored, and of the read password that it is another: no more than which segments the cluster
+ * has, how long they are, which are frozen, and whether a node has room. Whether a cluster is active, and its width, the
+ * numbers tell anybody.
  *
  * A call returns a number: 0 for done, or why it is refused. Where several refusals apply, it is the one that stands first
  * in the row of its function, below. After a refusal image, memory and buffer are as they were, byte for byte, handles
@@ -170,9 +171,9 @@ GELMUSZTA_USED gelmuszta_number gelmuszta_new_cluster(
 GELMUSZTA_USED gelmuszta_number gelmuszta_delete_cluster(gelmuszta_image *image, size_t current,
                                                          const gelmuszta_handle *handle);
 
-/* Makes a password the primary one of a mode, by that mode's primary handle. Gives the new primary handle; the old one, and
- * what was weakened from it, is no longer valid in the mode. The password has to differ from the mode's own and is compared
- * with no other: the answer tells nothing of the other mode's, and the two may become equal.
+/* Makes a password the primary one of a mode, by that mode's primary handle. Gives the new primary handle; the one presented
+ * is no longer valid in the mode, and weaker ones have to be made anew. The password has to differ from the mode's own and
+ * is compared with no other: the answer tells nothing of the other mode's, and the two may become equal.
  * Numbers: 25 1 2 3 4 8 25 9 10 12. */
 GELMUSZTA_USED gelmuszta_number gelmuszta_new_password(gelmuszta_image *image, gelmuszta_mode mode,
                                                        const gelmuszta_handle *handle, const gelmuszta_password *password,

@@ -10,6 +10,7 @@ use mathlib.Core.List.{List, [], _∷_, _++_}
 use lib.Dec.{eqb}
 use lib.ListN.{length, getD, take, drop, replicate, length-append, length-replicate, length-take}
 use lib.Seq.{take-all, take-at, getD-at, take-append-le, take-append-seam, length-take-le, take-suc}
+use Rattle.numbers.specs.Numbers.{wrongLengthNumber}
 use Rattle.handle.specs.declared.Handle.{Handle}
 use Rattle.handle.specs.declared.HandleBytes.{HandleBytes}
 use Rattle.handle.specs.declared.Width.{Width}
@@ -20,7 +21,7 @@ use Rattle.handle.specs.Trips.{OfWidth}
 use Rattle.handle.proofs.CodecLaws.{width-cases}
 use Rattle.handle.proofs.TripLaws.{decode-encode, length-decoded}
 use Rattle.handle.proofs.TripStatements.{round-trips}
-use Rattle.codec.specs.Held.{heldBytes, heldIn, handed, bytesHeld, noHandles, heldFrom, HeldTrips}
+use Rattle.codec.specs.Held.{heldBytes, heldIn, handed, bytesHeld, noHandles, heldFrom, lengthNumber, HeldTrips}
 use Rattle.codec.proofs.HeldLaws.{handed-held}
 
 -- ---- the handle's own bytes, and what stands behind them
@@ -89,6 +90,20 @@ none b n =
     no-width Eight e = absurd (n (inr (inl e)))
     no-width Sixteen e = absurd (n (inr (inr e)))
 
+done : (b : List ℕ) → OfWidth (length b) → lengthNumber b ≡ 0
+done b (inl w) = ap (λ (n : ℕ). cond (noHandles n) wrongLengthNumber 0) w
+done b (inr (inl w)) = ap (λ (n : ℕ). cond (noHandles n) wrongLengthNumber 0) w
+done b (inr (inr w)) = ap (λ (n : ℕ). cond (noHandles n) wrongLengthNumber 0) w
+
+refused : (b : List ℕ) → ¬ OfWidth (length b) → lengthNumber b ≡ 25
+refused b n = width-cases (λ v. cond (eqb (bitsOf v) 0) wrongLengthNumber 0 ≡ wrongLengthNumber) (length b) refl no-width
+  where
+    no-width : (v : Width) → length b ≡ lengthOf v → cond (eqb (bitsOf v) 0) wrongLengthNumber 0 ≡ wrongLengthNumber
+    no-width None e = refl
+    no-width Four e = absurd (n (inl e))
+    no-width Eight e = absurd (n (inr (inl e)))
+    no-width Sixteen e = absurd (n (inr (inr e)))
+
 pub held-trips : HeldTrips
 held-trips =
     record {
@@ -100,4 +115,6 @@ held-trips =
       other = other;
       from = from;
       none = none;
+      done = done;
+      refused = refused;
     }

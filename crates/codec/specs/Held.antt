@@ -14,7 +14,8 @@
 --                      handle: a handle of any width, written and held, is read back
 --                      behind: what stands behind a handle's own bytes does not matter
 --                      other: a last byte that is none of the three lengths, above 27 too, holds no handle
---                      from, none: bytes from elsewhere are held as they are where a handle has so many, and else 28 zeros are
+--                      from, none: bytes from elsewhere are held as they are where a handle has so many, and else 28 zeros are;
+--                      done, refused: their number is 0 then, and else 25
 -- Assumes nothing.
 use Prim.Native.Nat.{ℕ, _+_, _≤_}
 use mathlib.Core.Path.{_≡_}
@@ -59,3 +60,5 @@ pub record HeldTrips : Type 0 where
   pub other : (hs : List ℕ) → length hs ≡ 28 → ¬ OfWidth (getD hs 27 0) → decoded (bytesHeld hs) ≡ noHandle
   pub from : (b : List ℕ) → OfWidth (length b) → heldFrom b ≡ heldIn (laid b)
   pub none : (b : List ℕ) → ¬ OfWidth (length b) → heldFrom b ≡ replicate 28 0
+  pub done : (b : List ℕ) → OfWidth (length b) → lengthNumber b ≡ 0
+  pub refused : (b : List ℕ) → ¬ OfWidth (length b) → lengthNumber b ≡ 25

@@ -1,14 +1,13 @@
 -- Handles in 28 bytes, written out: those of handle/specs/Literals, and no handle.
---     zeros n            n zero bytes
 --     smallHeld, middleHeld, largeHeld    the 28 bytes of the handles of widths 4, 8 and 16
 --     noneHeld           those of no handle
 --     filled             the 23 bytes of the second with four others behind them
 --     HeldBytes          they are what callers hold, and what is read from them; other bytes behind a handle's own are passed over,
 --                        and bytes that came from elsewhere are held so
---     LastBytes          the widths of handles in 28 bytes with the last one 0 to 28, 127, 128, 151 and 255, in this order: 4, 8
---                        and 16 for 21, 23 and 27, and else none
-
---                        how many there are
+--     lastBytes          0 to 28, 127, 128, 151 and 255
+--     widths, numbers    4, 8 and 16 at 21, 23 and 27, and else 0; 0 there, and else 25
+--     Lasts              read: the widths of handles in 28 bytes with these last bytes; from: the numbers of 0 to 28 bytes from
+--                        elsewhere
 -- Assumes nothing.
 use Prim.Native.Nat.{ℕ}
 use mathlib.Core.Path.{_≡_}

@@ -16,13 +16,15 @@ use Rattle.handle.specs.Conversion.{product}
 use Rattle.codec.specs.Held.{heldIn, handed, bytesHeld}
 use Rattle.codec.proofs.HeldTripLaws.{held-trips}
 use Rattle.calls.specs.Calls.{Copy, Call, Kind, newCluster, deleteCluster, newSegment, deleteSegment, read, write, weaken, among}
-use Rattle.calls.specs.Calls.{reduce, newPassword, freeze, join, validate, look, handleOf, buffer}
+use Rattle.calls.specs.Calls.{reduce, newPassword, freeze, join, validate, look, handleOf, buffer, weakeningBy}
 use Rattle.calls.specs.Numbers.{number, badLength}
-use Rattle.calls.specs.Steps.{Reply, newPrimary, weaker, reducedFrom, joinedFrom, given, outcome, step, aesStep, segmentRead, segmentShown, plain}
+use Rattle.calls.proofs.WeakenLaws.{step-weaken}
+use Rattle.calls.specs.Steps.{Reply, Outcome, newPrimary, weaker, reducedFrom, joinedFrom, given, outcome, step, aesStep, segmentRead, segmentShown, plain}
 use Rattle.calls.specs.Answers.{copyOf}
-use Rattle.image.specs.Images.{good, storeIn}
-use Rattle.gelmuszta.specs.Exported.{Exported, early, damaged, imaged, exported}
-use Rattle.gelmuszta.specs.Given.{Spread, GivenHeld, HandlesGiven}
+use Rattle.image.specs.Images.{good, storeIn, imageOf}
+use Rattle.image.proofs.TripLaws.{image-store}
+use Rattle.gelmuszta.specs.Exported.{Exported, leaving, early, damaged, imaged, exported}
+use Rattle.gelmuszta.specs.Given.{Spread, GivenHeld, HandlesGiven, RepliesWritten, WeakenedAlways}
 
 -- ---- what replies hold
 
@@ -105,3 +107,34 @@ handles-given x b m hs l =
       first = λ e. spread hs l (exported x b m .reply .first) e (laid-exported x b m .first);
       second = λ e. spread hs l (exported x b m .reply .second) e (laid-exported x b m .second);
     }
+
+-- ---- replies written out, and weakening
+
+pub replies-written : RepliesWritten
+replies-written = record { both = refl; one = refl; count = refl; length = refl }
+
+pub weakened-always : WeakenedAlways
+unfolding exported
+weakened-always k h b m w c = go (good b) refl
+  where
+    x : Call
+    x = weakeningBy k h
+
+    on : Copy
+    on = copyOf (storeIn b) m
+
+    -- the reply is that of the handle alone, and the copy stays
+    same : aesStep x on .reply ≡ aesStep x c .reply
+    same =
+        ap (λ (o : Outcome). o .reply) (step-weaken product (x .args) on)
+        ∙ sym (ap (λ (o : Outcome). o .reply) (step-weaken product (x .args) c))
+
+    store : aesStep x on .copy ≡ on
+    store = ap (λ (o : Outcome). o .copy) (step-weaken product (x .args) on)
+
+    go : (g : Bool) → good b ≡ g → picked x b m g ≡ leaving (aesStep x c .reply) b m
+    go true e =
+        λ j.
+        leaving (same j) ((ap (λ (d : Copy). imageOf (d .store)) store ∙ image-store b w e) j)
+        (ap (λ (d : Copy). d .memory) store j)
+    go false e = λ j. leaving (same j) b m
