@@ -87,3 +87,57 @@ pub fn mark(map: &mut [u64], from: usize, to: usize) -> bool
     let z = touch(map, last, high);
     z & (inner & a)
 }
+
+// A word of the map, or where `set` is false, the word of the bits that it lacks.
+fn looked(map: &[u64], at: usize, set: bool) -> u64
+    requires { ⌜ at < length (now map) ⌝ }
+    ensures { λ r. ⌜ spans.Looked set (now (map .entry)) at r ⌝ }
+{
+    let w = map[at];
+    if set {
+        return w;
+    }
+    !w
+}
+
+// The first bit from `from` on that is set, or where `set` is false, is not; the end of the map where there is none.
+pub fn next(map: &[u64], from: usize, set: bool) -> usize
+    requires inside { ⌜ from < length (now map) * spans.wordBits ⌝ }
+    requires short { ⌜ length (now map) * spans.wordBits < 2 ^ 32 ⌝ }
+    ensures { λ r. ⌜ spans.Next set (now (map .entry)) from r ⌝ }
+{
+    let mut at = from / WORD;
+    let mut w = looked(map, at, set) & from_on(from % WORD);
+    while w == 0 {
+        at += 1;
+        if map.len() <= at {
+            return at * WORD;
+        }
+        w = looked(map, at, set);
+    }
+    let place = u64::trailing_zeros(w);
+    at * WORD + place as usize
+}
+
+// The least start of `size` clear bits in a row; the end of the map where there is none. No bit is looked at twice.
+pub fn room(map: &[u64], size: usize) -> usize
+    requires some { ⌜ (1 ≤ size) × (size ≤ length (now map) * spans.wordBits) ⌝ }
+    requires short { ⌜ length (now map) * spans.wordBits < 2 ^ 32 ⌝ }
+    ensures { λ r. ⌜ spans.Room size (now (map .entry)) r ⌝ }
+{
+    let all = map.len() * WORD;
+    let last = all - size;
+    let mut base: usize = 0;
+    while base <= last {
+        let start = next(map, base, false);
+        if last < start {
+            return all;
+        }
+        let end = next(map, start, true);
+        if size <= end - start {
+            return start;
+        }
+        base = end;
+    }
+    all
+}
