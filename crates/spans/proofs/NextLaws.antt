@@ -8,11 +8,11 @@ use mathlib.Core.List.{List}
 use Prim.Native.Nat.{ℕ, zero, suc, _+_, _-_, _*_, _/_, _%_, _^_, _≤_, _<_}
 use native.Mathlib.Omega.{arith}
 use native.Mathlib.Nat.{lt-of-le-of-lt}
-use lib.Dec.{eqb, ltb, leb}
+use lib.Dec.{eqb, ltb}
 use lib.Bits.{bitAnd, and-le-l}
 use lib.Count.{trailingZeros, under, trailing-le}
 use lib.ListN.{length, getD}
-use borrow.Author.Tests.{ltb-true, ltb-false, eqb-true, eqb-false, eq-eqb, ne-eqb}
+use borrow.Author.Tests.{ltb-true, ltb-false, eqb-true, eqb-false}
 use Rattle.bits.specs.Sets.{has, full}
 use Rattle.bits.proofs.SetLaws.{has-zero, has-suc, same-bits}
 use Rattle.bits.proofs.OperationLaws.{has-and, has-not, has-none, full-lt}
@@ -97,8 +97,8 @@ pub record Seeking (set : Bool) (ws : List ℕ) (from at w : ℕ) : Type 0 where
   pub on : (i : ℕ) → i < wordBits → from ≤ at * wordBits + i → has i w ≡ sought set ws (at * wordBits + i)
   pub off : (i : ℕ) → i < wordBits → at * wordBits + i < from → has i w ≡ false
 
-module _ (set : Bool) (ws : List ℕ) (from : ℕ) where
-  pub seeking-first : (r m : ℕ) → from < length ws * wordBits → Looked set ws (from / wordBits) r
+module _ (set : Bool) (ws : List ℕ) (from to : ℕ) (fits : to ≤ length ws * wordBits) where
+  pub seeking-first : (r m : ℕ) → from < to → Looked set ws (from / wordBits) r
       → m ≡ all - full (from % wordBits) → Seeking set ws from (from / wordBits) (bitAnd r m)
   seeking-first r m h l e =
       record {
@@ -129,11 +129,11 @@ module _ (set : Bool) (ws : List ℕ) (from : ℕ) where
             (sym (s .on (x - at * wordBits) (omega arith) (omega arith))
             ∙ ap (has (x - at * wordBits)) z ∙ has-none (x - at * wordBits))
 
-    pub seeking-more : w ≡ 0 → at + 1 < length ws → (r : ℕ) → Looked set ws (at + 1) r → Seeking set ws from (at + 1) r
+    pub seeking-more : w ≡ 0 → (at + 1) * wordBits < to → (r : ℕ) → Looked set ws (at + 1) r → Seeking set ws from (at + 1) r
     seeking-more z h r l =
         let p = s .reached in
         record {
-          inside = h;
+          inside = omega arith;
           reached = omega arith;
           small = l .small;
           passed = none-here z;
@@ -141,13 +141,11 @@ module _ (set : Bool) (ws : List ℕ) (from : ℕ) where
           off = λ i b a. absurd (omega arith);
         }
 
-    pub seeking-end : w ≡ 0 → length ws ≤ at + 1 → Next set ws from ((at + 1) * wordBits)
+    pub seeking-end : w ≡ 0 → to ≤ (at + 1) * wordBits → Next set ws from to ((at + 1) * wordBits)
     seeking-end z h =
-        let i = s .inside in
         let p = s .reached in
         record {
           low = omega arith;
-          high = omega arith;
           passed = none-here z;
           here = λ b. absurd (omega arith);
         }
@@ -155,11 +153,10 @@ module _ (set : Bool) (ws : List ℕ) (from : ℕ) where
     pub found-fits : length ws * wordBits < 2 ^ 32 → at * wordBits + trailingZeros 64 w < 2 ^ 64
     found-fits h = let i = s .inside in let t = trailing-le 64 w in omega (arith, t)
 
-    pub seeking-found : (w ≡ 0 → ⊥) → (t : ℕ) → t ≡ trailingZeros 64 w → Next set ws from (at * wordBits + t)
+    pub seeking-found : (w ≡ 0 → ⊥) → (t : ℕ) → t ≡ trailingZeros 64 w → Next set ws from to (at * wordBits + t)
     seeking-found nz t e =
         record {
           low = low;
-          high = let i = s .inside in omega (arith, t-in);
           passed = λ x a b. go x a b (ltb x (at * wordBits)) refl;
           here = λ b. sym (s .on t t-in low) ∙ t-on;
         }
@@ -207,7 +204,7 @@ module _ (size : ℕ) (ws : List ℕ) where
           least = λ b l e. w .below b (omega arith) e;
         }
 
-    module _ (start : ℕ) (n : Next false ws base start) where
+    module _ (start : ℕ) (n : Next false ws base (length ws * wordBits) start) where
       to-start : Tried start
       to-start = record { below = λ b h e f. go b h e f (ltb b base) refl }
         where
@@ -226,10 +223,9 @@ module _ (size : ℕ) (ws : List ℕ) where
             least = λ b l e. v .below b (omega arith) e;
           }
 
-      module _ (end : ℕ) (m : Next true ws start end) where
-        pub room-found : size ≤ end - start → Room size ws start
-        room-found h =
-            let p = m .high in
+      module _ (end : ℕ) (m : Next true ws start (start + size) end) where
+        pub room-found : start ≤ length ws * wordBits - size → size ≤ length ws * wordBits → size ≤ end - start → Room size ws start
+        room-found g k h =
             record {
               ends = λ b. omega arith;
               clear = λ b x a l. m .passed x a (omega arith);
@@ -256,7 +252,7 @@ module _ (size : ℕ) (ws : List ℕ) where
             let low = m .low in
             let from = n .low in
             let at : end < length ws * wordBits = omega arith in
-            less (m .here at) (n .here (omega arith)) (eqb start end) refl low from at
+            less (m .here (omega arith)) (n .here (omega arith)) (eqb start end) refl low from at
           where
             less : marks ws end ≡ true → not (marks ws start) ≡ true → (t : Bool) → eqb start end ≡ t → start ≤ end → base ≤ start
                 → end < length ws * wordBits → length ws * wordBits - end < length ws * wordBits - base

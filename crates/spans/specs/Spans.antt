@@ -7,7 +7,8 @@
 --     Marked from to ws r vs   of any span: the same, or where it does not lie within, false was told and the map left alone
 --     sought set ws x          bit x is set, or where `set` is false, is not
 --     Looked set ws at r       the bits of r are those of word `at` that are sought
---     Next set ws from r       r is the first bit from `from` on that is sought, or the end of the map where there is none
+--     Next set ws from to r    r is the first bit from `from` on that is sought, or where none lies before `to`, one at or
+--                              after it
 --     Room size ws r           r is the least start of that many clear bits in a row, or the end of the map where there is none
 -- Assumes nothing.
 use mathlib.Core.Path.{_≡_}
@@ -50,11 +51,10 @@ pub record Looked (set : Bool) (ws : List ℕ) (at r : ℕ) : Type 0 where
   pub small : r < 2 ^ wordBits
   pub bits : (i : ℕ) → i < wordBits → has i r ≡ sought set ws (at * wordBits + i)
 
-pub record Next (set : Bool) (ws : List ℕ) (from r : ℕ) : Type 0 where
+pub record Next (set : Bool) (ws : List ℕ) (from to r : ℕ) : Type 0 where
   pub low : from ≤ r
-  pub high : r ≤ length ws * wordBits
   pub passed : (x : ℕ) → from ≤ x → x < r → sought set ws x ≡ false
-  pub here : r < length ws * wordBits → sought set ws r ≡ true
+  pub here : r < to → sought set ws r ≡ true
 
 pub record Room (size : ℕ) (ws : List ℕ) (r : ℕ) : Type 0 where
   pub ends : r < length ws * wordBits → r + size ≤ length ws * wordBits

@@ -8,10 +8,10 @@ use Rattle.spans.proofs.next.Statement.{statement}
 use Rattle.spans.proofs.next.Tie as tie
 
 abbrev Inv-loop : tie.InvT-loop
-Inv-loop map from set at₀ w₀ at w = Seeking set map from at w
+Inv-loop map from to set at₀ w₀ at w = Seeking set map from at w
 
 abbrev μ-loop : tie.MeasureT-loop
-μ-loop map from set at₀ w₀ at w = length map - at
+μ-loop map from to set at₀ w₀ at w = length map - at
 
 loop-holds : tie.Need-loop-holds Inv-loop μ-loop
 loop-holds c = search (needs, seeking-first)

@@ -1,6 +1,7 @@
 -- No start below the one that is tried has room (`Tried`); each turn that finds none goes on behind a bit that is set.
 -- Assumes nothing.
 use Prim.Native.Nat.{_-_, _*_}
+use native.Mathlib.Omega.{arith}
 use lib.ListN.{length}
 use Rattle.spans.specs.Spans.{wordBits}
 use Rattle.spans.proofs.NextLaws.{Tried, tried-none, tried-all, room-none, room-found, tried-more, room-rises}
@@ -21,7 +22,9 @@ returns : tie.Need-returns Inv-loop μ-loop
 returns c = search (needs, room-none)
 
 returns-2 : tie.Need-returns-2 Inv-loop μ-loop
-returns-2 c = search (needs, room-found)
+returns-2 c =
+    room-found _ _ (omega arith) _ (search needs) _ (c .before .before .before .next .ensures) _ (c .before .next2 .ensures)
+    (omega arith) (omega arith) (omega arith)
 
 loop-less : tie.Need-loop-less Inv-loop μ-loop
 loop-less c = search (needs, room-rises)
@@ -43,6 +46,7 @@ room-spec =
     loop-holds
     (λ c κs. search needs)
     returns
+    (λ c. search needs)
     (λ c κs. search needs)
     (λ c. search needs)
     returns-2
