@@ -199,6 +199,7 @@ module _ (size : ℕ) (ws : List ℕ) where
     pub tried-all : length ws * wordBits - size < base → Room size ws (length ws * wordBits)
     tried-all h =
         record {
+          bound = omega arith;
           ends = λ b. absurd (omega arith);
           clear = λ b. absurd (omega arith);
           least = λ b l e. w .below b (omega arith) e;
@@ -218,6 +219,7 @@ module _ (size : ℕ) (ws : List ℕ) where
       room-none h =
           let v = to-start in
           record {
+            bound = omega arith;
             ends = λ b. absurd (omega arith);
             clear = λ b. absurd (omega arith);
             least = λ b l e. v .below b (omega arith) e;
@@ -227,6 +229,7 @@ module _ (size : ℕ) (ws : List ℕ) where
         pub room-found : start ≤ length ws * wordBits - size → size ≤ length ws * wordBits → size ≤ end - start → Room size ws start
         room-found g k h =
             record {
+              bound = omega arith;
               ends = λ b. omega arith;
               clear = λ b x a l. m .passed x a (omega arith);
               least = to-start .below;

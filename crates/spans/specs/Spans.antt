@@ -57,6 +57,7 @@ pub record Next (set : Bool) (ws : List ℕ) (from to r : ℕ) : Type 0 where
   pub here : r < to → sought set ws r ≡ true
 
 pub record Room (size : ℕ) (ws : List ℕ) (r : ℕ) : Type 0 where
+  pub bound : r ≤ length ws * wordBits
   pub ends : r < length ws * wordBits → r + size ≤ length ws * wordBits
   pub clear : r < length ws * wordBits → (x : ℕ) → r ≤ x → x < r + size → marks ws x ≡ false
   pub least : (b : ℕ) → b < r → b + size ≤ length ws * wordBits → ((x : ℕ) → b ≤ x → x < b + size → marks ws x ≡ false) → ⊥
