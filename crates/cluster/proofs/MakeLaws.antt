@@ -23,7 +23,7 @@ use Rattle.store.specs.declared.Store.{Store}
 use Rattle.store.specs.declared.Found.{Found}
 use Rattle.store.specs.declared.Found.the-variants.{At, Nowhere}
 use Rattle.store.specs.Records.{Tables, tableOf, clusterAt, tableAt, placeOf, putRecord, withPlace, address}
-use Rattle.store.specs.Sound.{isAbsent}
+use Rattle.store.specs.Sound.{isAbsent, sound}
 use Rattle.store.specs.Placement.{Placed, roomAt, placedAt, newBase, placement, placedBy}
 use Rattle.store.proofs.PlaceLaws.{Inside, inside-out}
 use Rattle.store.proofs.PlacementLaws.{Fits, newBase-fits}
@@ -75,6 +75,12 @@ module _ (sd : Bool) (h : Handle) (c : Cluster) (current segment size : ℕ) (n 
 
     pub make-none : not v ≡ false → 0 ≡ firstOf (makeRows sd h c current segment size)
     make-none t = sym (last false t)
+
+-- where none of them applies, none of those that a cluster's owner meets does
+make-zero : (sd : Bool) (h : Handle) (c : Cluster) (current segment size : ℕ)
+    → firstOf (makeRows sd h c current segment size) ≡ 0 → firstOf (ownerRows sd h c current (badFields h segment size)) ≡ 0
+make-zero sd h c current segment size z =
+    after-zero _ _ (sym (joined sd h c current segment size _ _ refl refl) ∙ z) .0
 
 -- ---- the bounds, tested
 
@@ -159,6 +165,14 @@ module _ (s : Store) (m b : List ℕ) (current segment size : ℕ) where
       ∙ first-append (makeRows (judged s m b) k (found s m b) current segment size)
       (row 16 (eqb (placement (tableAt s) (nodeOf k) size .number) noRoomNumber) ∷ []) (omega arith)
 
+  -- the store in which placement is asked for is sound
+  pub segment-sound : (sd : Bool) (h : Handle) (c : Cluster) → Given sd h c s m b
+      → firstOf (makeRows sd h c current segment size) ≡ 0 → sound s memory ≡ true
+  segment-sound sd h c g z =
+      let p = owner-passed sd h c current (badFields h segment size) (make-zero sd h c current segment size z) in
+      let e : sound s (length m) ≡ true = sym (g .sound) ∙ not-false sd (p .sound) in
+      ap (sound s) (sym (sound-out s (length m) e .whole)) ∙ e
+
   abbrev Refuses : Bool → Handle → Cluster → Type 0
   Refuses sd h c = (n : ℕ) → n ≡ Rows sd h c → (n ≡ 0 → ⊥) → ended s m (numberAlone n) [] ≡ aesStep x (copyOf s m)
 
@@ -171,9 +185,7 @@ module _ (s : Store) (m b : List ℕ) (current segment size : ℕ) where
 
   module _ (z : Rows (judged s m b) k (found s m b) ≡ 0) where
     owner : firstOf (ownerRows (judged s m b) k (found s m b) current (badFields k segment size)) ≡ 0
-    owner =
-        after-zero _ _
-        (sym (joined (judged s m b) k (found s m b) current segment size _ _ refl refl) ∙ z) .0
+    owner = make-zero (judged s m b) k (found s m b) current segment size z
 
     passed : Passed (judged s m b) k
     passed = owner-passed (judged s m b) k (found s m b) current (badFields k segment size) owner

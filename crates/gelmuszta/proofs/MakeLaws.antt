@@ -5,12 +5,15 @@ use mathlib.Core.Bool.{Bool, true, false, not}
 use mathlib.Core.List.{List, []}
 use Prim.Native.Nat.{ℕ}
 use lib.ListN.{length}
+use borrow.Author.Tests.{not-false}
+use Rattle.loops.proofs.BelowLaws.{and-right}
 use Rattle.sizes.specs.Sizes.{memory}
 use Rattle.handle.specs.Handles.{nodeOf, firstOf}
 use Rattle.store.specs.declared.Store.{Store}
 use Rattle.store.specs.declared.Found.{Found}
 use Rattle.store.specs.Records.{tableAt}
-use Rattle.store.specs.Placement.{placement, placedBy}
+use Rattle.store.specs.Sound.{sound}
+use Rattle.store.specs.Placement.{placement, placedBy, PlacedIn}
 use Rattle.calls.specs.declared.RecordLeft.{RecordLeft}
 use Rattle.calls.specs.Calls.{Call, makingSegment}
 use Rattle.calls.specs.Steps.{plain, aesStep}
@@ -18,7 +21,7 @@ use Rattle.calls.specs.Answers.{copyOf, ended, numberAlone}
 use Rattle.refusals.specs.Given.{Given, recordFound, put}
 use Rattle.cluster.specs.inner.Makes.{makeRows}
 use Rattle.cluster.proofs.MakeLaws.{segment-refused}
-use Rattle.image.specs.Images.{storeIn}
+use Rattle.image.specs.Images.{storeIn, good}
 use Rattle.gelmuszta.specs.declared.Opened.{Opened}
 use Rattle.gelmuszta.specs.inner.Opened.{Opens, Kept}
 use Rattle.gelmuszta.specs.Exported.{leaving, exported}
@@ -41,7 +44,7 @@ module _ (b m hb : List ℕ) (current segment size : ℕ) (e : length m ≡ memo
       (new-segment-silent (x .args))
 
   pub new-segment-kept : n ≡ 0 → (v : ℕ) → v ≡ nodeOf (o .handle) → (f : Found)
-      → placedBy f ≡ placement (tableAt (storeIn b)) v size → (after : List ℕ) (l : RecordLeft)
+      → PlacedIn (storeIn b) v size f → (after : List ℕ) (l : RecordLeft)
       → ((sd : Bool) (s : Store) (d : List ℕ) (i : ℕ) → Given sd (o .handle) (o .cluster) s m d
       → firstOf (makeRows sd (o .handle) (o .cluster) i segment size) ≡ 0
       → placedBy f ≡ placement (tableAt s) (nodeOf (o .handle)) size
@@ -51,5 +54,8 @@ module _ (b m hb : List ℕ) (current segment size : ℕ) (e : length m ≡ memo
   new-segment-kept z v ev f ef after l core image k =
       kept-silent b m e (o .sound) (w .sound) (w .whole) held x (o .at) (recordFound (o .handle)) (w .at) l after
       (core true (storeIn b) hb current (given-of b m hb e o w held) (sym en ∙ z)
-      (ef ∙ ap (λ (u : ℕ). placement (tableAt (storeIn b)) u size) ev))
+      (ef .told whole ∙ ap (λ (u : ℕ). placement (tableAt (storeIn b)) u size) ev))
       image k (new-segment-silent (x .args))
+    where
+      whole : sound (storeIn b) memory ≡ true
+      whole = and-right (good b) (sound (storeIn b) memory) (sym (w .sound) ∙ not-false (o .sound) held)

@@ -12,7 +12,7 @@ use Rattle.store.specs.declared.Cluster.{Cluster}
 use Rattle.store.specs.declared.Store.{Store}
 use Rattle.store.specs.declared.Found.{Found}
 use Rattle.store.specs.Records.{clusterAt, tableAt, putRecord, recordAt}
-use Rattle.store.specs.Placement.{placement, placedBy}
+use Rattle.store.specs.Placement.{placement, placedBy, PlacedIn}
 use Rattle.store.specs.Sound.{sound}
 use Rattle.calls.specs.declared.Left.{Left}
 use Rattle.calls.specs.declared.RecordLeft.{RecordLeft}
@@ -21,7 +21,7 @@ use Rattle.calls.specs.Steps.{aesStep}
 use Rattle.calls.specs.Answers.{copyOf, ended, leftAlone}
 use Rattle.refusals.specs.Given.{Given, GivenPlace, recordFound, put}
 use Rattle.cluster.specs.inner.Makes.{makeRows}
-use Rattle.cluster.proofs.MakeLaws.{segment-refused}
+use Rattle.cluster.proofs.MakeLaws.{segment-refused, segment-sound}
 use Rattle.guard.specs.declared.Opened.{Opened}
 use Rattle.guard.specs.inner.Opens.{Opens, putBack}
 
@@ -64,7 +64,7 @@ module _ (s : Store) (m b : List ℕ) (current segment size : ℕ) (o : Opened) 
       ∙ segment-refused s m b current segment size (o .sound) (o .handle) (o .cluster) (w .given m refl) n en t
 
   -- what the core promises, asked of these records, and put back
-  pub new-segment-left : n ≡ 0 → (v : ℕ) → v ≡ nodeOf (o .handle) → (f : Found) → placedBy f ≡ placement (tableAt s) v size
+  pub new-segment-left : n ≡ 0 → (v : ℕ) → v ≡ nodeOf (o .handle) → (f : Found) → PlacedIn s v size f
       → (after : List ℕ) (l : RecordLeft)
       → ((sd : Bool) (t : Store) (d : List ℕ) (i : ℕ) → Given sd (o .handle) (o .cluster) t m d
       → firstOf (makeRows sd (o .handle) (o .cluster) i segment size) ≡ 0
@@ -74,4 +74,6 @@ module _ (s : Store) (m b : List ℕ) (current segment size : ℕ) (o : Opened) 
       → ended (r .store) after (r .answer) [] ≡ aesStep (makingSegment current segment size b) (copyOf s m)
   new-segment-left z v ev f ef after l core =
       put-back-is s m after (makingSegment current segment size b) (o .at) (recordFound (o .handle)) (w .at) l
-      (core (o .sound) s b current (w .given m refl) (sym en ∙ z) (ef ∙ ap (λ (u : ℕ). placement (tableAt s) u size) ev))
+      (core (o .sound) s b current (w .given m refl) (sym en ∙ z)
+      (ef .told (segment-sound s m b current segment size (o .sound) (o .handle) (o .cluster) (w .given m refl) (sym en ∙ z))
+      ∙ ap (λ (u : ℕ). placement (tableAt s) u size) ev))

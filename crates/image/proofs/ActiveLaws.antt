@@ -2,31 +2,26 @@
 -- absent and not frozen, so its five bytes are zeros, and zeros are such a segment, which leaves the map as it is.
 -- Assumes nothing.
 use mathlib.Core.Path.{_≡_, refl, sym, ap, _∙_, subst}
-use mathlib.Core.Bool.{Bool, true, false, not, _&&_, _||_, true≢false}
+use mathlib.Core.Bool.{Bool, true, false, not, _&&_, true≢false}
 use mathlib.Core.List.{List}
-use Prim.Native.Nat.{ℕ, zero, suc, _+_, _*_, _-_, _/_, _%_, _≤_, _<_}
+use Prim.Native.Nat.{ℕ, _+_, _*_, _-_, _/_, _%_, _≤_, _<_}
 use native.Mathlib.Omega.{arith}
 use native.Mathlib.Decide.{decLt}
 use mir.Syntax.{w8}
 use mir.Val.{Fits}
-use lib.Dec.{eqb}
 use lib.ListN.{length, getD, replicate, length-replicate, getD-replicate}
 use lib.Seq.{ext-getD}
-use borrow.Author.Tests.{eqb-true, lt-ltb, le-ltb, not-true, not-false}
+use borrow.Author.Tests.{lt-ltb, not-true, not-false}
 use Rattle.bits.specs.Bytes.{bytes, word, wordFrom, Bytes}
 use Rattle.loops.specs.Below.{every}
-use Rattle.loops.specs.Turns.{turns}
 use Rattle.loops.proofs.BelowLaws.{and-left, and-right, and-both, tests-equal, test-off, every-at, every-in}
-use Rattle.loops.proofs.TurnLaws.{turns-more}
 use Rattle.sizes.specs.Sizes.{segments}
-use Rattle.store.specs.declared.Place.{Place}
-use Rattle.store.specs.declared.Place.the-variants.{Absent}
 use Rattle.store.specs.declared.Segment.{Segment}
 use Rattle.store.specs.Records.{absentSegment, tableOf, segmentOf, placeOf}
 use Rattle.store.specs.Sound.{inRanges, endsInside, inside, isAbsent, soundMark, soundSegment, isWidth, soundWidth, allowed}
 use Rattle.store.specs.Sound.{below, sized, settled}
-use Rattle.store.specs.inner.Passes.{Map, free, claimable, stamped, stampedBy, claims}
-use Rattle.store.proofs.SoundLaws.{settled-active, settled-width, sized-settled, sized-at, allowed-absent, allowed-below}
+use Rattle.store.specs.inner.Passes.{Map, free, claimable, stampedBy, claims}
+use Rattle.store.proofs.SoundLaws.{settled-active, settled-width, sized-settled, allowed-absent, allowed-below}
 use Rattle.image.specs.Parts.{part, slot}
 use Rattle.image.specs.Images.{segmentBytes, recordBytes, widthAt, segmentsAt, flagIn, goodFlag, placeIn, segmentIn}
 use Rattle.image.specs.Images.{segmentHeld, clusterIn, goodPlace, goodSegment, goodSegments, goodRecord}
@@ -36,20 +31,8 @@ use Rattle.image.proofs.PartLaws.{length-slot, getD-slot, getD-part, by
 use Rattle.image.proofs.SegmentTripLaws.{segment-back}
 use Rattle.image.proofs.ZeroLaws.{zeros-at, zeros-in}
 use Rattle.image.proofs.IdleLaws.{claimed-mark, none-marked}
-use Rattle.image.proofs.ClaimLaws.{stamped-same, claims-same, found-is, placed-is}
-
--- ---- the three widths
-
-low-width : (w : ℕ) → isWidth w ≡ true → w ≤ 16
-low-width w e = go (eqb w 4) refl (eqb w 8) refl e
-  where
-    go : (x : Bool) → eqb w 4 ≡ x → (y : Bool) → eqb w 8 ≡ y → (x || (y || eqb w 16)) ≡ true → w ≤ 16
-    go true p y r e = let z = eqb-true w 4 p in omega arith
-    go false p true r e = let z = eqb-true w 8 r in omega arith
-    go false p false r e = let z = eqb-true w 16 e in omega arith
-
-pub width-low : (w : ℕ) (t : Bool) → t ≡ isWidth w → not t ≡ false → w ≤ 16
-width-low w t q e = low-width w (sym q ∙ not-false t e)
+use Rattle.image.proofs.ClaimLaws.{claims-same, found-is, placed-is}
+use Rattle.image.proofs.WidthLaws.{low-width, upper-absent, stamped-width}
 
 -- ---- five zeros
 
@@ -71,23 +54,6 @@ five-out = refl
 absent-claimable : (map : Map) → claimable absentSegment map ≡ true
 unfolding claimable soundSegment soundMark inside inRanges endsInside free
 absent-claimable map = refl
-
-absent-leaves : (map : Map) → stamped Absent map ≡ map
-unfolding stamped inside inRanges endsInside
-absent-leaves map = refl
-
--- turns that leave all as it is
-turns-rest : {A : Type 0} (f : ℕ → A → A) (a : A) (w d : ℕ) → ((k : ℕ) → w ≤ k → k < w + d → (x : A) → f k x ≡ x)
-    → turns (w + d) f a ≡ turns w f a
-turns-rest f a w zero h = ap (λ (n : ℕ). turns n f a) (omega arith)
-turns-rest f a w (suc d) h =
-    ap (λ (n : ℕ). turns n f a) next
-    ∙ turns-more (w + d) f a
-    ∙ h (w + d) (omega arith) (omega arith) (turns (w + d) f a)
-    ∙ turns-rest f a w d (λ k l b. h k l (omega arith))
-  where
-    next : w + suc d ≡ w + d + 1
-    next = omega arith
 
 -- ---- the segments of a record
 
@@ -208,17 +174,9 @@ module _ (b : List ℕ) (long : length b ≡ recordBytes) (known : (i : ℕ) →
             and-right (goodSegment (slot segmentBytes table k)) _ (each k h))))
 
         stamps : stampedBy w (placesIn table) before ≡ stampedBy segments (placeOf (tableOf (clusterIn b))) before
-        unfolding stampedBy
         stamps =
-            sym (ap (λ (n : ℕ). stampedBy n (placesIn table) before) full
-            ∙ turns-rest (λ k. stamped (placesIn table k)) before w (segments - w) (λ k l h x.
-            ap (λ (p : Place). stamped p x)
-            (ap (λ (g : Segment). g .place) (ap segmentIn (upper-zero z k l (omega (arith, low))) ∙ five-in))
-            ∙ absent-leaves x))
-            ∙ sym (stamped-same (placeOf (tableOf (clusterIn b))) (placesIn table) before segments (placed-is b))
-          where
-            full : segments ≡ w + (segments - w)
-            full = omega (arith, low)
+            stamped-width b before w low (λ k l h.
+            ap (λ (g : Segment). isAbsent (g .place)) (ap segmentIn (upper-zero z k l h) ∙ five-in))
 
       -- the other way round
       module _ (t : recordSound b before ≡ true) where
@@ -244,14 +202,10 @@ module _ (b : List ℕ) (long : length b ≡ recordBytes) (known : (i : ℕ) →
 
         upper : zeros (part b from recordBytes) ≡ true
         upper =
-            zero-upper (λ k l h. none-five k h (good-at k h) (absent k l h) (claimed-mark (segmentHeld table) before held k h))
-          where
-            absent : (k : ℕ) → w ≤ k → k < segments → isAbsent (placesIn table k) ≡ true
-            absent k l h =
-                ap isAbsent (sym (placed-is b k h))
-                ∙ ap (λ (t : Bool). t || isAbsent (placeOf (tableOf (clusterIn b)) k)) (sym (le-ltb k w l))
-                ∙ ap (λ (n : ℕ). allowed (placeOf (tableOf (clusterIn b)) k) k n) (sym width-is)
-                ∙ sized-at (clusterIn b) (sized-settled (clusterIn b) (and-left (settled (clusterIn b)) _ calm)) k h
+            zero-upper (λ k l h.
+            none-five k h (good-at k h)
+            (upper-absent b (sized-settled (clusterIn b) (and-left (settled (clusterIn b)) _ calm)) k l h)
+            (claimed-mark (segmentHeld table) before held k h))
 
     -- the code's two ways
     pub record-active : (t : Bool) → t ≡ isWidth (getD b widthAt 0) → not t ≡ false → (r : Bool) (after : Map)

@@ -40,33 +40,38 @@ module _ (b : List ℕ) where
   abbrev pub passes : ℕ → ℕ → Bool
   passes node l = recordSound (slot recordBytes b (recordOf node l)) (nodeMap (tableAt (storeIn b)) node l)
 
+  -- the map with the segments of no record of the node, and of one more
+  pub map-none : (node : ℕ) → marks (replicate mapWords 0) ≡ nodeMap (tableAt (storeIn b)) node 0
+  unfolding nodeMap
+  map-none node =
+      (λ j x. marks-none mapWords x j) ∙ sym (turns-none (λ m. stampedBy segments (placeOn tables node m)) blank)
+
+  pub map-more : (node l : ℕ) (map after : Map) → node < nodes → l < clusters → map ≡ nodeMap (tableAt (storeIn b)) node l
+      → after ≡ stampedBy segments (placeOf (tableOf (clusterIn (slot recordBytes b (recordOf node l))))) map
+      → after ≡ nodeMap (tableAt (storeIn b)) node (l + 1)
+  unfolding nodeMap
+  map-more node l map after hv h m e =
+      e
+      ∙ ap (stampedBy segments (placeOf (tableOf (clusterIn (bytesOf node l))))) m
+      ∙ ap (λ (c : Cluster). stampedBy segments (placeOf (tableOf c)) (nodeMap tables node l))
+      (sym (cluster-at b (recordOf node l) (omega arith)))
+      ∙ sym (turns-more l (λ m. stampedBy segments (placeOn tables node m)) blank)
+
   -- l records of the node were judged
   pub record Judged (node l : ℕ) (ok : Bool) (map : Map) : Type 0 where
     pub told : Running clusters (passes node) l ok
     pub left : ok ≡ true → map ≡ nodeMap tables node l
 
   pub judged-none : (node : ℕ) → Judged node 0 true (marks (replicate mapWords 0))
-  unfolding nodeMap
-  judged-none node =
-      record {
-        told = running-none _ _;
-        left = λ t.
-            (λ j x. marks-none mapWords x j) ∙ sym (turns-none (λ m. stampedBy segments (placeOn tables node m)) blank);
-      }
+  judged-none node = record { told = running-none _ _; left = λ t. map-none node }
 
   module _ (node l : ℕ) (ok : Bool) (map : Map) (w : Judged node l ok map) where
     pub judged-more : (r : Bool) (after : Map) → node < nodes → l < clusters
         → RecordClaimed (slot recordBytes b (recordOf node l)) map r after → Judged node (l + 1) (r && ok) after
-    unfolding nodeMap
     judged-more r after hv h e =
         record {
           told = telling ok (w .told) (w .left);
-          left = λ t.
-              e .left (and-left r ok t)
-              ∙ ap (stampedBy segments (placeOf (tableOf (clusterIn (bytesOf node l))))) (w .left (and-right r ok t))
-              ∙ ap (λ (c : Cluster). stampedBy segments (placeOf (tableOf c)) (nodeMap tables node l))
-              (sym (cluster-at b (recordOf node l) (omega arith)))
-              ∙ sym (turns-more l (λ m. stampedBy segments (placeOn tables node m)) blank);
+          left = λ t. map-more node l map after hv h (w .left (and-right r ok t)) (e .left (and-left r ok t));
         }
       where
         telling : (t : Bool) → Running clusters (passes node) l t → (t ≡ true → map ≡ nodeMap tables node l)

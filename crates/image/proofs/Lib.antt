@@ -8,9 +8,11 @@ pub mod RangeLaws
 pub mod WordLaws
 pub mod LiteralLaws
 pub mod ClaimLaws
+pub mod WidthLaws
 pub mod ZeroLaws
 pub mod IdleLaws
 pub mod ActiveLaws
 pub mod ReadLaws
 pub mod JudgeLaws
 pub mod PutLaws
+pub mod DrawLaws

@@ -54,7 +54,7 @@ fn claim_segment(b: &[u8], map: &mut [u64]) -> bool
 }
 
 // Claims so many of the segments in turn.
-fn claim_segments(b: &[u8], count: usize, map: &mut [u64]) -> bool
+pub fn claim_segments(b: &[u8], count: usize, map: &mut [u64]) -> bool
     requires { ⌜ (length (now b) ≡ segments * images.segmentBytes) × (count ≤ segments)
         × (length (now map) ≡ mapWords) ⌝ }
     ensures { λ r. ⌜ claims.SegmentsClaimed (now (b .entry)) count (marks (now (map .entry))) r (marks (now (map .exit))) ⌝ }

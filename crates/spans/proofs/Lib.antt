@@ -1,3 +1,4 @@
 pub mod WordLaws
 pub mod SpanLaws
 pub mod MarkLaws
+pub mod NextLaws

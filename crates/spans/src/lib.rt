@@ -1,4 +1,5 @@
-// A map of bits in words of 64: the bits of a span are set word by word, those of its first and its last word by masks.
+// A map of bits in words of 64: the bits of a span are set word by word, those of its first and its last word by masks; bits are
+// looked for word by word, the first in a word by the zeros below it.
 ghost use mathlib.Core.Path.{_≡_};
 ghost use Prim.Native.Nat.{suc, _-_, _*_, _^_, _≤_, _<_};
 ghost use lib.Dec.{eqb};
@@ -86,4 +87,60 @@ pub fn mark(map: &mut [u64], from: usize, to: usize) -> bool
     let inner = whole(map, first + 1, last);
     let z = touch(map, last, high);
     z & (inner & a)
+}
+
+// A word of the map, or where `set` is false, the word of the bits that it lacks.
+fn looked(map: &[u64], at: usize, set: bool) -> u64
+    requires { ⌜ at < length (now map) ⌝ }
+    ensures { λ r. ⌜ spans.Looked set (now (map .entry)) at r ⌝ }
+{
+    let w = map[at];
+    if set {
+        return w;
+    }
+    !w
+}
+
+// The first bit from `from` on that is set, or where `set` is false, is not; where none lies before `to`, one at or after it.
+fn next(map: &[u64], from: usize, to: usize, set: bool) -> usize
+    requires inside { ⌜ (from < to) × (to ≤ length (now map) * spans.wordBits) ⌝ }
+    requires short { ⌜ length (now map) * spans.wordBits < 2 ^ 32 ⌝ }
+    ensures { λ r. ⌜ spans.Next set (now (map .entry)) from to r ⌝ }
+{
+    let mut at = from / WORD;
+    let mut w = looked(map, at, set) & from_on(from % WORD);
+    while w == 0 {
+        at += 1;
+        let first = at * WORD;
+        if to <= first {
+            return first;
+        }
+        w = looked(map, at, set);
+    }
+    let place = u64::trailing_zeros(w);
+    at * WORD + place as usize
+}
+
+// The least start of `size` clear bits in a row; the end of the map where there is none. A run that is too short ends at a bit
+// that is set, and no start up to that bit has room.
+pub fn room(map: &[u64], size: usize) -> usize
+    requires some { ⌜ (1 ≤ size) × (size ≤ length (now map) * spans.wordBits) ⌝ }
+    requires short { ⌜ length (now map) * spans.wordBits < 2 ^ 32 ⌝ }
+    ensures { λ r. ⌜ spans.Room size (now (map .entry)) r ⌝ }
+{
+    let all = map.len() * WORD;
+    let last = all - size;
+    let mut base: usize = 0;
+    while base <= last {
+        let start = next(map, base, all, false);
+        if last < start {
+            return all;
+        }
+        let end = next(map, start, start + size, true);
+        if size <= end - start {
+            return start;
+        }
+        base = end;
+    }
+    all
 }

@@ -1,9 +1,9 @@
 pub mod PlaceLaws
 pub mod MarkLaws
 pub mod MapLaws
-pub mod JumpLaws
 pub mod PlacementLaws
 pub mod SoundLaws
+pub mod RoomLaws
 pub mod QuickLaws
 pub mod ClaimLaws
 pub mod ChangeLaws

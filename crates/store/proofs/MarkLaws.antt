@@ -127,15 +127,30 @@ module _ (c : Cluster) (before : Map) (i : ℕ) (ok : Bool) (map : Map) (w : Cla
 
 -- ---- the clusters of a node
 
--- l clusters had their turn
+-- the map has the segments of l clusters
+pub record Filled (s : Store) (node l : ℕ) (map : Map) : Type 0 where
+  pub turned : Turning clusters (λ m. stampedBy segments (placeOn (tableAt s) node m)) blank l map
+
+pub filled-none : (s : Store) (node : ℕ) → Filled s node 0 (marks (replicate mapWords 0))
+filled-none s node =
+    subst (λ (m : Map). Filled s node 0 m) (λ j x. sym (marks-none mapWords x) j) (record { turned = turning-none _ _ _ })
+
+module _ (s : Store) (node l : ℕ) (map : Map) (w : Filled s node l map) where
+  pub filled-more : (b : Bool) (after : Map) → l < clusters → ClaimedAll (clusterAt s (recordOf node l)) map b after
+      → Filled s node (l + 1) after
+  filled-more b after h f = record { turned = turning-more _ _ blank l map (w .turned) after h (f .left) }
+
+  pub filled-all : clusters ≤ l → map ≡ nodeMap (tableAt s) node clusters
+  unfolding nodeMap
+  filled-all h = turning-all _ _ blank l map (w .turned) h
+
+-- and `ok` tells whether each was sound in its turn
 pub record Passing (s : Store) (node l : ℕ) (ok : Bool) (map : Map) : Type 0 where
   pub told : Running clusters (clusterSound s node) l ok
-  pub left : Turning clusters (λ m. stampedBy segments (placeOn (tableAt s) node m)) blank l map
+  pub left : Filled s node l map
 
 pub passing-none : (s : Store) (node : ℕ) → Passing s node 0 true (marks (replicate mapWords 0))
-passing-none s node =
-    subst (λ (m : Map). Passing s node 0 true m) (λ j x. sym (marks-none mapWords x) j)
-    (record { told = running-none _ _; left = turning-none _ _ _ })
+passing-none s node = record { told = running-none _ _; left = filled-none s node }
 
 module _ (s : Store) (node l : ℕ) (ok : Bool) (map : Map) (w : Passing s node l ok map) where
   pub passing-more : (a b : Bool) (after : Map) → l < clusters
@@ -149,8 +164,8 @@ module _ (s : Store) (node l : ℕ) (ok : Bool) (map : Map) (w : Passing s node 
             running-more _ _ l ok (w .told) (a && b) h
             (ap (λ (x : Bool). x && b) e
             ∙ ap (λ (x : Bool). settled (clusterAt s (recordOf node l)) && x)
-            (f .told ∙ ap (λ (m : Map). claims segments (segmentOn (tableAt s) node l) m) (w .left .told)));
-        left = turning-more _ _ blank l map (w .left) after h (f .left);
+            (f .told ∙ ap (λ (m : Map). claims segments (segmentOn (tableAt s) node l) m) (w .left .turned .told)));
+        left = filled-more s node l map (w .left) b after h f;
       }
 
   pub passing-all : clusters ≤ l → ok ≡ every clusters (clusterSound s node)

@@ -8,20 +8,24 @@
 --     placedAt o                that of the base found, or of none
 --     placement ts node size    what a new segment of that size is told, once its place and its size are good
 --     placedBy                  what each case of the code's answer says
+--     PlacedIn s node size r    the answer r is the placement of that many bytes on the node, where the store s is sound:
+--                               in any other nothing is placed, since a call on it is refused with 1
 -- Assumes nothing.
 use Prim.Native.Nat.{ℕ}
-use mathlib.Core.Bool.{Bool, _&&_}
+use mathlib.Core.Path.{_≡_}
+use mathlib.Core.Bool.{Bool, true, _&&_}
 use mathlib.Core.Option.{Option, none, some}
 use lib.Dec.{ltb}
 use Rattle.loops.specs.Below.{every}
 use Rattle.loops.specs.Search.{least}
 use Rattle.store.specs.declared.Place.{Place}
 use Rattle.store.specs.declared.Place.the-variants.{Present}
+use Rattle.store.specs.declared.Store.{Store}
 use Rattle.store.specs.declared.Found.{Found}
 use Rattle.store.specs.declared.Found.the-variants.{At, Nowhere}
-use Rattle.sizes.specs.Sizes.{nodes, clusters, segments, nodeMemory}
-use Rattle.store.specs.Records.{Tables, placeOn}
-use Rattle.store.specs.Sound.{inside, apart}
+use Rattle.sizes.specs.Sizes.{nodes, clusters, segments, nodeMemory, memory}
+use Rattle.store.specs.Records.{Tables, tableAt, placeOn}
+use Rattle.store.specs.Sound.{inside, apart, sound}
 use Rattle.numbers.specs.Numbers.{noRoomNumber}
 
 unfoldable pub clear : Tables → ℕ → Place → Bool
@@ -53,3 +57,6 @@ placement ts node size = placedAt (newBase ts node size)
 abbrev pub placedBy : Found → Placed
 placedBy (At base) = roomAt base
 placedBy Nowhere = noRoom
+
+pub record PlacedIn (s : Store) (node size : ℕ) (r : Found) : Type 0 where
+  pub told : sound s memory ≡ true → placedBy r ≡ placement (tableAt s) node size

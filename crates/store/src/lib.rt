@@ -3,8 +3,8 @@ mod placement; // placement.rt: the base of a new segment
 mod records; // records.rt: the parts of a record, read and replaced
 mod soundness; // soundness.rt: the test of the records and of the slice's length
 
+pub use placement::base_in;
 pub use placement::new_base;
-pub use placement::past;
 pub use records::READ_MODE;
 pub use records::WRITE_MODE;
 pub use records::absent;

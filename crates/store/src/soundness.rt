@@ -45,7 +45,7 @@ fn claim(segment: Segment, map: &mut [u64]) -> bool
 }
 
 // Claims each segment of a cluster in turn.
-fn claim_all(cluster: Cluster, map: &mut [u64]) -> bool
+pub fn claim_all(cluster: Cluster, map: &mut [u64]) -> bool
     requires { ⌜ length (now map) ≡ passes.mapWords ⌝ }
     ensures { λ r. ⌜ passes.ClaimedAll cluster (marks (now (map .entry))) r (marks (now (map .exit))) ⌝ }
 {

@@ -6,6 +6,7 @@
 --     SegmentClaimed, SegmentsClaimed    what is told of five bytes, and of so many times five, and the map that is left
 --     ActiveClaimed          the bytes of an active record at or above its width are zeros, and so many segments are claimed
 --     RecordClaimed          what is told of a record, and the map that is left; of one that is refused nothing is said
+--     RecordMarked           the map that is left by the segments of a record, where its cluster is settled
 -- Assumes nothing.
 use mathlib.Core.Path.{_≡_}
 use mathlib.Core.Bool.{Bool, true, _&&_}
@@ -51,3 +52,6 @@ pub record ActiveClaimed (b : List ℕ) (width : ℕ) (before : Map) (r : Bool) 
 pub record RecordClaimed (b : List ℕ) (before : Map) (r : Bool) (after : Map) : Type 0 where
   pub told : r ≡ recordSound b before
   pub left : r ≡ true → after ≡ stampedBy segments (placeOf (tableOf (clusterIn b))) before
+
+pub record RecordMarked (b : List ℕ) (before after : Map) : Type 0 where
+  pub left : settled (clusterIn b) ≡ true → after ≡ stampedBy segments (placeOf (tableOf (clusterIn b))) before

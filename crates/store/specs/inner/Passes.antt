@@ -1,4 +1,4 @@
--- What the code's passes over a node's segments work out: a map of its bytes, and the next base to try.
+-- What the code's pass over a node's segments works out: a map of its bytes, and the base that the map tells.
 --     Map                       which bytes of a node's memory are marked
 --     mapWords                  the words of a map in the code, a bit for each byte
 --     holds x p                 byte x is one of the place's
@@ -10,13 +10,11 @@
 --     Claimed, ClaimedAll       what is told of a segment, and of a cluster's segments, and how the map is left
 --     blank, nodeMap            a node's map with no byte marked, and after the segments of l clusters
 --     clusterSound s node l     cluster l of a node is settled, and its segments were claimable
---     endOf p                   where the bytes of a present place end
---     past size p base          the base to try after base: the same, or the end of a place in the way
---     climb n ps size base      the base to try after n places
---     nodeClimb                 the base to try after all segments of a node
+--     Mapped ts node map        the places of a node lie inside its memory, and the map is that of all its segments
+--     Based map size r          r is the placement of that many bytes on every node whose map this is
 -- Assumes nothing.
 use mathlib.Core.Path.{_≡_}
-use Prim.Native.Nat.{ℕ, _+_}
+use Prim.Native.Nat.{ℕ, _+_, _<_}
 use mathlib.Core.Bool.{Bool, true, false, not, _&&_, _||_}
 use lib.Dec.{leb, ltb}
 use Rattle.loops.specs.Below.{every}
@@ -26,10 +24,12 @@ use Rattle.store.specs.declared.Place.the-variants.{Absent, Present}
 use Rattle.store.specs.declared.Segment.{Segment}
 use Rattle.store.specs.declared.Cluster.{Cluster}
 use Rattle.store.specs.declared.Store.{Store}
-use Rattle.sizes.specs.Sizes.{clusters, segments}
+use Rattle.store.specs.declared.Found.{Found}
+use Rattle.sizes.specs.Sizes.{nodes, clusters, segments}
 use Rattle.store.specs.Records.{Tables, tableOf, recordOf, clusterAt, tableAt}
 use Rattle.store.specs.Records.{segmentOf, segmentOn, placeOf, placeOn}
-use Rattle.store.specs.Sound.{inside, soundSegment, apart, settled}
+use Rattle.store.specs.Sound.{inside, soundSegment, settled}
+use Rattle.store.specs.Placement.{placement, placedBy}
 
 -- ---- marking bytes
 
@@ -78,17 +78,11 @@ clusterSound s node l =
     settled (clusterAt s (recordOf node l))
     && claims segments (segmentOn (tableAt s) node l) (nodeMap (tableAt s) node l)
 
--- ---- jumping from end to end
+-- ---- the base that a map tells
 
-abbrev pub endOf : Place → ℕ
-endOf Absent = 0
-endOf (Present from length) = from + length
+pub record Mapped (ts : Tables) (node : ℕ) (map : Map) : Type 0 where
+  pub within : (l i : ℕ) → l < clusters → i < segments → inside (placeOn ts node l i) ≡ true
+  pub whole : map ≡ nodeMap ts node clusters
 
-unfoldable pub past : ℕ → Place → ℕ → ℕ
-past size p base = elim (apart (Present base size) p) [ true ↦ base | false ↦ endOf p ]
-
-unfoldable pub climb : ℕ → (ℕ → Place) → ℕ → ℕ → ℕ
-climb n ps size base = turns n (λ i. past size (ps i)) base
-
-unfoldable pub nodeClimb : Tables → ℕ → ℕ → ℕ → ℕ
-nodeClimb ts node size base = turns clusters (λ l. climb segments (placeOn ts node l) size) base
+pub record Based (map : Map) (size : ℕ) (r : Found) : Type 0 where
+  pub told : (ts : Tables) (node : ℕ) → node < nodes → Mapped ts node map → placedBy r ≡ placement ts node size

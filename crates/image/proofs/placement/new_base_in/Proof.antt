@@ -1,74 +1,47 @@
--- No base below the one that is tried fits (`Tried`); the inner loop carries it through the records so far, and each pass
--- that changes it raises it. The laws are those of placement among the records.
+-- The records so far are in the map (`Drawn`), which keeps its length; on a sound store the whole map tells the base, by the
+-- law of the records.
 -- Assumes nothing.
 use Prim.Native.Nat.{_-_}
-use Rattle.loops.proofs.TurnLaws.{Turning, turning-none, turning-more}
-use Rattle.sizes.specs.Sizes.{clusters, segments, nodeMemory}
-use Rattle.store.specs.Records.{tableAt, placeOn}
-use Rattle.store.specs.inner.Passes.{climb}
-use Rattle.store.proofs.PlacementLaws.{passed-all, Tried, tried-none, tried-more, tried-all}
-use Rattle.store.proofs.PlacementLaws.{base-no-node, base-no-size, base-too-long, base-found, base-rises}
-use Rattle.image.specs.Images.{storeIn}
-use Rattle.image.proofs.ReadLaws.{climbed}
+use mathlib.Core.Path.{_≡_}
+use lib.ListN.{length}
+use Rattle.sizes.specs.Sizes.{clusters}
+use Rattle.spans.specs.Spans.{marks}
+use Rattle.store.specs.inner.Passes.{mapWords}
+use Rattle.store.proofs.RoomLaws.{placed-no-node, placed-mapped}
+use Rattle.image.proofs.DrawLaws.{Drawn, drawn-none, drawn-more, drawn-all}
 use borrow.Author.Needs.{needs}
 use Rattle.image.proofs.placement.new_base_in.Statement.{statement}
 use Rattle.image.proofs.placement.new_base_in.Tie as tie
 
-abbrev Inv-loop2 : tie.InvT-loop2
-Inv-loop2 image node size all last base next₀ local₀ next local = Turning clusters (λ l. climb segments (placeOn (tableAt (storeIn image)) node l) size) base local next
-
-abbrev μ-loop2 : tie.MeasureT-loop2
-μ-loop2 image node size all last base next₀ local₀ next local = clusters - local
-
 abbrev Inv-loop : tie.InvT-loop
-Inv-loop image node size all last base₀ base = Tried (tableAt (storeIn image)) node size base
+Inv-loop image node size all map₀ local₀ map local = Drawn image node local (marks map) × (length map ≡ mapWords)
 
 abbrev μ-loop : tie.MeasureT-loop
-μ-loop image node size all last base₀ base = nodeMemory - base
+μ-loop image node size all map₀ local₀ map local = clusters - local
 
-returns : tie.Need-returns Inv-loop2 μ-loop2 Inv-loop μ-loop
-returns c = search (needs, base-no-node)
+returns : tie.Need-returns Inv-loop μ-loop
+returns c = search (needs, placed-no-node)
 
-returns-2 : tie.Need-returns-2 Inv-loop2 μ-loop2 Inv-loop μ-loop
-returns-2 c = search (needs, base-no-size)
+loop-holds : tie.Need-loop-holds Inv-loop μ-loop
+loop-holds c = (drawn-none _ _, search needs)
 
-returns-3 : tie.Need-returns-3 Inv-loop2 μ-loop2 Inv-loop μ-loop
-returns-3 c = search (needs, base-too-long)
+loop-again : tie.Need-loop-again Inv-loop μ-loop
+loop-again c = (search (needs, drawn-more), search needs)
 
-loop-holds : tie.Need-loop-holds Inv-loop2 μ-loop2 Inv-loop μ-loop
-loop-holds c = tried-none _ _ _
+slice-aggregate-mark-record : tie.Need-slice-aggregate-mark-record Inv-loop μ-loop
+slice-aggregate-mark-record c = search needs
 
-loop2-holds : tie.Need-loop2-holds Inv-loop2 μ-loop2 Inv-loop μ-loop
-loop2-holds c = turning-none _ _ _
-
-loop2-again : tie.Need-loop2-again Inv-loop2 μ-loop2 Inv-loop μ-loop
-loop2-again c = search (needs, turning-more, climbed)
-
-returns-4 : tie.Need-returns-4 Inv-loop2 μ-loop2 Inv-loop μ-loop
-returns-4 c = search (needs, base-found, passed-all)
-
-loop-less : tie.Need-loop-less Inv-loop2 μ-loop2 Inv-loop μ-loop
-loop-less c = search (needs, base-rises, passed-all)
-
-loop-again : tie.Need-loop-again Inv-loop2 μ-loop2 Inv-loop μ-loop
-loop-again c = search (needs, tried-more, passed-all)
-
-returns-5 : tie.Need-returns-5 Inv-loop2 μ-loop2 Inv-loop μ-loop
-returns-5 c = search (needs, tried-all)
+returns-2 : tie.Need-returns-2 Inv-loop μ-loop
+returns-2 c = search (needs, placed-mapped, drawn-all)
 
 pub new-base-in-spec : {M : Type 1} → statement M
 new-base-in-spec =
     tie.close
     (tie.spec
-    Inv-loop2
-    μ-loop2
     Inv-loop
     μ-loop
     returns
-    returns-2
-    returns-3
     loop-holds
-    loop2-holds
     (λ c. search needs)
     (λ c. search needs)
     (λ c. search needs)
@@ -76,11 +49,10 @@ new-base-in-spec =
     (λ c. search needs)
     (λ c. search needs)
     (λ c. search needs)
+    slice-aggregate-mark-record
     (λ c κs. search needs)
     (λ c. search needs)
     (λ c. search needs)
-    loop2-again
-    returns-4
-    loop-less
     loop-again
-    returns-5)
+    (λ c κs. search needs)
+    returns-2)

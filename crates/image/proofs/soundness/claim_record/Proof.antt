@@ -3,7 +3,8 @@
 use mir.Facts.{fits-8-64}
 use Rattle.image.proofs.ClaimLaws.{record-other}
 use Rattle.image.proofs.IdleLaws.{record-zero}
-use Rattle.image.proofs.ActiveLaws.{width-low, record-active, record-unsized}
+use Rattle.image.proofs.WidthLaws.{width-low}
+use Rattle.image.proofs.ActiveLaws.{record-active, record-unsized}
 use borrow.Author.Needs.{needs}
 use Rattle.image.proofs.soundness.claim_record.Statement.{statement}
 use Rattle.image.proofs.soundness.claim_record.Tie as tie
