@@ -1,23 +1,24 @@
--- P1 to P14 hold: the answers and the numbers of a weakening are computed, whatever the conversion, the passwords, the
--- free mask and, for the numbers, the store. That of P13 is the one below the first row, for its store is sound.
+-- P1 to P14 hold: the answers are those of the handle and the store crate. The numbers of a weakening are computed, whatever
+-- the conversion, the mask and the store. That of P13 is the one below the first row, for its store is sound.
 -- Assumes nothing.
 use Prim.Native.Nat.{ℕ}
 use mathlib.Core.Path.{_≡_, refl, _∙_}
 use mathlib.Core.Bool.{true}
 use mathlib.Core.List.{List, [], _∷_, _++_, map}
 use Rattle.sizes.specs.Sizes.{memory}
-use Rattle.handle.specs.Handles.{Name, weakenNumber, reduced}
-use Rattle.handle.specs.Handles as H
+use Rattle.handle.specs.Handles.{Name}
 use Rattle.handle.specs.Examples as S
+use Rattle.handle.proofs.ExamplesHold as SH
 use Rattle.store.specs.declared.Store.{Store}
 use Rattle.store.specs.Sound.{sound}
 use Rattle.store.specs.Examples as P
 use Rattle.store.specs.Examples.{twoSegments}
+use Rattle.store.proofs.ExampleLaws as PH
 use Rattle.store.proofs.QuickLaws.{quick, quickly, sound-quick}
 use Rattle.calls.specs.Numbers.{number, tests}
 use Rattle.calls.proofs.Computing.{computing}
 use Rattle.calls.proofs.StepLaws.{numberBelow, number-below}
-use Rattle.calls.specs.Examples.{Example, Told, refused, making, answers, weakenings, full, examples, tells}
+use Rattle.calls.specs.Examples.{Example, Told, selected, placed, refused, making, answers, weakenings, full, examples, tells}
 
 twoSegments-quick : quick twoSegments memory ≡ true
 unfolding quickly twoSegments
@@ -42,8 +43,11 @@ module _ (f : Name → List ℕ → ℕ → List ℕ) (password first : List ℕ
   told es = map (λ (e : Example). e .told) es
 
   answers-hold : asked (answers f password first mask s size) ≡ told (answers f password first mask s size)
-  unfolding tells S.examples S.tells P.examples twoSegments weakenNumber reduced H.weakening computing
-  answers-hold = refl
+  unfolding tells S.examples P.examples
+  answers-hold =
+      λ j.
+      map selected (SH.examples-hold (f (record { node = 0; local = 2 })) password first mask j)
+      ++ map placed (PH.examples-hold j)
 
   weakenings-hold : asked (weakenings f password first mask s size) ≡ told (weakenings f password first mask s size)
   unfolding tells number tests computing
