@@ -145,8 +145,11 @@ compared-program:
 	$(MODEL)/streams-against $(BENCHRUN) $(SEED) examples/*.list examples/lists/*.list examples/measured/*.list
 	$(MODEL)/lists-against $(BENCHRUN) $(SEED) $(LISTS)
 compared-library:
-	cargo test --quiet --release --offline --manifest-path tests/library/Cargo.toml
-	cargo run --quiet --release --offline --manifest-path tests/library/Cargo.toml --bin against-library $(SEED) $(CALLS)
+	$(BUILT_QUICKLY) cargo test --quiet --release --offline --manifest-path tests/library/Cargo.toml
+	$(BUILT_QUICKLY) cargo run --quiet --release --offline --manifest-path tests/library/Cargo.toml \
+		--bin against-library $(SEED) $(CALLS)
+# Not optimised across crates: with that the tests take three times as long to build, and run for two thirds of the time.
+BUILT_QUICKLY = CARGO_PROFILE_RELEASE_LTO=off CARGO_PROFILE_RELEASE_CODEGEN_UNITS=16
 
 # make caller          compile and run the caller in C that the README shows, and one that calls every function
 EVERY = $(addprefix examples/c/,every.c freezing.c joining.c widths.c lengths.c)
