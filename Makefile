@@ -8,7 +8,23 @@ SHELL = /bin/bash
 help:
 	@sed -n 's/^# \(make [a-z].*\)/\1/p' Makefile
 
+# ---- what can be asked for
+
+# An unknown setting, and a file that is there as a command, are passed over by make in silence: they are told first.
+COMMANDS = help run show lib test compare caller bench more-edits clean
+COMPARING = test compare caller rust compared-program compared-library
+PARTS = $(COMPARING) need-% benchrun answers
+ASKED := $(or $(MAKECMDGOALS),help)
+TAKES := RT_JOBS $(if $(filter run show,$(ASKED)),LIST) $(if $(filter $(COMPARING),$(ASKED)),LISTS CALLS SEED)
+GIVEN := $(foreach name,$(.VARIABLES),$(if $(filter command,$(firstword $(origin $(name)))),$(name)))
+instead = $(if $(filter LIST,$(TAKES))$(filter %.list %.calls,$1),: write make $(or $(filter run show,$(ASKED)),run) LIST=$1,$2)
+$(foreach word,$(filter-out $(COMMANDS) $(PARTS),$(ASKED)),$(error '$(word)' is no command$(call instead,$(word),: make alone lists them)))
+$(foreach name,$(filter-out $(TAKES),$(GIVEN)),$(error make $(ASKED) takes no '$(name)'$(call instead,$(value $(name)),: it takes $(strip $(TAKES)))))
+
 # ---- what commands need
+
+# The toolchain that the tree was last proved with, as `rt version` says it.
+PROVED_WITH = rattle-kit-5b-plain logic 097e4c862dff5811
 
 BENCHRUN = target/bin/benchrun
 LIBRARY = target/staticlib/libgelmuszta.a
@@ -26,6 +42,10 @@ FOR_python3 = it runs docs/check-statements
 .PHONY: $(NEEDED:%=need-%)
 $(NEEDED:%=need-%): need-%:
 	@command -v $* > /dev/null || { echo "make: $* is not found: $(FOR_$*)" >&2; exit 1; }
+	@$(if $(filter 0,$(MAKELEVEL)),$(TOLD_$*))
+# Another toolchain is no fault.
+TOLD_rt = said=$$(rt version); [ "$$said" = '$(PROVED_WITH)' ] || \
+	echo "make: rt version says $$said; the tree was last proved with $(PROVED_WITH)" >&2
 
 # So is a list that cannot be read. The recipes take its name from the environment, so that it may have any characters.
 LIST ?= examples/sample.list
@@ -38,6 +58,12 @@ need-list:
 	elif [ ! -r "$$LIST" ]; then fault='may not be read'; \
 	else exit 0; fi; \
 	echo "make: LIST=$$LIST $$fault" >&2; exit 1
+	@# text has no byte below a space but tab and line ends; a pipe is not looked into
+	@if [ -f "$$LIST" ] && [ -s "$$LIST" ] && \
+		[ -z "$$(LC_ALL=C tr -d '\11\12\15\40-\377' < "$$LIST" | head -c 1 | od -An -tx1)" ]; then \
+		printf 'make: LIST=%s looks like text, and a list is binary. This makes a list of it:\n    %s %q > %q\n' "$$LIST" \
+			'cargo run --quiet --release --manifest-path tools/Cargo.toml --bin calls2list' "$$LIST" "$${LIST%.calls}.list" >&2; \
+	fi
 
 # Proved and built where a source changed or the program was removed; what is said of it goes to standard error.
 .PHONY: benchrun
@@ -68,9 +94,21 @@ show: need-list need-rt need-cargo need-cc answers
 .PHONY: lib
 lib: need-rt
 	@tools/prove library gelmuszta
+	@$(if $(filter lib,$(MAKECMDGOALS)),echo 'link with: cc -Iinclude FILE.c $(LIBRARY)')
+
+# How many crates or edits rt proves at once. It waits for the slowest of them before it goes on, so one more than there are
+# processors keeps these busy; each takes up to 1.5 GB.
+ifndef RT_JOBS
+RT_JOBS := $(shell n=$$(nproc 2> /dev/null || echo 1); echo $$((n < 4 ? n + 1 : 4)))
+endif
+export RT_JOBS
 
 # make test            the whole gate, from nothing; the last line is rt's 'N passed, 0 failed'
-# Layout, the names in STATEMENTS, Rust tests, proofs, must-fail edits, programs, the comparison with the model.
+# Layout, the names in STATEMENTS, proofs and must-fail edits with the Rust tests beside them, programs, the comparison with the
+# model: that of the library, which is proved once more for its archive, beside that of the program.
+GATE = tests/target
+# not $(MAKE) in the recipe, for make -n would then run the line
+PART = $(MAKE) --no-print-directory
 .PHONY: test
 test: $(NEEDED:%=need-%)
 	docs/check-statements
@@ -79,24 +117,39 @@ test: $(NEEDED:%=need-%)
 	cargo fmt --check --manifest-path tests/library/Cargo.toml
 	cargo fmt --check --manifest-path tools/Cargo.toml
 	cargo fmt --check --manifest-path bench/Cargo.toml
+	@mkdir -p $(GATE)
+	tools/beside $(GATE)/rust.log 'nice -n 19 $(PART) rust' 'rt ci 2>&1 | tee $(GATE)/gate.log'
+	@awk '/^test result/ { passed += $$4; failed += $$6 } END { print "Rust tests: " passed " passed, " failed " failed" }' $(GATE)/rust.log
+	tools/beside $(GATE)/program.log '$(PART) compared-program' '$(PART) caller compared-library'
+	@cat $(GATE)/program.log
+	@tail -n 1 $(GATE)/gate.log
+
+# What needs neither benchrun nor the library.
+.PHONY: rust
+rust: need-cargo need-cc
 	cargo test --quiet --offline --manifest-path tests/Cargo.toml
 	cargo test --quiet --offline --manifest-path tools/Cargo.toml
-	rt ci 2>&1 | tee tests/target/gate.log
-	$(MAKE) --no-print-directory caller compare
-	@tail -n 1 tests/target/gate.log
+	cargo build --quiet --release --offline --manifest-path tests/Cargo.toml
 
 # make compare         benchrun and the library against the separately written model
 # Every example, the ways that input and output can come, lists and calls made by chance, the published handles.
 LISTS ?= 2000
 CALLS ?= 100000
 SEED ?= 1
-.PHONY: compare
-compare: need-rt need-cargo need-cc benchrun lib
+.PHONY: compare compared-program compared-library
+compare: need-rt need-cargo need-cc benchrun lib compared-program compared-library
+
+# These two run no rt, so that they may run beside it; benchrun and the library have to be there.
+compared-program:
 	cargo build --quiet --release --offline --manifest-path tests/Cargo.toml
 	$(MODEL)/streams-against $(BENCHRUN) $(SEED) examples/*.list examples/lists/*.list examples/measured/*.list
 	$(MODEL)/lists-against $(BENCHRUN) $(SEED) $(LISTS)
-	cargo test --quiet --release --offline --manifest-path tests/library/Cargo.toml
-	cargo run --quiet --release --offline --manifest-path tests/library/Cargo.toml --bin against-library $(SEED) $(CALLS)
+compared-library:
+	$(BUILT_QUICKLY) cargo test --quiet --release --offline --manifest-path tests/library/Cargo.toml
+	$(BUILT_QUICKLY) cargo run --quiet --release --offline --manifest-path tests/library/Cargo.toml \
+		--bin against-library $(SEED) $(CALLS)
+# Not optimised across crates: with that the tests take three times as long to build, and run for two thirds of the time.
+BUILT_QUICKLY = CARGO_PROFILE_RELEASE_LTO=off CARGO_PROFILE_RELEASE_CODEGEN_UNITS=16
 
 # make caller          compile and run the caller in C that the README shows, and one that calls every function
 # As C99, as C11 and as C++11.
@@ -127,10 +180,7 @@ bench: need-rt need-cargo need-cc benchrun lib
 # The prover refuses these too.
 .PHONY: more-edits
 more-edits: need-rt
-	rt check
-	rm -rf target/more && mkdir target/more && cp -r crates crates.txt target/more && cp -r target/rlib target/stamp target/more
-	cd target/more && rm -f crates/*/must-fail/*.edit && mkdir target && mv rlib stamp target && \
-		for folder in crates/*/must-fail/more; do mv $$folder/*.edit $$folder/..; done && rt must-fail
+	@tools/prove more-edits
 
 # make clean           remove all that these commands write
 .PHONY: clean

@@ -3,6 +3,7 @@
 //! `calls2list` makes a list from readable text, `listshow` prints a list beside its answers.
 //! README.md of this folder has the text's rules.
 //!
+//! - [`arguments`]: what a command is called with.
 //! - [`tokens`]: a line in words, and mistakes that name their line.
 //! - [`values`]: numbers, bytes, modes and handles as they are written.
 //! - [`words`]: the words for calls and for fields, and where a field lies in a record.
@@ -14,6 +15,7 @@
 //! - [`show`]: a list and its answers side by side.
 
 pub mod answers;
+pub mod arguments;
 pub mod build;
 pub mod entry;
 pub mod made;

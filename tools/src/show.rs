@@ -30,7 +30,7 @@ pub fn show(list: &[u8], answers: &Answers) -> Result<String, Mistake> {
     }
 }
 
-fn counted(count: usize, of: &str) -> String {
+pub(crate) fn counted(count: usize, of: &str) -> String {
     let plural = if count == 1 { "" } else { "s" };
     format!("{count} {of}{plural}")
 }

@@ -8,6 +8,8 @@
 --     shown ss            the bytes of the handle of node 0 and local number 2 with the selector ss, its password zero
 --     weakening m ss      call 7 with the mask m and a handle with the selector ss
 --     making n            call 3 for n bytes on node 0, with the write primary handle of local number 2
+--     answers             P1 to P14
+--     weakenings, full    the numbers of P5, P6 and P8, and of P13
 --     examples            the list
 -- Assumes nothing.
 use Prim.Native.Nat.{ℕ}
@@ -61,17 +63,22 @@ module _ (f : Name → List ℕ → ℕ → List ℕ) (password first : List ℕ
   abbrev places : List Example
   places = map (λ (e : P.Example). asks (placing e) (placed (e .told))) P.examples
 
-  -- P5, P6 and P8, whatever the store; P13
-  abbrev pub refusals : List Example
-  refusals =
+  abbrev pub answers : List Example
+  answers = selectors ++ places
+
+  -- whatever the store
+  abbrev pub weakenings : List Example
+  weakenings =
       asks (numbering (weakening 0 (0xfe ∷ 0x7d ∷ 0xff ∷ 0xff ∷ [])) s size) (refused 21)
       ∷ asks (numbering (weakening mask (0xff ∷ 0xfe ∷ 0xff ∷ 0xff ∷ [])) s size) (refused 4)
       ∷ asks (numbering (weakening 239 (0xfe ∷ 0xfd ∷ 0xfb ∷ 0xf7 ∷ [])) s size) (refused 17)
-      ∷ asks (numbering (making 3937) P.twoSegments memory) (refused 16)
       ∷ []
 
+  abbrev pub full : List Example
+  full = asks (numbering (making 3937) P.twoSegments memory) (refused 16) ∷ []
+
   unfoldable pub examples : List Example
-  examples = selectors ++ places ++ refusals
+  examples = answers ++ weakenings ++ full
 
   unfoldable pub tells : Question → Told
   tells (selecting q) = selected (S.tells (f (record { node = 0; local = 2 })) password first mask q)

@@ -1,14 +1,22 @@
 //! Prints a list of calls beside the answers that `benchrun` gave to it.
 
-use std::ffi::OsString;
 use std::fs;
 use std::io::{self, Write};
 use std::path::Path;
 use std::process::ExitCode;
 use tools::answers::Answers;
+use tools::arguments::Arguments;
 use tools::show::show;
 
 const USAGE: &str = "usage: listshow LIST-FILE ANSWERS-FILE";
+const HELP: &str = "
+Prints a list of calls beside the answers that benchrun gave to it, one line a call: the record, what it asks, the
+number with its word, what it gave. This runs a list and shows it:
+
+    make show LIST=LIST-FILE
+
+Exit status: 0 shown, 1 a file that cannot be read or answers that are not of this list, 2 wrong arguments.
+";
 const BAD_USAGE: u8 = 2;
 
 fn print(list: &Path, answers: &Path) -> Result<(), String> {
@@ -26,16 +34,21 @@ fn print(list: &Path, answers: &Path) -> Result<(), String> {
 }
 
 fn main() -> ExitCode {
-    let arguments: Vec<OsString> = std::env::args_os().skip(1).collect();
-    let [list, answers] = arguments.as_slice() else {
-        eprintln!("{USAGE}");
-        return ExitCode::from(BAD_USAGE);
-    };
-    match print(Path::new(list), Path::new(answers)) {
-        Ok(()) => ExitCode::SUCCESS,
-        Err(message) => {
-            eprintln!("listshow: {message}");
-            ExitCode::FAILURE
+    match Arguments::of(std::env::args_os().skip(1)) {
+        Arguments::Help => {
+            print!("{USAGE}\n{HELP}");
+            ExitCode::SUCCESS
         }
+        Arguments::Wrong(what) => {
+            eprintln!("listshow: {what}\n{USAGE}\n'listshow --help' says more");
+            ExitCode::from(BAD_USAGE)
+        }
+        Arguments::Files([list, answers]) => match print(Path::new(&list), Path::new(&answers)) {
+            Ok(()) => ExitCode::SUCCESS,
+            Err(message) => {
+                eprintln!("listshow: {message}");
+                ExitCode::FAILURE
+            }
+        },
     }
 }
