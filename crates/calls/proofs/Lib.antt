@@ -37,3 +37,4 @@ pub mod EmptyWordLaws
 pub mod LengthWordLaws
 pub mod MaskLaws
 pub mod GivenLengthLaws
+pub mod PrimaryWordLaws

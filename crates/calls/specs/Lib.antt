@@ -13,6 +13,7 @@ pub mod JoinWords
 pub mod RenewWords
 pub mod EmptyWords
 pub mod LengthWords
+pub mod PrimaryWords
 pub mod Examples
 pub mod Cases
 pub mod JoinCases
