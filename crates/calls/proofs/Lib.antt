@@ -38,3 +38,4 @@ pub mod LengthWordLaws
 pub mod MaskLaws
 pub mod GivenLengthLaws
 pub mod PrimaryWordLaws
+pub mod DistinctLaws

@@ -21,6 +21,7 @@ pub mod NearCases
 pub mod Orders
 pub mod WidthCases
 pub mod WidthReplies
+pub mod DistinctCases
 pub mod WidthOrders
 pub mod Bounds
 pub mod Written
