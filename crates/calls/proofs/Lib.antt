@@ -38,4 +38,5 @@ pub mod LengthWordLaws
 pub mod MaskLaws
 pub mod GivenLengthLaws
 pub mod PrimaryWordLaws
+pub mod UsesWordLaws
 pub mod DistinctLaws

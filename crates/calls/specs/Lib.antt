@@ -14,6 +14,7 @@ pub mod RenewWords
 pub mod EmptyWords
 pub mod LengthWords
 pub mod PrimaryWords
+pub mod UsesWords
 pub mod Examples
 pub mod Cases
 pub mod JoinCases
