@@ -11,3 +11,4 @@ pub mod MeaningLaws
 pub mod LengthLaws
 pub mod SoundRunLaws
 pub mod LiteralLaws
+pub mod FilledLaws

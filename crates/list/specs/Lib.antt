@@ -6,3 +6,4 @@ pub mod Lengths
 pub mod inner
 pub mod Literals
 pub mod Outputs
+pub mod Filled
