@@ -8,6 +8,7 @@ pub mod RoomLaws
 pub mod RunLaws
 pub mod OutputLaws
 pub mod MeaningLaws
+pub mod CodeWordLaws
 pub mod LengthLaws
 pub mod SoundRunLaws
 pub mod LiteralLaws
