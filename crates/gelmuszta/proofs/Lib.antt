@@ -4,6 +4,7 @@ pub mod MemoryLaws
 pub mod LookLaws
 pub mod MakeLaws
 pub mod ValidationLaws
+pub mod BatchWordLaws
 pub mod FitLaws
 pub mod RunLaws
 pub mod WriterImageLaws
