@@ -34,7 +34,8 @@ use Rattle.image.specs.Images.{placeIn, goodPlace, goodSegment, segmentsIn, goo
 use Rattle.gelmuszta.specs.Exported.{Exported, damaged, imaged, exported}
 use Rattle.gelmuszta.specs.Validation.{numberOf, fewer, whole, each, asMany, numbersOf}
 use Rattle.gelmuszta.proofs.ValidationLaws.{fewer-first}
-use Rattle.gelmuszta.specs.BatchWords.{Wide, BatchInWords, NoneJudged, far, gap, idle, BatchWritten}
+use Rattle.gelmuszta.specs.BatchWords.{Wide, BatchInWords, NoneJudged}
+use Rattle.gelmuszta.specs.BatchLiterals.{far, gap, idle, BatchWritten}
 
 -- the smaller of two
 below-both : (a b i : ℕ) → (i < fewer a b) ↔ ((i < a) × (i < b))

@@ -1,4 +1,4 @@
--- Many handles of one width, in words: which handle each number belongs to, byte by byte; and a batch written out.
+-- Many handles of one width, in words: which handle each number belongs to, byte by byte.
 --     Wide w n              handles of the width w have n bytes: 21, 23 or 27
 --     BatchInWords ..       of the numbers ns before and after, handles of n bytes in hs, an image b and a memory m:
 --       judged                place i, where hs has a whole handle i, gets the number which validation by itself gives to the
@@ -7,15 +7,12 @@
 --       long                  there are as many places as before
 --       told                  the count that is told is that of the places judged
 --     NoneJudged            where w is none of the three, the numbers stay as they were, and 0 is told
---     far, gap, idle        handles with node 4, gapped, of an inactive cluster
---     BatchWritten          on the starting store these three, and 22 bytes more, get 2, 4 and 8 in the first three of five
---                           places, in this order, and the rest is as it was; in the other order 8, 4 and 2
 -- Assumes nothing.
 use mathlib.Core.Path.{_≡_}
 use mathlib.Core.Logic.{_≢_, _⊎_, _↔_}
 use Prim.Native.Nat.{ℕ, _+_, _*_, _≤_, _<_}
-use mathlib.Core.List.{List, [], _∷_, _++_}
-use lib.ListN.{length, getD, replicate}
+use mathlib.Core.List.{List}
+use lib.ListN.{length, getD}
 use Rattle.calls.specs.Calls.{validating}
 use Rattle.gelmuszta.specs.Exported.{exported}
 use Rattle.gelmuszta.specs.Validation.{each, asMany, numbersOf}
@@ -38,24 +35,3 @@ module _ (b m : List ℕ) (mode w : ℕ) (hs ns : List ℕ) where
   pub record NoneJudged : Type 0 where
     pub stays : after ≡ ns
     pub told : asMany (each w) hs ns ≡ 0
-
--- ---- written out
-
-abbrev handle : ℕ → ℕ → List ℕ → List ℕ
-handle v l s = 0 ∷ v ∷ l ∷ (replicate 16 0 ++ s)
-
-abbrev pub far : List ℕ
-far = handle 4 2 (replicate 4 255)
-
-abbrev pub gap : List ℕ
-gap = handle 1 2 (255 ∷ 254 ∷ 255 ∷ 255 ∷ [])
-
-abbrev pub idle : List ℕ
-idle = handle 3 7 (replicate 4 255)
-
-abbrev numbered : List ℕ → List ℕ
-numbered hs = numbersOf (replicate 3648 0) (replicate 16384 0) 1 23 hs (11 ∷ 12 ∷ 13 ∷ 14 ∷ 15 ∷ [])
-
-pub record BatchWritten : Type 0 where
-  pub forward : numbered (far ++ gap ++ idle ++ replicate 22 0) ≡ 2 ∷ 4 ∷ 8 ∷ 14 ∷ 15 ∷ []
-  pub backward : numbered (idle ++ gap ++ far) ≡ 8 ∷ 4 ∷ 2 ∷ 14 ∷ 15 ∷ []

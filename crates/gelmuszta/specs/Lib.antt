@@ -2,6 +2,7 @@ pub mod Exported
 pub mod Looks
 pub mod Validation
 pub mod BatchWords
+pub mod BatchLiterals
 pub mod Fits
 pub mod Runs
 pub mod WriterImages

@@ -7,4 +7,4 @@ pub mod Lengths
 pub mod inner
 pub mod Literals
 pub mod Outputs
-pub mod Filled
+pub mod FilledLiterals
