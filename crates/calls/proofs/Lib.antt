@@ -37,3 +37,6 @@ pub mod EmptyWordLaws
 pub mod LengthWordLaws
 pub mod MaskLaws
 pub mod GivenLengthLaws
+pub mod PrimaryWordLaws
+pub mod UsesWordLaws
+pub mod DistinctLaws

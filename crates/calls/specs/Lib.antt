@@ -13,6 +13,8 @@ pub mod JoinWords
 pub mod RenewWords
 pub mod EmptyWords
 pub mod LengthWords
+pub mod PrimaryWords
+pub mod UsesWords
 pub mod Examples
 pub mod Cases
 pub mod JoinCases
@@ -20,6 +22,7 @@ pub mod NearCases
 pub mod Orders
 pub mod WidthCases
 pub mod WidthReplies
+pub mod DistinctCases
 pub mod WidthOrders
 pub mod Bounds
 pub mod Written

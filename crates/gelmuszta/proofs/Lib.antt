@@ -5,6 +5,7 @@ pub mod GivenLaws
 pub mod LookLaws
 pub mod MakeLaws
 pub mod ValidationLaws
+pub mod BatchWordLaws
 pub mod FitLaws
 pub mod RunLaws
 pub mod WriterImageLaws

@@ -3,6 +3,8 @@ pub mod Version
 pub mod Given
 pub mod Looks
 pub mod Validation
+pub mod BatchWords
+pub mod BatchLiterals
 pub mod Fits
 pub mod Runs
 pub mod WriterImages

@@ -8,6 +8,8 @@ pub mod RoomLaws
 pub mod RunLaws
 pub mod OutputLaws
 pub mod MeaningLaws
+pub mod CodeWordLaws
 pub mod LengthLaws
 pub mod SoundRunLaws
 pub mod LiteralLaws
+pub mod FilledLaws

@@ -23,7 +23,7 @@ fields-at = record { code = refl; reading = λ b. refl; writing = λ b. refl; ki
 
 -- ---- outputs
 
-unfoldable opened : Unit {0}
+unfoldable pub opened : Unit {0}
 unfolding outputBelow linesBelow badLength checked kindOf way met reached numbered records leastFrom least callLine wordLine
     told gives line spaced decimal decimalIn hexadecimal digit tests effects computing
 opened = tt

@@ -2,7 +2,9 @@ pub mod Records
 pub mod Runs
 pub mod Texts
 pub mod Meanings
+pub mod CodeWords
 pub mod Lengths
 pub mod inner
 pub mod Literals
 pub mod Outputs
+pub mod FilledLiterals
