@@ -1,0 +1,441 @@
+//! §6, new passwords: compared with another than the mode's own or put in another place, equal ones that are not borne, a
+//! handle of both modes that does not open one of them, and replies that tell of the other mode.
+
+use crate::driver::{by, not_by, numbers, run, told, By, Complaint, Word, BATCH, IMAGES, REPLIES};
+use crate::seen::Seen;
+use crate::wrong::{asked, batch, instead, on, refused_if, refusing, validate_all, Wrong};
+use library::guard;
+use library::image::{decode, Image};
+use library::question::{Answer, Held, Question, LOOK, VALIDATION};
+use model::call::{Call, Reply, DELETE_CLUSTER, DELETE_SEGMENT, FREEZE, JOIN, NEW_CLUSTER};
+use model::call::{NEW_PASSWORD, NEW_SEGMENT, READ, REDUCE, WEAKEN, WRITE};
+use model::handle::{Handle, Password, Width};
+use model::store::{Cluster, Mode};
+use std::rc::Rc;
+use Word::{Call as Asks, Either, Gives, Says};
+
+/// A new password to which no number before 12 applies, and the cluster that it is for.
+pub struct Asked {
+    cluster: Cluster,
+    mode: Mode,
+    handle: Handle,
+    password: Password,
+}
+
+impl Asked {
+    /// Whether this new password comes as far as 12 is seen by another one, which the cluster has in neither mode.
+    fn of(held: &Held, question: &Question) -> Option<Asked> {
+        let Call::NewPassword { mode, password, .. } = question.call else {
+            return None;
+        };
+        let seen = Seen::of(held, question)?;
+        let (cluster, handle) = (seen.cluster()?, seen.handle);
+        let strange = (0..=u8::MAX)
+            .map(|byte| [byte; 16])
+            .find(|strange| ![cluster.read, cluster.write].contains(strange))?;
+        seen.done(|_, question| {
+            if let Call::NewPassword { password, .. } = &mut question.call {
+                *password = strange;
+            }
+        })?;
+        let mode = Mode::from_number(mode)?;
+        Some(Asked {
+            cluster,
+            mode,
+            handle,
+            password,
+        })
+    }
+
+    /// The current passwords of the mode and of the other one.
+    fn own(&self) -> Password {
+        *self.cluster.primary(self.mode)
+    }
+
+    pub fn other(&self) -> Password {
+        *self.cluster.primary(self.mode.other())
+    }
+
+    fn is_own(&self) -> bool {
+        self.password == self.own()
+    }
+
+    fn is_other(&self) -> bool {
+        self.password == self.other()
+    }
+
+    fn has_equal(&self) -> bool {
+        self.own() == self.other()
+    }
+}
+
+/// What becomes of a new password: the cluster and the password of the handle that is given, or a number.
+type Outcome = Result<(Cluster, Password), u8>;
+
+/// This becomes of a new password that nothing before 12 speaks against.
+fn renewed(outcome: impl Fn(&Asked) -> Outcome + 'static) -> Wrong {
+    asked(move |held, question| {
+        let Some(asked) = Asked::of(held, question) else {
+            return guard::ask(held, question);
+        };
+        let reply = match outcome(&asked) {
+            Err(number) => Reply::refused(number),
+            Ok((cluster, password)) => {
+                let (node, local) = asked.handle.name();
+                *held = with(held, (node.into(), local.into()), cluster);
+                Reply::with_handle(&Handle {
+                    password,
+                    ..asked.handle
+                })
+            }
+        };
+        let buffer = question.buffer.clone();
+        Answer { reply, buffer }
+    })
+}
+
+/// The same with another record.
+fn with(held: &Held, (node, local): (usize, usize), cluster: Cluster) -> Held {
+    let mut store = decode(&held.image).expect("it was asked of one");
+    store.clusters[node][local] = cluster;
+    held.with(&store)
+}
+
+/// Refused with 12 if so; else the mode's own is replaced, and its new primary handle given.
+fn unless(old: bool, it: &Asked) -> Outcome {
+    let mut cluster = it.cluster;
+    *cluster.primary_mut(it.mode) = it.password;
+    match old {
+        true => Err(12),
+        false => Ok((cluster, it.password)),
+    }
+}
+
+fn rightly(it: &Asked) -> Outcome {
+    unless(it.is_own(), it)
+}
+
+/// Compares a new password in this way.
+pub fn compared(old: fn(&Asked) -> bool) -> Wrong {
+    renewed(move |it| unless(old(it), it))
+}
+
+pub fn is_either(it: &Asked) -> bool {
+    it.is_own() || it.is_other()
+}
+
+/// Leaves the cluster changed in this way where a new password is done.
+fn leaving(change: fn(&mut Cluster, &Asked)) -> Wrong {
+    renewed(move |it| {
+        let (_, given) = rightly(it)?;
+        let mut cluster = it.cluster;
+        change(&mut cluster, it);
+        Ok((cluster, given))
+    })
+}
+
+/// Gives a handle with this password.
+pub fn giving(given: fn(&Asked) -> Password) -> Wrong {
+    renewed(move |it| rightly(it).map(|(cluster, _)| (cluster, given(it))))
+}
+
+/// Has this number where the two would become equal.
+fn not_made_equal(number: u8) -> Wrong {
+    renewed(move |it| match rightly(it) {
+        Ok(_) if it.is_other() => Err(number),
+        outcome => outcome,
+    })
+}
+
+#[test]
+fn the_right_way_is_not_found_out() {
+    run("right", &renewed(rightly), &not_by([By::Single, By::Runs]));
+}
+
+/// Found out by a new password that is done or refused with 12: which of the two comes first hangs on chance.
+fn either_way() -> Complaint {
+    told([
+        Asks(NEW_PASSWORD),
+        Either(&["model: number 0,", "model: number 12,"]),
+    ])
+}
+
+fn renewals(right: u8, wrong: u8) -> Complaint {
+    numbers(NEW_PASSWORD, right, wrong)
+}
+
+/// 12 where the new password is the mode's own, in the place of this number.
+fn old_before(number: u8) -> Wrong {
+    refusing(NEW_PASSWORD, number, 12, |seen| {
+        let own = seen
+            .cluster()
+            .zip(seen.mode())
+            .map(|(cluster, mode)| *cluster.primary(mode));
+        matches!(seen.question.call, Call::NewPassword { password, .. } if own == Some(password))
+    })
+}
+
+/// Call 1 makes clusters with equal passwords.
+fn twins_made() -> Wrong {
+    on(NEW_CLUSTER, 7, |it| {
+        let Call::NewCluster {
+            width, read, write, ..
+        } = it.question.call
+        else {
+            return;
+        };
+        let (node, local) = it.cluster().expect("2 comes before 7");
+        let width = Width::of_segments(width).expect("3 comes before 7");
+        let cluster = Cluster {
+            active: true,
+            width: width.number(),
+            read,
+            write,
+            ..Cluster::INACTIVE
+        };
+        *it.held = with(it.held, (node, local), cluster);
+        let handle =
+            |password| Handle::primary(width, node as u16, local as u8, password).to_bytes();
+        (it.reply, it.reply.first, it.reply.second) = (Reply::DONE, handle(read), handle(write));
+    })
+}
+
+fn has_equal(image: &Image) -> bool {
+    let store = decode(image);
+    store.is_some_and(|store| {
+        let clusters = store.clusters.as_flattened();
+        clusters.iter().any(Cluster::has_equal_passwords)
+    })
+}
+
+/// Holds a store for unsound in which they are.
+fn unsound_where_equal() -> Wrong {
+    Wrong {
+        judge: Rc::new(|image, size| guard::is_sound(image, size) && !has_equal(image)),
+        ..asked(
+            |held, question| match has_equal(&held.image) && question.code() != WEAKEN {
+                true => Answer {
+                    reply: Reply::refused(1),
+                    buffer: question.buffer.clone(),
+                },
+                false => guard::ask(held, question),
+            },
+        )
+    }
+}
+
+table! {
+    with_both: compared(is_either) => renewals(0, 12);
+    with_both_in_mode_1: compared(|it| it.is_own() || it.mode == Mode::Read && it.is_other()) => renewals(0, 12);
+    with_both_in_mode_2: compared(|it| it.is_own() || it.mode == Mode::Write && it.is_other()) => renewals(0, 12);
+    with_nothing: compared(|_| false) => renewals(12, 0);
+    in_mode_1_alone: compared(|it| it.mode == Mode::Read && it.is_own()) => renewals(12, 0);
+    in_mode_2_alone: compared(|it| it.mode == Mode::Write && it.is_own()) => renewals(12, 0);
+    not_where_the_two_are_equal: compared(|it| it.is_own() && !it.has_equal()) => renewals(12, 0);
+    where_the_two_are_equal_alone: compared(|it| it.is_own() && it.has_equal()) => renewals(12, 0);
+    in_the_first_half: compared(|it| it.password[..8] == it.own()[..8]) => renewals(0, 12);
+    in_the_second_half: compared(|it| it.password[8..] == it.own()[8..]) => renewals(0, 12);
+    with_the_other_mode_s_instead: compared(Asked::is_other) => either_way();
+    with_the_read_password_always: compared(|it| it.password == it.cluster.read) => either_way();
+    with_the_write_password_always: compared(|it| it.password == it.cluster.write) => either_way();
+    before_9_and_before_10_nine: old_before(9) => renewals(9, 12);
+    before_9_and_before_10_ten: old_before(10) => renewals(10, 12);
+    a_number_for_a_new_password_that_makes_them_equal_7: not_made_equal(7) => renewals(0, 7);
+    a_number_for_a_new_password_that_makes_them_equal_1: not_made_equal(1) => renewals(0, 1);
+    twins_taken_by_call_1: twins_made() => numbers(NEW_CLUSTER, 7, 0);
+    equal_ones_taken_for_unsound: unsound_where_equal()
+        => told([Gives(1)]).and(By::EveryByte, [Says("sound is true in the model, false")]);
+}
+
+fn both_replaced(cluster: &mut Cluster, it: &Asked) {
+    (cluster.read, cluster.write) = (it.password, it.password);
+}
+
+/// As by a search for the old one.
+fn both_replaced_where_equal(cluster: &mut Cluster, it: &Asked) {
+    let old = it.own();
+    for password in [&mut cluster.read, &mut cluster.write] {
+        if *password == old {
+            *password = it.password;
+        }
+    }
+}
+
+/// The first that the search meets.
+fn one_replaced_where_equal(cluster: &mut Cluster, it: &Asked, first: Mode) {
+    let mode = match cluster.has_equal_passwords() {
+        true => first,
+        false => it.mode,
+    };
+    *cluster.primary_mut(mode) = it.password;
+}
+
+fn read_replaced_where_equal(cluster: &mut Cluster, it: &Asked) {
+    one_replaced_where_equal(cluster, it, Mode::Read);
+}
+
+fn write_replaced_where_equal(cluster: &mut Cluster, it: &Asked) {
+    one_replaced_where_equal(cluster, it, Mode::Write);
+}
+
+fn the_other_replaced(cluster: &mut Cluster, it: &Asked) {
+    *cluster.primary_mut(it.mode.other()) = it.password;
+}
+
+/// The old one goes to the other mode.
+fn passed_on(cluster: &mut Cluster, it: &Asked) {
+    *cluster.primary_mut(it.mode) = it.password;
+    *cluster.primary_mut(it.mode.other()) = it.own();
+}
+
+fn another(word: Word) -> Complaint {
+    told([Asks(NEW_PASSWORD), word])
+}
+
+mod another_password_replaced {
+    use super::*;
+
+    table! {
+        both_replaced: leaving(super::both_replaced) => another(IMAGES);
+        both_replaced_where_equal: leaving(super::both_replaced_where_equal) => another(IMAGES);
+        read_replaced_where_equal: leaving(super::read_replaced_where_equal) => another(IMAGES);
+        write_replaced_where_equal: leaving(super::write_replaced_where_equal) => another(IMAGES);
+        the_other_replaced: leaving(super::the_other_replaced) => another(IMAGES);
+        passed_on: leaving(super::passed_on) => another(IMAGES);
+        nothing_replaced: leaving(|_, _| {}) => another(IMAGES);
+    }
+}
+
+table! {
+    another_handle_given_the_old: giving(Asked::own) => another(REPLIES);
+    another_handle_given_the_other: giving(Asked::other) => another(REPLIES);
+}
+
+// A handle that opens both modes and is kept from one of them.
+
+fn opens_both(handle: &Handle, cluster: &Cluster) -> bool {
+    let mut modes = Mode::ALL.iter();
+    modes.all(|mode| handle.validates(cluster, *mode))
+}
+
+/// 9 for calls with this code in these modes by a handle that opens both.
+fn kept(code: u8, modes: &'static [Mode]) -> Wrong {
+    refusing(code, 0, 9, move |seen| {
+        let cluster = seen.cluster();
+        let meant = seen.mode().is_some_and(|mode| modes.contains(&mode));
+        meant && cluster.is_some_and(|cluster| opens_both(&seen.handle, &cluster))
+    })
+}
+
+const READS: &[Mode] = &[Mode::Read];
+const WRITES: &[Mode] = &[Mode::Write];
+
+fn kept_from(code: u8) -> Complaint {
+    numbers(code, 0, 9)
+}
+
+/// What a batch tells of such a handle, in one of the modes.
+fn batch_kept(kept_from: Mode) -> Wrong {
+    batch(move |held, (mode, width), handles, numbers| {
+        let count = validate_all(held, (mode, width), handles, numbers);
+        let store = decode(&held.image).filter(|_| mode == kept_from.number() as usize);
+        let (Some(width), Some(store)) = (Width::of_segments(width), store) else {
+            return count;
+        };
+        let handles = handles.chunks_exact(width.handle_bytes());
+        for (number, bytes) in numbers.iter_mut().zip(handles).take(count) {
+            let handle = Handle::from_bytes(bytes).expect("it is a whole one");
+            let cluster = store.cluster(handle.node.into(), handle.local.into());
+            if *number == 0 && cluster.is_some_and(|cluster| opens_both(&handle, cluster)) {
+                *number = 9;
+            }
+        }
+        count
+    })
+}
+
+table! {
+    a_read: kept(READ, READS) => kept_from(READ);
+    a_look: kept(LOOK, READS) => kept_from(LOOK);
+    a_write: kept(WRITE, WRITES) => kept_from(WRITE);
+    a_new_segment: kept(NEW_SEGMENT, WRITES) => kept_from(NEW_SEGMENT);
+    a_deleted_segment: kept(DELETE_SEGMENT, WRITES) => kept_from(DELETE_SEGMENT);
+    a_deleted_cluster: kept(DELETE_CLUSTER, WRITES) => kept_from(DELETE_CLUSTER);
+    a_freeze: kept(FREEZE, WRITES) => kept_from(FREEZE);
+    a_reduction_to_read: kept(REDUCE, READS) => kept_from(REDUCE);
+    a_reduction_to_write: kept(REDUCE, WRITES) => kept_from(REDUCE);
+    a_join_to_read: kept(JOIN, READS) => kept_from(JOIN);
+    a_join_to_write: kept(JOIN, WRITES) => kept_from(JOIN);
+    a_validation_to_read: kept(VALIDATION, READS) => kept_from(VALIDATION);
+    a_validation_to_write: kept(VALIDATION, WRITES) => kept_from(VALIDATION);
+    a_new_password_to_read: kept(NEW_PASSWORD, READS) => kept_from(NEW_PASSWORD);
+    a_new_password_to_write: kept(NEW_PASSWORD, WRITES) => kept_from(NEW_PASSWORD);
+    by_a_batch_to_read: batch_kept(Mode::Read) => by(By::Batches, [BATCH]);
+    by_a_batch_to_write: batch_kept(Mode::Write) => by(By::Batches, [BATCH]);
+}
+
+// Replies that tell of the other mode, found out without the model; and two copies with equal passwords in one of them.
+
+/// Those that are wrong without telling anything are not found out either.
+#[test]
+fn what_does_not_hang_on_the_other_mode_is_not_found_out() {
+    let never_old = compared(|_| false);
+    for wrong in [crate::wrong::right(), renewed(rightly), never_old] {
+        run("untold", &wrong, &not_by([By::Untold]));
+    }
+}
+
+/// Leaves something that hangs on the other mode's password elsewhere.
+fn noting(note: fn(&mut Held, u8)) -> Wrong {
+    asked(move |held, question| {
+        let asked = Asked::of(held, question);
+        let answer = guard::ask(held, question);
+        if let Some(asked) = asked {
+            let other = asked.other().into_iter();
+            let sum = other.fold(0, |sum: u8, byte| sum.wrapping_mul(31).wrapping_add(byte));
+            note(held, sum);
+        }
+        answer
+    })
+}
+
+/// 9 is 1 for calls with this code where the passwords of the handle's cluster are equal.
+fn another_number_where_equal(code: u8) -> Wrong {
+    instead(code, 9, |seen| refused_if(seen.has_equal_passwords(), 1))
+}
+
+fn untold(word: Word) -> Complaint {
+    by(By::Untold, [word, Asks(NEW_PASSWORD)])
+}
+
+const OTHERS: Word = Says("the other mode's passwords differ");
+
+mod untold {
+    use super::*;
+
+    table! {
+        by_the_number_with_both: compared(is_either) => untold(REPLIES);
+        by_the_number_with_the_other: compared(Asked::is_other) => untold(REPLIES);
+        by_the_number_with_the_read_password: compared(|it| it.password == it.cluster.read) => untold(REPLIES);
+        by_the_number_with_the_write_password: compared(|it| it.password == it.cluster.write) => untold(REPLIES);
+        by_the_number_made_equal: not_made_equal(7) => untold(REPLIES);
+        by_the_number_unsound: unsound_where_equal() => untold(REPLIES);
+        by_the_handle: giving(Asked::other) => untold(REPLIES);
+        by_what_is_left_of_it_both: leaving(both_replaced) => untold(OTHERS);
+        by_what_is_left_of_it_both_where_equal: leaving(both_replaced_where_equal) => untold(OTHERS);
+        by_what_is_left_of_it_read: leaving(read_replaced_where_equal) => untold(OTHERS);
+        by_what_is_left_of_it_write: leaving(write_replaced_where_equal) => untold(OTHERS);
+        by_what_is_left_of_it_the_other: leaving(the_other_replaced) => untold(OTHERS);
+        by_what_is_left_of_it_passed_on: leaving(passed_on) => untold(OTHERS);
+        by_what_is_left_elsewhere_image: noting(|held, told| held.image[0] = told)
+            => untold(Says("the two images differ"));
+        by_what_is_left_elsewhere_memory: noting(|held, told| held.memory[0] = told)
+            => untold(Says("the two memories differ"));
+        what_two_copies_tell_of_passwords_old: old_before(9) => by(By::Copies, [REPLIES]);
+        what_two_copies_tell_of_passwords_read: another_number_where_equal(READ) => by(By::Copies, [REPLIES]);
+        what_two_copies_tell_of_passwords_write: another_number_where_equal(WRITE) => by(By::Copies, [REPLIES]);
+        what_two_copies_tell_of_passwords_new: another_number_where_equal(NEW_PASSWORD) => by(By::Copies, [REPLIES]);
+        /// It tells of the other mode to those who open one: no list has such a handle of the cluster set apart.
+        what_two_copies_tell_of_passwords_open: compared(is_either) => not_by([By::FewCopies]);
+    }
+}
