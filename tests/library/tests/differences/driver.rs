@@ -216,10 +216,12 @@ fn judge(image: &mut Image, memory_bytes: usize) -> bool {
 
 // That the driver can fail.
 
-/// The right library is found out by none, so that a row in which nothing is wrong fails, whoever has to find it out.
+/// The right library is found out by none, so that a row in which nothing is wrong fails, whoever has to find it out. The
+/// three that take longest are left to `against-library`.
 #[test]
 fn nothing_wrong_is_no_row() {
-    for finder in By::ALL {
+    let long = [By::EveryByte, By::AtWords, By::Masks];
+    for finder in By::ALL.into_iter().filter(|by| !long.contains(by)) {
         let told = by(finder, []).judge(&right(), 20);
         assert_eq!(told, Err(format!("not found out by {finder:?}")));
     }

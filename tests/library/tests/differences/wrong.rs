@@ -102,10 +102,6 @@ pub struct After<'a> {
 }
 
 impl After<'_> {
-    pub fn is(&self, code: u8, number: u8) -> bool {
-        self.question.code() == code && self.reply.number == number
-    }
-
     pub fn is_refused(&self, code: u8) -> bool {
         self.question.code() == code && !self.reply.is_done()
     }
@@ -153,7 +149,18 @@ impl After<'_> {
 
 /// Does something else besides, whatever was asked.
 pub fn after(change: impl Fn(&mut After) + 'static) -> Wrong {
+    after_some(|_| true, change)
+}
+
+/// The same for some questions.
+fn after_some(
+    meant: impl Fn(&Question) -> bool + 'static,
+    change: impl Fn(&mut After) + 'static,
+) -> Wrong {
     asked(move |held, question| {
+        if !meant(question) {
+            return guard::ask(held, question);
+        }
         let before = held.clone();
         let Answer { reply, buffer } = guard::ask(held, question);
         let mut after = After {
@@ -180,8 +187,9 @@ pub fn at(number: u8, change: impl Fn(&mut After) + 'static) -> Wrong {
 
 /// The same for calls with this code that get this number.
 pub fn on(code: u8, number: u8, change: impl Fn(&mut After) + 'static) -> Wrong {
-    after(move |after| {
-        if after.is(code, number) {
+    let meant = move |question: &Question| question.code() == code;
+    after_some(meant, move |after| {
+        if after.reply.number == number {
             change(after);
         }
     })
