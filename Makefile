@@ -99,16 +99,18 @@ compare: need-rt need-cargo need-cc benchrun lib
 	cargo run --quiet --release --offline --manifest-path tests/library/Cargo.toml --bin against-library $(SEED) $(CALLS)
 
 # make caller          compile and run the caller in C that the README shows, and one that calls every function
+# As C99, as C11 and as C++11.
 EVERY = $(addprefix examples/c/,every.c freezing.c joining.c widths.c lengths.c)
+STRICT = -Wall -Wextra -pedantic -Werror -Iinclude
 .PHONY: caller
 caller: need-rt need-cc need-c++ lib
-	cc -std=c99 -Wall -Wextra -pedantic -Werror -Iinclude examples/c/caller.c $(LIBRARY) -o target/caller
-	target/caller | cmp - examples/c/caller.out
 	sed -n '/^    #include "gelmuszta.h"/,/^    }$$/s/^    //p' README.md | cmp - <(grep . examples/c/caller.c)
-	cc -std=c99 -Wall -Wextra -pedantic -Werror -Iinclude $(EVERY) $(LIBRARY) -o target/every
-	target/every
-	c++ -x c++ -std=c++11 -Wall -Wextra -pedantic -Werror -Iinclude $(EVERY) -x none $(LIBRARY) -o target/every
-	target/every
+	for compile in 'cc -std=c99' 'cc -std=c11' 'c++ -x c++ -std=c++11'; do \
+		$$compile $(STRICT) examples/c/caller.c -x none $(LIBRARY) -o target/caller; \
+		target/caller | cmp - examples/c/caller.out; \
+		$$compile $(STRICT) $(EVERY) -x none $(LIBRARY) -o target/every; \
+		target/every; \
+	done
 
 # make bench           the measurements of docs/PERFORMANCE.md: the proved code beside Rust
 .PHONY: bench

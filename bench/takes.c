@@ -26,22 +26,16 @@
 #define PAINT 0xa5
 #define LARGE 2000
 
-static uint8_t memory[GELMUSZTA_MEMORY] __attribute__((aligned(NODE_MEMORY)));
-static uint8_t image[GELMUSZTA_IMAGE], typical[GELMUSZTA_IMAGE], large[GELMUSZTA_IMAGE], damaged[GELMUSZTA_IMAGE];
-static uint8_t count, numbers[3], number, buffer[LENGTH], large_buffer[NODE_MEMORY], three[3 * GELMUSZTA_HANDLE];
-static const uint8_t first_password[GELMUSZTA_PASSWORD] = {1}, second_password[GELMUSZTA_PASSWORD] = {2};
-static size_t width, from, length;
-static const size_t node = 2, local = 3, free_local = 6, segment = 1, free_segment = 3, all = sizeof memory;
-
-static struct handle {
-    uint8_t bytes[GELMUSZTA_HANDLE];
-    size_t length;
-} reader, writer, weak_reader, weak_writer, other_reader, given, other;
-
-/* The store as calls take it, a handle presented, and where a handle given goes. */
-#define STORE image, memory, all
-#define OF(handle) (handle).bytes, (handle).length
-#define TO(handle) (handle).bytes, &(handle).length
+static gelmuszta_memory memory __attribute__((aligned(NODE_MEMORY)));
+static gelmuszta_image image, typical, large, damaged;
+static uint8_t count, numbers[3], buffer[LENGTH], large_buffer[NODE_MEMORY], three[3 * GELMUSZTA_HANDLE_MAX];
+static const gelmuszta_password first_password = {{1}}, second_password = {{2}};
+static gelmuszta_password converted;
+static gelmuszta_width width;
+static gelmuszta_number number;
+static size_t from, length;
+static const size_t node = 2, local = 3, free_local = 6, segment = 1, free_segment = 3;
+static gelmuszta_handle reader, writer, weak_reader, weak_writer, other_reader, given, other;
 
 /* ---- copies */
 
@@ -63,75 +57,79 @@ void *memcpy(void *restrict to, const void *restrict from, size_t bytes) { retur
 /* ---- the calls, on whatever image there is */
 
 static void start(void) {
-    gelmuszta_start(image);
+    gelmuszta_start(&image);
     number = GELMUSZTA_DONE;
 }
-static void sound(void) { number = !gelmuszta_sound(image, all); }
+static void version(void) { number = gelmuszta_version() != GELMUSZTA_VERSION_NUMBER; }
+static void sound(void) { number = !gelmuszta_sound(&image); }
 static void new_cluster(void) {
-    number = gelmuszta_new_cluster(STORE, node, free_local, width, first_password, second_password, TO(given), TO(other));
+    number = gelmuszta_new_cluster(&image, node, free_local, width, &first_password, &second_password, &given, &other);
 }
-static void delete_cluster(void) { number = gelmuszta_delete_cluster(STORE, node, OF(writer)); }
-static void new_segment(void) { number = gelmuszta_new_segment(STORE, node, free_segment, 64, OF(writer)); }
-static void delete_segment(void) { number = gelmuszta_delete_segment(STORE, node, segment, OF(writer)); }
+static void delete_cluster(void) { number = gelmuszta_delete_cluster(&image, node, &writer); }
+static void new_segment(void) { number = gelmuszta_new_segment(&image, &memory, node, free_segment, 64, &writer); }
+static void delete_segment(void) { number = gelmuszta_delete_segment(&image, node, segment, &writer); }
 static void read_primary(void) {
-    number = gelmuszta_read(STORE, segment, OF(reader), buffer, sizeof buffer, &length);
+    number = gelmuszta_read(&image, &memory, segment, &reader, buffer, sizeof buffer, &length);
 }
 static void read_weak(void) {
-    number = gelmuszta_read(STORE, segment, OF(weak_reader), buffer, sizeof buffer, &length);
+    number = gelmuszta_read(&image, &memory, segment, &weak_reader, buffer, sizeof buffer, &length);
 }
 static void read_large(void) {
-    number = gelmuszta_read(STORE, segment, OF(reader), large_buffer, sizeof large_buffer, &length);
+    number = gelmuszta_read(&image, &memory, segment, &reader, large_buffer, sizeof large_buffer, &length);
 }
-static void write_primary(void) { number = gelmuszta_write(STORE, segment, OF(writer), buffer, sizeof buffer); }
-static void write_weak(void) { number = gelmuszta_write(STORE, segment, OF(weak_writer), buffer, sizeof buffer); }
-static void look_primary(void) { number = gelmuszta_look(STORE, node, segment, OF(reader), &from, &length); }
-static void look_weak(void) { number = gelmuszta_look(STORE, node, segment, OF(weak_reader), &from, &length); }
-static void weaken(void) { number = gelmuszta_weaken(OF(reader), 0xfffe, TO(given), &count); }
-static void reduce(void) { number = gelmuszta_reduce(STORE, GELMUSZTA_MODE_READ, OF(weak_reader), TO(given)); }
+static void write_primary(void) { number = gelmuszta_write(&image, &memory, segment, &writer, buffer, sizeof buffer); }
+static void write_weak(void) { number = gelmuszta_write(&image, &memory, segment, &weak_writer, buffer, sizeof buffer); }
+static void look_primary(void) { number = gelmuszta_look(&image, node, segment, &reader, &from, &length); }
+static void look_weak(void) { number = gelmuszta_look(&image, node, segment, &weak_reader, &from, &length); }
+static void handle_of(void) { number = gelmuszta_handle_of(reader.bytes, reader.length, &given); }
+static void weaken(void) { number = gelmuszta_weaken(&reader, 0xfffe, &given, &count); }
+static void reduce(void) { number = gelmuszta_reduce(&image, GELMUSZTA_MODE_READ, &weak_reader, &given); }
 static void new_password(void) {
-    number = gelmuszta_new_password(STORE, GELMUSZTA_MODE_READ, OF(reader), first_password, TO(given));
+    number = gelmuszta_new_password(&image, GELMUSZTA_MODE_READ, &reader, &first_password, &given);
 }
-static void freeze(void) { number = gelmuszta_freeze(STORE, node, segment, OF(writer)); }
+static void freeze(void) { number = gelmuszta_freeze(&image, node, segment, &writer); }
 static void join(void) {
-    number = gelmuszta_join(STORE, GELMUSZTA_MODE_READ, OF(weak_reader), OF(other_reader), TO(given));
+    number = gelmuszta_join(&image, GELMUSZTA_MODE_READ, &weak_reader, &other_reader, &given);
 }
-static void validate(void) { number = gelmuszta_validate(STORE, GELMUSZTA_MODE_READ, OF(weak_reader)); }
+static void validate(void) { number = gelmuszta_validate(&image, GELMUSZTA_MODE_READ, &weak_reader); }
 static void validate_all(void) {
     const size_t bytes = 3 * GELMUSZTA_HANDLE_BYTES(width);
-    gelmuszta_validate_all(STORE, GELMUSZTA_MODE_READ, width, three, bytes, numbers, sizeof numbers);
+    gelmuszta_validate_all(&image, GELMUSZTA_MODE_READ, width, three, bytes, numbers, sizeof numbers);
     number = numbers[2];
 }
 static void convert(void) {
-    gelmuszta_convert(first_password, 3, given.bytes);
+    gelmuszta_convert(&first_password, 3, &converted);
     number = GELMUSZTA_DONE;
 }
 
 /* Each with the image on which its calls are done, and whether the header lets it reach bytes of the memory. */
 static const struct {
     const char *name;
-    const uint8_t *on;
+    const gelmuszta_image *on;
     bool reaches;
     void (*calls[2])(void);
 } functions[] = {
-    {"start", typical, false, {start, 0}},
-    {"sound", typical, false, {sound, 0}},
-    {"new cluster", typical, false, {new_cluster, 0}},
-    {"delete cluster", typical, false, {delete_cluster, 0}},
-    {"new segment", typical, true, {new_segment, 0}},
-    {"delete segment", typical, false, {delete_segment, 0}},
-    {"read", typical, true, {read_primary, read_weak}},
-    {"read, 4,096 bytes", large, true, {read_large, 0}},
-    {"write", typical, true, {write_primary, write_weak}},
-    {"look", typical, false, {look_primary, look_weak}},
-    {"look, 4,096 bytes", large, false, {look_primary, look_weak}},
-    {"weaken", typical, false, {weaken, 0}},
-    {"reduce", typical, false, {reduce, 0}},
-    {"new password", typical, false, {new_password, 0}},
-    {"freeze", typical, false, {freeze, 0}},
-    {"join", typical, false, {join, 0}},
-    {"validate", typical, false, {validate, 0}},
-    {"validate all", typical, false, {validate_all, 0}},
-    {"convert", typical, false, {convert, 0}},
+    {"version", &typical, false, {version, 0}},
+    {"start", &typical, false, {start, 0}},
+    {"sound", &typical, false, {sound, 0}},
+    {"new cluster", &typical, false, {new_cluster, 0}},
+    {"delete cluster", &typical, false, {delete_cluster, 0}},
+    {"new segment", &typical, true, {new_segment, 0}},
+    {"delete segment", &typical, false, {delete_segment, 0}},
+    {"read", &typical, true, {read_primary, read_weak}},
+    {"read, 4,096 bytes", &large, true, {read_large, 0}},
+    {"write", &typical, true, {write_primary, write_weak}},
+    {"look", &typical, false, {look_primary, look_weak}},
+    {"look, 4,096 bytes", &large, false, {look_primary, look_weak}},
+    {"handle of", &typical, false, {handle_of, 0}},
+    {"weaken", &typical, false, {weaken, 0}},
+    {"reduce", &typical, false, {reduce, 0}},
+    {"new password", &typical, false, {new_password, 0}},
+    {"freeze", &typical, false, {freeze, 0}},
+    {"join", &typical, false, {join, 0}},
+    {"validate", &typical, false, {validate, 0}},
+    {"validate all", &typical, false, {validate_all, 0}},
+    {"convert", &typical, false, {convert, 0}},
 };
 
 /* ---- one call on a painted stack */
@@ -147,9 +145,9 @@ static void enter(void) {
 }
 
 /* Bytes of stack below the frame of the caller. */
-static size_t touched(void (*call)(void), const uint8_t on[GELMUSZTA_IMAGE]) {
+static size_t touched(void (*call)(void), const gelmuszta_image *on) {
     uint8_t *lowest = stack;
-    memcpy(image, on, sizeof image);
+    image = *on;
     memset(stack, PAINT, sizeof stack);
     now = call;
     getcontext(&there);
@@ -173,48 +171,48 @@ static void fault(int signal) {
 }
 
 /* Whether the call reads or writes a byte of the memory. */
-static bool reaches_memory(void (*call)(void), const uint8_t on[GELMUSZTA_IMAGE]) {
+static bool reaches_memory(void (*call)(void), const gelmuszta_image *on) {
     volatile bool reaches = true;
-    memcpy(image, on, sizeof image);
-    mprotect(memory, sizeof memory, PROT_NONE);
+    image = *on;
+    mprotect(&memory, sizeof memory, PROT_NONE);
     if (sigsetjmp(faulted, 1) == 0) {
         call();
         reaches = false;
     }
-    mprotect(memory, sizeof memory, PROT_READ | PROT_WRITE);
+    mprotect(&memory, sizeof memory, PROT_READ | PROT_WRITE);
     return reaches;
 }
 
 /* ---- the stores: on each node five clusters with two segments of 400 bytes; the same, and one node filled by one segment */
 
 /* Some segments, from `first` on, are taken away one by one. */
-static void weakest(const struct handle *handle, unsigned first, unsigned cuts, struct handle *weak) {
+static void weakest(const gelmuszta_handle *handle, unsigned first, unsigned cuts, gelmuszta_handle *weak) {
     *weak = *handle;
     for (unsigned bit = first; bit < first + cuts; bit++) {
-        number |= gelmuszta_weaken(OF(*weak), (uint16_t)~(1u << bit), TO(given), &count);
+        number |= gelmuszta_weaken(weak, (uint16_t)~(1u << bit), &given, &count);
         *weak = given;
     }
 }
 
 /* With `whole` the node that calls are about has one segment alone. */
-static void make_store(uint8_t made[GELMUSZTA_IMAGE], bool whole) {
-    gelmuszta_start(image);
+static void make_store(gelmuszta_image *made, bool whole) {
+    gelmuszta_start(&image);
     for (size_t n = 0; n < NODES; n++)
         for (size_t l = 0; l < CLUSTERS; l++) {
-            uint8_t read[GELMUSZTA_PASSWORD] = {(uint8_t)(3 + 2 * l)}, write[GELMUSZTA_PASSWORD] = {(uint8_t)(4 + 2 * l)};
+            const gelmuszta_password read = {{(uint8_t)(3 + 2 * l)}}, write = {{(uint8_t)(4 + 2 * l)}};
             bool here = n == node && l == local;
-            number |= gelmuszta_new_cluster(STORE, n, l, width, read, write, TO(given), TO(other));
+            number |= gelmuszta_new_cluster(&image, n, l, width, &read, &write, &given, &other);
             if (!whole || n != node)
                 for (size_t s = 0; s < SEGMENTS; s++)
-                    number |= gelmuszta_new_segment(STORE, n, s, LENGTH, OF(other));
+                    number |= gelmuszta_new_segment(&image, &memory, n, s, LENGTH, &other);
             else if (here)
-                number |= gelmuszta_new_segment(STORE, n, segment, NODE_MEMORY, OF(other));
+                number |= gelmuszta_new_segment(&image, &memory, n, segment, NODE_MEMORY, &other);
             if (here) {
                 reader = given;
                 writer = other;
             }
         }
-    memcpy(made, image, sizeof image);
+    *made = image;
 }
 
 /* Those of four segments keep two, or three; the others are cut as often as can be. */
@@ -236,7 +234,7 @@ static struct taken {
 
 /* The most that a function took so far, with its calls at this width. */
 static void measure(size_t f, struct taken *most) {
-    const uint8_t *const images[] = {functions[f].on, damaged};
+    const gelmuszta_image *const images[] = {functions[f].on, &damaged};
     for (size_t c = 0; c < 2 && functions[f].calls[c]; c++) {
         for (size_t i = 0; i < 2; i++) {
             size_t bytes = touched(functions[f].calls[c], images[i]);
@@ -258,7 +256,7 @@ static bool row(size_t f, const struct taken *most) {
 }
 
 int main(void) {
-    static const size_t widths[] = {GELMUSZTA_WIDTH_4, GELMUSZTA_WIDTH_8, GELMUSZTA_WIDTH_16};
+    static const gelmuszta_width widths[] = {GELMUSZTA_WIDTH_4, GELMUSZTA_WIDTH_8, GELMUSZTA_WIDTH_16};
     const size_t all_functions = sizeof functions / sizeof *functions;
     struct sigaction action = {0};
     bool wrong = false;
@@ -267,11 +265,11 @@ int main(void) {
     for (size_t w = 0; w < 3; w++) {
         width = widths[w];
         number = GELMUSZTA_DONE;
-        make_store(typical, false);
-        make_store(large, true);
+        make_store(&typical, false);
+        make_store(&large, true);
         make_handles();
-        memcpy(damaged, typical, sizeof damaged);
-        damaged[0] = 2;
+        damaged = typical;
+        damaged.bytes[0] = 2;
         if (number != GELMUSZTA_DONE) return 1;
         for (size_t f = 0; f < all_functions; f++) measure(f, taken + f);
     }

@@ -6,12 +6,15 @@ pub const HANDLE_BYTES: usize = 27;
 const SMALL: usize = 21;
 const MIDDLE: usize = 23;
 const LARGE: usize = 27;
+const SHORT: u8 = 21;
+const LONGER: u8 = 23;
+const LONGEST: u8 = 27;
 const HALF: u16 = 16;
 const BYTE: u16 = 256;
 
 #[derive(Clone, Copy, Debug, PartialEq, Eq)]
 pub struct HandleBytes {
-    pub length: usize,
+    pub length: u8,
     pub bytes: [u8; HANDLE_BYTES],
 }
 
@@ -23,7 +26,7 @@ impl HandleBytes {
 
     /// The handle alone, without the zeros after it.
     pub fn held(&self) -> &[u8] {
-        &self.bytes[..self.length]
+        &self.bytes[..self.length as usize]
     }
 }
 
@@ -96,7 +99,7 @@ impl Handle {
         Handle::none()
     }
 
-    fn laid(self, length: usize, tail: [u8; 8]) -> HandleBytes {
+    fn laid(self, length: u8, tail: [u8; 8]) -> HandleBytes {
         let node = self.node;
         let local = self.local;
         let p = self.password;
@@ -143,17 +146,17 @@ impl Handle {
             Width::Four => {
                 let a = halves(s[0], s[1]);
                 let b = halves(s[2], s[3]);
-                self.laid(SMALL, [a, b, 0, 0, 0, 0, 0, 0])
+                self.laid(SHORT, [a, b, 0, 0, 0, 0, 0, 0])
             }
             Width::Eight => {
                 let a = low(s[0]);
                 let b = low(s[1]);
                 let c = low(s[2]);
                 let d = low(s[3]);
-                self.laid(MIDDLE, [a, b, c, d, 0, 0, 0, 0])
+                self.laid(LONGER, [a, b, c, d, 0, 0, 0, 0])
             }
             Width::Sixteen => self.laid(
-                LARGE,
+                LONGEST,
                 [
                     high(s[0]),
                     low(s[0]),

@@ -14,7 +14,7 @@ extern "C" {
         handle_length: usize,
         mask: u16,
         out: *mut [u8; HANDLE_BYTES],
-        out_length: *mut usize,
+        out_length: *mut u8,
     ) -> u8;
 }
 
@@ -37,7 +37,7 @@ unsafe extern "C" fn rust_weaken(
     handle_length: usize,
     mask: u16,
     out: *mut [u8; HANDLE_BYTES],
-    out_length: *mut usize,
+    out_length: *mut u8,
 ) -> u8 {
     let reply = Handle::decode(from_raw_parts(handle, handle_length)).weaken(mask);
     black_box(reply.count);
@@ -49,15 +49,17 @@ unsafe extern "C" fn rust_weaken(
 
 type Validate = unsafe extern "C" fn(*const u8, usize, *const [u8; 16]) -> bool;
 type Weaken =
-    unsafe extern "C" fn(*const u8, usize, u16, *mut [u8; HANDLE_BYTES], *mut usize) -> u8;
+    unsafe extern "C" fn(*const u8, usize, u16, *mut [u8; HANDLE_BYTES], *mut u8) -> u8;
 
 fn validates(by: Validate, handle: &HandleBytes) -> bool {
-    unsafe { by(handle.bytes.as_ptr(), handle.length, black_box(&PRIMARY)) }
+    let length = handle.length.into();
+    unsafe { by(handle.bytes.as_ptr(), length, black_box(&PRIMARY)) }
 }
 
 fn weakened(by: Weaken, handle: &HandleBytes, mask: u16, given: &mut HandleBytes) -> u8 {
     let (bytes, length) = (&mut given.bytes, &mut given.length);
-    unsafe { by(handle.bytes.as_ptr(), handle.length, mask, bytes, length) }
+    let own = handle.length.into();
+    unsafe { by(handle.bytes.as_ptr(), own, mask, bytes, length) }
 }
 
 /// Weakened on both sides, which come to the same.

@@ -101,7 +101,7 @@ impl Asked {
                 asked.memory.len(),
                 asked.segment,
                 asked.handle.bytes.as_ptr(),
-                asked.handle.length,
+                asked.handle.length.into(),
                 buffer.as_mut_ptr(),
                 buffer.len(),
             )
@@ -120,7 +120,7 @@ impl Asked {
                 asked.current,
                 asked.segment,
                 asked.handle.bytes.as_ptr(),
-                asked.handle.length,
+                asked.handle.length.into(),
             )
         }
     }

@@ -19,7 +19,7 @@ use store::Table;
 extern "C" {
     fn measured_encrypt(key: *const [u8; 16], block: *const [u8; 16], out: *mut [u8; 16]);
     fn measured_sound(bases: *const Table, lengths: *const Table, size: usize) -> bool;
-    fn gelmuszta_sound(image: *const [u8; IMAGE], size: usize) -> bool;
+    fn gelmuszta_sound(image: *const [u8; IMAGE]) -> bool;
 }
 
 const BATCHES: usize = 400;
@@ -60,8 +60,8 @@ extern "C" fn rust_sound(bases: &Table, lengths: &Table, size: usize) -> bool {
 }
 
 #[inline(never)]
-extern "C" fn rust_sound_in(image: &[u8; IMAGE], size: usize) -> bool {
-    image::sound_in(image, size)
+extern "C" fn rust_sound_in(image: &[u8; IMAGE]) -> bool {
+    image::sound_in(image, store::MEMORY)
 }
 
 /// Each encryption takes the last one's result as its key and as its block.
@@ -113,10 +113,9 @@ fn report_making(bases: &Table, lengths: &Table) {
 /// An image tested as it stands.
 fn soundness_in(name: &str, image: [u8; IMAGE]) {
     let mut ends = (true, true);
-    let size = store::MEMORY;
     let times = beside(
-        || ends.0 &= unsafe { gelmuszta_sound(black_box(&image), size) },
-        || ends.1 &= rust_sound_in(black_box(&image), size),
+        || ends.0 &= unsafe { gelmuszta_sound(black_box(&image)) },
+        || ends.1 &= rust_sound_in(black_box(&image)),
     );
     assert_eq!(ends, (true, true), "the image is sound");
     report(name, times);
@@ -161,8 +160,8 @@ fn widths() {
 }
 
 fn judged_alike(image: &[u8; IMAGE], sound: bool) {
-    let proved = unsafe { gelmuszta_sound(image, store::MEMORY) };
-    let rust = rust_sound_in(image, store::MEMORY);
+    let proved = unsafe { gelmuszta_sound(image) };
+    let rust = rust_sound_in(image);
     assert_eq!((proved, rust), (sound, sound), "the two judge alike");
 }
 

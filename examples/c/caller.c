@@ -1,29 +1,29 @@
 #include "gelmuszta.h"
 #include <stdio.h>
 
-static uint8_t image[GELMUSZTA_IMAGE], memory[GELMUSZTA_MEMORY];
-
-struct handle {
-    uint8_t bytes[GELMUSZTA_HANDLE];
-    size_t length;
-};
+static gelmuszta_image image;
+static gelmuszta_memory memory;
 
 int main(void) {
-    uint8_t read_password[GELMUSZTA_PASSWORD] = {1}, write_password[GELMUSZTA_PASSWORD] = {2}, buffer[8], count;
-    size_t length, node = 0, local = 2, width = GELMUSZTA_WIDTH_8, segment = 5, size = 7;
-    struct handle reader, writer, weaker;
+    const gelmuszta_password read = {{1}}, write = {{2}};
+    const size_t node = 0, local = 2, segment = 5, size = 7;
+    gelmuszta_handle reader, writer, weaker;
+    gelmuszta_number number;
+    uint8_t buffer[8], count;
+    size_t length;
 
-    gelmuszta_start(image);
-    if (gelmuszta_new_cluster(image, memory, sizeof memory, node, local, width, read_password, write_password,
-                              reader.bytes, &reader.length, writer.bytes, &writer.length)
-        || gelmuszta_new_segment(image, memory, sizeof memory, node, segment, size, writer.bytes, writer.length)
-        || gelmuszta_write(image, memory, sizeof memory, segment, writer.bytes, writer.length,
-                           (const uint8_t *)"strip 9", size)
-        || gelmuszta_weaken(reader.bytes, reader.length, 1u << segment, weaker.bytes, &weaker.length, &count)
-        || gelmuszta_read(image, memory, sizeof memory, segment, weaker.bytes, weaker.length, buffer, sizeof buffer,
-                          &length))
+    gelmuszta_start(&image);
+    if ((number = gelmuszta_new_cluster(&image, node, local, GELMUSZTA_WIDTH_8, &read, &write, &reader, &writer))
+        || (number = gelmuszta_new_segment(&image, &memory, node, segment, size, &writer))
+        || (number = gelmuszta_write(&image, &memory, segment, &writer, (const uint8_t *)"strip 9", size))
+        || (number = gelmuszta_weaken(&reader, 1u << segment, &weaker, &count))
+        || (number = gelmuszta_read(&image, &memory, segment, &weaker, buffer, sizeof buffer, &length))) {
+        printf("%d: %s\n", number, gelmuszta_word(number));
         return 1;
-    printf("%zu bytes by a handle of %zu: %.*s\n", length, weaker.length, (int)length, (const char *)buffer);
-    printf("%d\n", gelmuszta_write(image, memory, sizeof memory, segment, weaker.bytes, weaker.length, buffer, length));
+    }
+    printf("%zu bytes by a handle of %d: ", length, weaker.length);
+    fwrite(buffer, 1, length, stdout);
+    number = gelmuszta_write(&image, &memory, segment, &weaker, buffer, length);
+    printf("\n%d: %s\n", number, gelmuszta_word(number));
     return 0;
 }

@@ -1,4 +1,4 @@
-/* What the files of this caller share: one store, handles with their lengths, and what is expected of a call. */
+/* What the files of this caller share: one store, and what is expected of a call. */
 #ifndef EVERY_H
 #define EVERY_H
 
@@ -6,27 +6,25 @@
 #include <stdio.h>
 #include <string.h>
 
-/* A handle of any width, and how many bytes it has. */
-struct handle {
-    uint8_t bytes[GELMUSZTA_HANDLE];
-    size_t length;
-};
-
-/* The store as calls take it, a handle presented, and where a handle given goes. */
-#define STORE image, memory, sizeof memory
-#define OF(handle) (handle).bytes, (handle).length
-#define TO(handle) (handle).bytes, &(handle).length
-
-extern uint8_t image[GELMUSZTA_IMAGE], memory[GELMUSZTA_MEMORY];
-extern const struct handle none;
+extern gelmuszta_image image;
+extern gelmuszta_memory memory;
+extern const gelmuszta_handle none;
 
 void expect(const char *what, int holds);
 
-/* Whether two handles are the same: all 27 bytes, those after the length too, and the length. */
-int same(const struct handle *one, const struct handle *other);
+/* Whether two are the same, to the last byte. */
+int same(const gelmuszta_handle *one, const gelmuszta_handle *other);
+int same_image(const gelmuszta_image *one, const gelmuszta_image *other);
 
 /* A primary handle as the header has it: the name, the password, all bits of the selector set, zeros after the length. */
-struct handle primary(size_t node, size_t local, size_t width, const uint8_t password[GELMUSZTA_PASSWORD]);
+gelmuszta_handle primary(size_t node, size_t local, gelmuszta_width width, const gelmuszta_password *password);
+
+/* What a handle has for its password, and the same handle with another one. */
+gelmuszta_password password_of(const gelmuszta_handle *handle);
+gelmuszta_handle with_password(const gelmuszta_handle *handle, const gelmuszta_password *password);
+
+/* The bytes of a string. */
+static inline const uint8_t *data(const char *string) { return (const uint8_t *)string; }
 
 /* A record of the image has 114 bytes: active, width, two passwords from 2 and 18 on, sixteen segments from 34 on. */
 static inline size_t record_at(size_t node, size_t local) { return (node * 8 + local) * 114; }

@@ -2,54 +2,52 @@
 #include "every.h"
 
 /* A segment is frozen: only its mark changes, the second time nothing does, and calls 4, 6 and 2 leave it. */
-static void frozen_segment(size_t node, size_t segment, const struct handle *reader, const struct handle *writer) {
-    const uint8_t *data = (const uint8_t *)"thaw!!!";
+static void frozen_segment(size_t node, size_t segment, const gelmuszta_handle *reader, const gelmuszta_handle *writer) {
     const size_t mark = mark_at(node, writer->bytes[2], segment);
-    uint8_t before[GELMUSZTA_IMAGE], buffer[9] = {0};
+    gelmuszta_image before = image;
+    uint8_t buffer[9] = {0};
     size_t from = 99, length = 99;
 
-    memcpy(before, image, sizeof before);
-    expect("freeze absent", gelmuszta_freeze(STORE, node, segment + 1, OF(*writer)) == GELMUSZTA_ABSENT);
-    expect("freeze by reader", gelmuszta_freeze(STORE, node, segment, OF(*reader)) == GELMUSZTA_VIOLATED);
-    expect("not frozen yet", memcmp(image, before, sizeof image) == 0 && image[mark] == 0);
-    expect("freeze", gelmuszta_freeze(STORE, node, segment, OF(*writer)) == GELMUSZTA_DONE);
-    before[mark] = 1;
-    expect("mark", memcmp(image, before, sizeof image) == 0);
-    expect("freeze twice", gelmuszta_freeze(STORE, node, segment, OF(*writer)) == GELMUSZTA_DONE
-                               && memcmp(image, before, sizeof image) == 0);
-    expect("delete frozen", gelmuszta_delete_segment(STORE, node, segment, OF(*writer)) == GELMUSZTA_FROZEN);
-    expect("write frozen", gelmuszta_write(STORE, segment, OF(*writer), data, 7) == GELMUSZTA_FROZEN);
-    expect("delete its cluster", gelmuszta_delete_cluster(STORE, node, OF(*writer)) == GELMUSZTA_FROZEN);
-    expect("make it anew", gelmuszta_new_segment(STORE, node, segment, 7, OF(*writer)) == GELMUSZTA_PRESENT);
-    expect("as it was frozen", memcmp(image, before, sizeof image) == 0);
-    expect("read frozen", gelmuszta_read(STORE, segment, OF(*reader), buffer, sizeof buffer, &length) == GELMUSZTA_DONE
+    expect("freeze absent", gelmuszta_freeze(&image, node, segment + 1, writer) == GELMUSZTA_ABSENT);
+    expect("freeze by reader", gelmuszta_freeze(&image, node, segment, reader) == GELMUSZTA_VIOLATED);
+    expect("not frozen yet", same_image(&image, &before) && image.bytes[mark] == 0);
+    expect("freeze", gelmuszta_freeze(&image, node, segment, writer) == GELMUSZTA_DONE);
+    before.bytes[mark] = 1;
+    expect("mark", same_image(&image, &before));
+    expect("freeze twice", gelmuszta_freeze(&image, node, segment, writer) == GELMUSZTA_DONE && same_image(&image, &before));
+    expect("delete frozen", gelmuszta_delete_segment(&image, node, segment, writer) == GELMUSZTA_FROZEN);
+    expect("write frozen", gelmuszta_write(&image, &memory, segment, writer, data("thaw!!!"), 7) == GELMUSZTA_FROZEN);
+    expect("delete its cluster", gelmuszta_delete_cluster(&image, node, writer) == GELMUSZTA_FROZEN);
+    expect("make it anew", gelmuszta_new_segment(&image, &memory, node, segment, 7, writer) == GELMUSZTA_PRESENT);
+    expect("as it was frozen", same_image(&image, &before));
+    expect("read frozen", gelmuszta_read(&image, &memory, segment, reader, buffer, sizeof buffer, &length) == GELMUSZTA_DONE
                               && length == 5 && memcmp(buffer, "cited\0", 6) == 0);
-    expect("look at frozen", gelmuszta_look(STORE, node, segment, OF(*reader), &from, &length) == GELMUSZTA_DONE
-                                 && length == 5 && memcmp(memory + from, "cited", 5) == 0);
+    expect("look at frozen", gelmuszta_look(&image, node, segment, reader, &from, &length) == GELMUSZTA_DONE && length == 5
+                                 && memcmp(memory.bytes + from, "cited", 5) == 0);
 }
 
 /* A mark is 0 or 1, and 1 only where the segment is present. */
-static void wrong_mark(size_t at, uint8_t mark, size_t segment, const struct handle *writer) {
-    const uint8_t right = image[at];
+static void wrong_mark(size_t at, uint8_t mark, size_t segment, const gelmuszta_handle *writer) {
+    const uint8_t right = image.bytes[at];
 
-    image[at] = mark;
-    expect("wrong mark", !gelmuszta_sound(image, sizeof memory));
-    expect("freeze", gelmuszta_freeze(STORE, writer->bytes[1], segment, OF(*writer)) == GELMUSZTA_UNSOUND);
-    expect("mark left alone", image[at] == mark);
-    image[at] = right;
+    image.bytes[at] = mark;
+    expect("wrong mark", !gelmuszta_sound(&image));
+    expect("freeze", gelmuszta_freeze(&image, writer->bytes[1], segment, writer) == GELMUSZTA_UNSOUND);
+    expect("mark left alone", image.bytes[at] == mark);
+    image.bytes[at] = right;
 }
 
 void freezing(size_t node, size_t local, size_t segment) {
-    const uint8_t first_password[GELMUSZTA_PASSWORD] = {5}, second_password[GELMUSZTA_PASSWORD] = {6};
-    struct handle reader, writer;
+    const gelmuszta_password first = {{5}}, second = {{6}};
+    gelmuszta_handle reader, writer;
 
-    gelmuszta_new_cluster(STORE, node, local, 8, first_password, second_password, TO(reader), TO(writer));
-    gelmuszta_new_segment(STORE, node, segment, 5, OF(writer));
-    expect("write", gelmuszta_write(STORE, segment, OF(writer), (const uint8_t *)"cited", 5) == GELMUSZTA_DONE);
+    expect("made", !gelmuszta_new_cluster(&image, node, local, GELMUSZTA_WIDTH_8, &first, &second, &reader, &writer)
+                       && !gelmuszta_new_segment(&image, &memory, node, segment, 5, &writer)
+                       && !gelmuszta_write(&image, &memory, segment, &writer, data("cited"), 5));
     frozen_segment(node, segment, &reader, &writer);
     wrong_mark(mark_at(node, local, segment), 2, segment, &writer);
     wrong_mark(mark_at(node, local, segment + 1), 1, segment, &writer);
     wrong_mark(mark_at(node, local + 1, segment), 1, segment, &writer);
-    expect("still frozen", gelmuszta_sound(image, sizeof memory)
-                               && gelmuszta_delete_segment(STORE, node, segment, OF(writer)) == GELMUSZTA_FROZEN);
+    expect("still frozen", gelmuszta_sound(&image)
+                               && gelmuszta_delete_segment(&image, node, segment, &writer) == GELMUSZTA_FROZEN);
 }

@@ -2,53 +2,56 @@
 #include "every.h"
 
 /* Joins two handles, in both orders: number and handle are the same. */
-static void join(const char *what, size_t mode, const struct handle *handle, const struct handle *other, uint8_t number,
-                 const struct handle *joined) {
-    struct handle first, second;
+static void join(const char *what, gelmuszta_mode mode, const gelmuszta_handle *handle, const gelmuszta_handle *other,
+                 gelmuszta_number number, const gelmuszta_handle *joined) {
+    gelmuszta_handle first, second;
 
     memset(&first, 99, sizeof first);
     memset(&second, 99, sizeof second);
-    expect(what, gelmuszta_join(STORE, mode, OF(*handle), OF(*other), TO(first)) == number
-                     && gelmuszta_join(STORE, mode, OF(*other), OF(*handle), TO(second)) == number
-                     && same(&first, joined) && same(&second, joined));
+    expect(what, gelmuszta_join(&image, mode, handle, other, &first) == number
+                     && gelmuszta_join(&image, mode, other, handle, &second) == number && same(&first, joined)
+                     && same(&second, joined));
 }
 
 /* A join for reading that is refused, whichever of the two handles stands first. */
-static void not_joined(const char *what, const struct handle *handle, const struct handle *other, uint8_t number) {
+static void not_joined(const char *what, const gelmuszta_handle *handle, const gelmuszta_handle *other,
+                       gelmuszta_number number) {
     join(what, GELMUSZTA_MODE_READ, handle, other, number, &none);
 }
 
 /* Segments 0 to 2 from one maker and 3 to 4 from another: one handle reads them all, no other, and writes none. */
-static void joined_handles(const struct handle *low, const struct handle *high, const uint8_t *password) {
-    const size_t read = GELMUSZTA_MODE_READ;
-    struct handle both = *low, narrow, reduced;
+static void joined_handles(const gelmuszta_handle *low, const gelmuszta_handle *high, const gelmuszta_password *password) {
+    const gelmuszta_mode read = GELMUSZTA_MODE_READ;
+    gelmuszta_handle both, narrow, reduced;
+    gelmuszta_password converted;
     uint8_t buffer[4], count;
     size_t length;
 
-    gelmuszta_convert(password, 0x1f, both.bytes + 3);
+    gelmuszta_convert(password, 0x1f, &converted);
+    both = with_password(low, &converted);
     both.bytes[19] = 0x1f;
     join("join", read, low, high, GELMUSZTA_DONE, &both);
     join("join one within the other", read, &both, high, GELMUSZTA_DONE, &both);
-    gelmuszta_weaken(OF(*high), 0x08, TO(narrow), &count);
-    gelmuszta_reduce(STORE, read, OF(narrow), TO(reduced));
+    expect("reduce", !gelmuszta_weaken(high, 0x08, &narrow, &count) && !gelmuszta_reduce(&image, read, &narrow, &reduced));
     join("join with itself", read, &narrow, &narrow, GELMUSZTA_DONE, &reduced);
     expect("reduced", narrow.bytes[20] == 0xef && reduced.bytes[19] == 0x08 && reduced.bytes[20] == 255);
-    expect("read joined", gelmuszta_read(STORE, 0, OF(both), buffer, sizeof buffer, &length) == GELMUSZTA_DONE
+    expect("read joined", gelmuszta_read(&image, &memory, 0, &both, buffer, sizeof buffer, &length) == GELMUSZTA_DONE
                               && memcmp(buffer, "zero", 4) == 0);
-    expect("read joined", gelmuszta_read(STORE, 4, OF(both), buffer, sizeof buffer, &length) == GELMUSZTA_DONE
+    expect("read joined", gelmuszta_read(&image, &memory, 4, &both, buffer, sizeof buffer, &length) == GELMUSZTA_DONE
                               && memcmp(buffer, "four", 4) == 0);
-    expect("read beside", gelmuszta_read(STORE, 5, OF(both), buffer, sizeof buffer, &length) == GELMUSZTA_NOT_REFERENCED);
-    expect("write joined", gelmuszta_write(STORE, 4, OF(both), buffer, sizeof buffer) == GELMUSZTA_VIOLATED);
+    expect("read beside", gelmuszta_read(&image, &memory, 5, &both, buffer, sizeof buffer, &length)
+                              == GELMUSZTA_NOT_REFERENCED);
+    expect("write joined", gelmuszta_write(&image, &memory, 4, &both, buffer, sizeof buffer) == GELMUSZTA_VIOLATED);
 }
 
 /* Every number that a join is refused with, and some that come before others which apply too. */
-static void handles_not_joined(const struct handle *low, const struct handle *reader, const struct handle *writer) {
-    struct handle wrong_one = *reader, rest;
+static void handles_not_joined(const gelmuszta_handle *low, const gelmuszta_handle *reader, const gelmuszta_handle *writer) {
+    gelmuszta_handle wrong_one = *reader, rest;
     uint8_t count;
 
-    image[0] = 2;
+    image.bytes[0] = 2;
     not_joined("join on a damaged image", low, reader, GELMUSZTA_UNSOUND);
-    image[0] = 0;
+    image.bytes[0] = 0;
     wrong_one.bytes[0] = 1;
     not_joined("join, no such node", low, &wrong_one, GELMUSZTA_NO_SUCH_PLACE);
     wrong_one.bytes[0] = 0;
@@ -67,27 +70,28 @@ static void handles_not_joined(const struct handle *low, const struct handle *re
     not_joined("join apart, in two nodes", low, &wrong_one, GELMUSZTA_APART);
     not_joined("join for another mode", low, writer, GELMUSZTA_VIOLATED);
     join("join for another mode", GELMUSZTA_MODE_WRITE, low, writer, GELMUSZTA_VIOLATED, &none);
-    gelmuszta_weaken(OF(*reader), 0xf8, TO(rest), &count);
+    expect("the rest", !gelmuszta_weaken(reader, 0xf8, &rest, &count));
     not_joined("join to all eight", low, &rest, GELMUSZTA_WHOLE);
     not_joined("join with a primary handle", low, reader, GELMUSZTA_WHOLE);
     not_joined("join a primary handle with itself", reader, reader, GELMUSZTA_WHOLE);
 }
 
 void joining(size_t node, size_t local) {
-    const uint8_t first_password[GELMUSZTA_PASSWORD] = {9}, second_password[GELMUSZTA_PASSWORD] = {10};
-    uint8_t before[GELMUSZTA_IMAGE], bytes[GELMUSZTA_MEMORY], count;
-    struct handle reader, writer, low, high;
+    const gelmuszta_password first = {{9}}, second = {{10}};
+    gelmuszta_handle reader, writer, low, high;
+    gelmuszta_image before;
+    gelmuszta_memory bytes;
+    uint8_t count;
 
-    gelmuszta_new_cluster(STORE, node, local, 8, first_password, second_password, TO(reader), TO(writer));
-    gelmuszta_new_segment(STORE, node, 0, 4, OF(writer));
-    gelmuszta_new_segment(STORE, node, 4, 4, OF(writer));
-    gelmuszta_write(STORE, 0, OF(writer), (const uint8_t *)"zero", 4);
-    gelmuszta_write(STORE, 4, OF(writer), (const uint8_t *)"four", 4);
-    gelmuszta_weaken(OF(reader), 0x07, TO(low), &count);
-    gelmuszta_weaken(OF(reader), 0x18, TO(high), &count);
-    memcpy(before, image, sizeof before);
-    memcpy(bytes, memory, sizeof bytes);
-    joined_handles(&low, &high, first_password);
+    expect("made", !gelmuszta_new_cluster(&image, node, local, GELMUSZTA_WIDTH_8, &first, &second, &reader, &writer)
+                       && !gelmuszta_new_segment(&image, &memory, node, 0, 4, &writer)
+                       && !gelmuszta_new_segment(&image, &memory, node, 4, 4, &writer)
+                       && !gelmuszta_write(&image, &memory, 0, &writer, data("zero"), 4)
+                       && !gelmuszta_write(&image, &memory, 4, &writer, data("four"), 4)
+                       && !gelmuszta_weaken(&reader, 0x07, &low, &count) && !gelmuszta_weaken(&reader, 0x18, &high, &count));
+    before = image;
+    bytes = memory;
+    joined_handles(&low, &high, &first);
     handles_not_joined(&low, &reader, &writer);
-    expect("a join changes nothing", memcmp(image, before, sizeof image) == 0 && memcmp(memory, bytes, sizeof memory) == 0);
+    expect("a join changes nothing", same_image(&image, &before) && memcmp(&memory, &bytes, sizeof memory) == 0);
 }

@@ -1,13 +1,23 @@
-//! The header's numbers are those of the table, in its order and with its words.
+//! The header's numbers and words are those of the table, and each function's numbers are the model's, in their order.
 
-use model::table::{numbers_of_calls, word, DONE, FROZEN, LENGTH};
+mod support;
+
+use model::call::Call;
+use model::table::{numbers_of, numbers_of_calls, word, DONE, FROZEN, LENGTH};
+use std::collections::BTreeMap;
+use support::every::{every, Rest};
+use support::{new_cluster, reader};
 
 const HEADER: &str = include_str!("../../include/gelmuszta.h");
 
+fn between(start: &str, end: &str) -> &'static str {
+    let from = HEADER.split_once(start).unwrap().1;
+    from.split_once(end).unwrap().0
+}
+
 /// The lines of the enumeration: name, number, and what its comment says.
 fn lines() -> impl Iterator<Item = (&'static str, u8, Option<&'static str>)> {
-    let numbers = HEADER.split_once("enum gelmuszta_number {").unwrap().1;
-    let numbers = numbers.split_once("};").unwrap().0;
+    let numbers = between("enum {", "};");
     let lines = numbers.lines().filter_map(|line| line.split_once(" = "));
     lines.map(|(name, rest)| {
         let digits = rest.split(|c: char| !c.is_ascii_digit()).next().unwrap();
@@ -41,27 +51,94 @@ fn numbers_in_the_table_s_order() {
 }
 
 #[test]
-fn words_and_names() {
+fn names_and_what_is_said_of_them() {
     for (name, number, comment) in lines() {
         let word = word(number).unwrap();
         let spelled = word.to_uppercase().replace(' ', "_");
         let name = name.strip_prefix("GELMUSZTA_").unwrap();
         assert!(spelled.starts_with(name), "{name} {spelled}");
         if number != DONE {
-            let said = comment.unwrap().split([',', ':']).next();
-            assert_eq!(said, Some(word));
+            let said = comment.unwrap().split_once(':').unwrap().0;
+            assert_eq!(said, word);
         }
     }
-    for (name, number, said) in [
-        ("GELMUSZTA_EMPTY", 21, "empty, 7: "),
-        ("GELMUSZTA_FROZEN", 22, "frozen, "),
-        ("GELMUSZTA_WHOLE", 23, "whole, 11: "),
-        ("GELMUSZTA_APART", 24, "apart, 11: "),
-        ("GELMUSZTA_LENGTH", 25, "length, "),
+}
+
+/// The words that `gelmuszta_word` has in its table, each at its number, and what it says to other numbers.
+#[test]
+fn words_at_their_numbers() {
+    let words = between("static const char words[][20] = {", "};");
+    let words: Vec<&str> = words.split('"').skip(1).step_by(2).collect();
+    let table: Vec<&str> = (0..=u8::MAX).map_while(word).collect();
+    assert_eq!(words, table);
+    assert_eq!((words.len(), words[25]), (26, "length"));
+    let longest = words.iter().map(|word| word.len()).max();
+    assert_eq!(longest, Some(19), "a word and its end fit into 20");
+    assert!(HEADER.contains("? words[number] : \"no such number\";"));
+}
+
+/// The functions that return a number, each with the numbers that its paragraph names.
+fn rows() -> BTreeMap<&'static str, Vec<u8>> {
+    let parts: Vec<&str> = HEADER.split("GELMUSZTA_USED gelmuszta_number ").collect();
+    parts
+        .windows(2)
+        .map(|pair| {
+            let name = pair[1].split_once('(').unwrap().0;
+            let paragraph = pair[0].rsplit_once("/* ").unwrap().1;
+            let (_, row) = paragraph.split_once("Numbers: ").unwrap();
+            let (row, end) = row.split_once('.').unwrap();
+            assert_eq!(end.trim(), "*/", "{name}: the numbers come last");
+            let numbers = row.split(' ').map(|number| number.parse().unwrap());
+            (name, numbers.collect())
+        })
+        .collect()
+}
+
+fn function(call: &Call) -> &'static str {
+    match call {
+        Call::NewCluster { .. } => "gelmuszta_new_cluster",
+        Call::DeleteCluster { .. } => "gelmuszta_delete_cluster",
+        Call::NewSegment { .. } => "gelmuszta_new_segment",
+        Call::DeleteSegment { .. } => "gelmuszta_delete_segment",
+        Call::Read { .. } => "gelmuszta_read",
+        Call::Write { .. } => "gelmuszta_write",
+        Call::Weaken { .. } => "gelmuszta_weaken",
+        Call::Reduce { .. } => "gelmuszta_reduce",
+        Call::NewPassword { .. } => "gelmuszta_new_password",
+        Call::Freeze { .. } => "gelmuszta_freeze",
+        Call::Join { .. } => "gelmuszta_join",
+        Call::Look { .. } => "gelmuszta_look",
+        Call::Validate { .. } => "gelmuszta_validate",
+    }
+}
+
+/// Each call's row is the model's, in its order; a handle from bytes can be refused for its length alone.
+#[test]
+fn each_function_s_numbers_in_the_order_looked_at() {
+    let (handle, rest) = (
+        reader().to_bytes(),
+        Rest {
+            node: 0,
+            segment: 5,
+            mode: None,
+        },
+    );
+    let calls = every(&handle, &handle, rest).into_iter();
+    let calls = calls.chain([new_cluster(0, 2)]);
+    let expected = calls.map(|call| (function(&call), numbers_of(&call)));
+    let expected: BTreeMap<&str, Vec<u8>> = expected
+        .chain([("gelmuszta_handle_of", vec![LENGTH])])
+        .collect();
+    assert_eq!(rows(), expected);
+    assert_eq!(expected.len(), 14);
+    for (name, numbers) in [
+        ("gelmuszta_new_cluster", vec![1, 2, 3, 6, 7]),
+        (
+            "gelmuszta_write",
+            vec![25, 1, 2, 3, 4, 8, 25, 9, 11, 14, 22, 15],
+        ),
+        ("gelmuszta_weaken", vec![25, 2, 4, 21, 17]),
     ] {
-        let line = lines().find(|line| line.0 == name);
-        assert!(line.is_some_and(|(_, found, comment)| {
-            found == number && comment.is_some_and(|comment| comment.starts_with(said))
-        }));
+        assert_eq!(expected[name], numbers);
     }
 }

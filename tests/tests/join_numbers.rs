@@ -77,7 +77,7 @@ fn numbers_in_their_order() {
     for joint in joint::all() {
         let mut bench = Bench {
             store: joint.store.clone(),
-            memory: vec![0x77; joint.memory_bytes],
+            memory: vec![0x77; MEMORY_BYTES],
         };
         let before = bench.clone();
         let (width, flat) = (joint.width, joint.width.flat());

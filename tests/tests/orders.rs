@@ -5,7 +5,7 @@ mod support;
 
 use model::call::{Call, Part, Reply};
 use model::handle::{Handle, Selector, Width};
-use model::sizes::NODE_BYTES;
+use model::sizes::{MEMORY_BYTES, NODE_BYTES};
 use model::store::{Cluster, Segment};
 use support::faults::{self, Faulty, Kind, BASE, LENGTH, LOCAL, NODE};
 use support::*;
@@ -46,7 +46,7 @@ fn done(faulty: &Faulty, kind: Kind) -> (Bench, Reply, Vec<u8>) {
 fn put_to(faulty: &Faulty) -> Bench {
     Bench {
         store: faulty.store.clone(),
-        memory: vec![0x77; faulty.memory_bytes],
+        memory: vec![0x77; MEMORY_BYTES],
     }
 }
 

@@ -5,6 +5,7 @@ mod support;
 
 use model::call::{Call, Reply};
 use model::handle::{Handle, Password, Width};
+use model::sizes::MEMORY_BYTES;
 use support::renewed::{self, LOCAL, NODE};
 use support::*;
 
@@ -136,7 +137,7 @@ fn numbers_in_their_order() {
     for renewed in renewed::all() {
         let mut state = Bench {
             store: renewed.store.clone(),
-            memory: vec![0x77; renewed.memory_bytes],
+            memory: vec![0x77; MEMORY_BYTES],
         };
         let mut expected = state.clone();
         let reply = match renewed.number() {

@@ -169,11 +169,11 @@ module _ (s : Store) (m : List ℕ) (current local width : ℕ) (r w : List ℕ)
 
 -- ---- call 7
 
-pub weaken-is : (b : List ℕ) (mask : ℕ) (g : Handle) → g ≡ decoded b → (w : Weakened)
-    → w ≡ weakening (widthOf g) (product (nameOf g)) g mask → (e : HandleBytes) → e ≡ written (w .handle) → (s : Store) (m : List ℕ)
+pub weaken-is : (mask : ℕ) (g : Handle) (w : Weakened) → w ≡ weakening (widthOf g) (product (nameOf g)) g mask
+    → (e : HandleBytes) → e ≡ written (w .handle) → (b : List ℕ) (s : Store) (m : List ℕ) → g ≡ decoded b
     → ended s m (record { number = w .number; first = e; second = laid noBytes; count = w .count; length = 0 }) []
     ≡ aesStep (weakeningBy mask b) (copyOf s m)
-weaken-is b mask g eg w ew e ee s m =
+weaken-is mask g w ew e ee b s m eg =
     ap
     (λ (y : HandleBytes). ended s m (record { number = w .number; first = y; second = laid noBytes; count = w .count; length = 0 }) [])
     ee

@@ -25,7 +25,7 @@ ghost use Rattle.calls.specs.Calls as calls;
 ghost use Rattle.calls.specs.Steps.{aesStep};
 ghost use Rattle.calls.specs.Answers.{copyOf, ended};
 ghost use Rattle.refusals.specs.Given.{GivenPlace};
-ghost use Rattle.handle.specs.Handles.{firstOf};
+ghost use Rattle.handle.specs.Handles.{decoded, firstOf};
 ghost use Rattle.cluster.specs.inner.Creates.{createRows};
 
 // The first refusal of call 1 that applies, or 0.
@@ -91,11 +91,11 @@ pub fn new_cluster(
 }
 
 // Call 7: the handle weakened by a mask, and how many segments it references; the same on every store and memory.
-pub fn weaken(bytes: &[u8], mask: u16) -> Answer
-    ensures { λ r. ⌜ ((s : declared.Store) (m : List ℕ)
-        → ended s m r [] ≡ aesStep (calls.weakeningBy mask (now (bytes .entry))) (copyOf s m)) ⌝ }
+pub fn weaken(handle: Handle, mask: u16) -> Answer
+    ensures { λ r. ⌜ ((b : List ℕ) (s : declared.Store) (m : List ℕ) → handle ≡ decoded b
+        → ended s m r [] ≡ aesStep (calls.weakeningBy mask b) (copyOf s m)) ⌝ }
 {
-    let reply = Handle::decode(bytes).weaken(mask);
+    let reply = handle.weaken(mask);
     let weaker = reply.handle;
     let none = HandleBytes {
         length: 0,

@@ -1,5 +1,4 @@
--- Calls that are lent no memory, or one of the store's size: what is found in an image goes with every memory of that size. And
--- handles as a caller holds them.
+-- Calls that are lent no memory, or one of the store's size: what is found in an image goes with every memory of that size.
 -- Assumes nothing.
 use mathlib.Core.Path.{_≡_, refl, sym, ap, _∙_, subst}
 use mathlib.Core.Bool.{true, false, not}
@@ -8,12 +7,9 @@ use Prim.Native.Nat.{ℕ, zero, suc, _-_, _≤_, _<_}
 use native.Mathlib.Omega.{arith}
 use lib.ListN.{length, getD, take}
 use Rattle.sizes.specs.Sizes.{memory}
-use Rattle.loops.specs.Tabulate.{tabulate}
 use Rattle.handle.specs.declared.Handle.{Handle}
 use Rattle.handle.specs.declared.HandleBytes.{HandleBytes}
 use Rattle.handle.specs.Handles.{decoded}
-use Rattle.handle.specs.Widths.{mostBytes}
-use Rattle.handle.proofs.CodecLaws.{elements, listed}
 use Rattle.store.specs.declared.Store.{Store}
 use Rattle.calls.specs.declared.Answer.{Answer}
 use Rattle.calls.specs.declared.RecordLeft.{RecordLeft}
@@ -28,35 +24,10 @@ use Rattle.image.specs.Images.{storeIn}
 use Rattle.gelmuszta.specs.declared.Located.{Located}
 use Rattle.gelmuszta.specs.declared.Opened.{Opened}
 use Rattle.gelmuszta.specs.inner.Opened.{Locates, Opens, Kept}
-use Rattle.gelmuszta.specs.Exported.{bytesHeld, handed, nothing, replyOf, leaving, exported, Gives, Always}
+use Rattle.gelmuszta.specs.Exported.{nothing, replyOf, leaving, exported, Gives, Always}
 use Rattle.gelmuszta.proofs.ReplyLaws.{Silent, OneHandle, TwoHandles, Length}
 use Rattle.gelmuszta.proofs.ExportLaws.{held-of, given-of, place-of, refused-unsound, weaken-always}
 use Rattle.gelmuszta.proofs.ExportLaws.{kept-silent, kept-handle, kept-handles, same-silent, same-handle, same-told}
-
--- ---- handles held
-
--- more than there are is all of them
-pub all-held : (hs : List ℕ) (n : ℕ) → n ≡ getD hs mostBytes 0 → length hs ≡ 28 → 28 < n → hs ≡ bytesHeld hs
-all-held hs n en l t = sym (take-all n hs (let q = l in omega arith)) ∙ ap (λ (k : ℕ). take k hs) en
-  where
-    take-all : (k : ℕ) (l : List ℕ) → length l ≤ k → take k l ≡ l
-    take-all zero [] q = refl
-    take-all (suc k) [] q = refl
-    take-all zero (x ∷ l) q = absurd (omega (arith, q))
-    take-all (suc k) (x ∷ l) q = ap (λ (r : List ℕ). x ∷ r) (take-all k l (omega (arith, q)))
-
-pub some-held : (hs : List ℕ) (n : ℕ) → n ≡ getD hs mostBytes 0 → take (n - 0) hs ≡ bytesHeld hs
-some-held hs n en = ap (λ (k : ℕ). take k hs) (same ∙ en)
-  where
-    same : n - 0 ≡ n
-    same = omega arith
-
-pub taken-so : (part all : List ℕ) → part ≡ all → (h : Handle) → h ≡ decoded part → h ≡ decoded all
-taken-so part all e h d = d ∙ ap decoded e
-
-pub held-so : (h : HandleBytes) → length (h .bytes) ≡ mostBytes → handed (elements mostBytes (h .bytes) ++ (h .length ∷ [])) ≡ h
-unfolding tabulate
-held-so h l = ap (λ (b : List ℕ). record { length = h .length; bytes = b }) (sym (listed mostBytes (h .bytes) l))
 
 -- ---- the core on what was found
 
@@ -118,11 +89,10 @@ module _ (b : List ℕ) (node local : ℕ) (l : Located) (w : Locates l b node l
 
 -- ---- weakening sees no store
 
-pub weaken-held : (mask : ℕ) (part all : List ℕ) → part ≡ all → (a : Answer)
-    → ((s : Store) (m : List ℕ) → ended s m a [] ≡ aesStep (weakeningBy mask part) (copyOf s m))
-    → (g : HandleBytes) → g ≡ a .first
-    → Always (weakeningBy mask all) (replyOf (a .number) g nothing (a .count) 0 [])
-weaken-held mask part all e a core g eg =
-    subst (λ (h : List ℕ). Always (weakeningBy mask h) (replyOf (a .number) g nothing (a .count) 0 [])) e
-    (subst (λ (q : HandleBytes). Always (weakeningBy mask part) (replyOf (a .number) q nothing (a .count) 0 [])) (sym eg)
-    (weaken-always (weakeningBy mask part .args) a core))
+pub weaken-held : (mask : ℕ) (h : Handle) (a : Answer)
+    → ((b : List ℕ) (s : Store) (m : List ℕ) → h ≡ decoded b → ended s m a [] ≡ aesStep (weakeningBy mask b) (copyOf s m))
+    → (b : List ℕ) → h ≡ decoded b → (g : HandleBytes) → g ≡ a .first
+    → Always (weakeningBy mask b) (replyOf (a .number) g nothing (a .count) 0 [])
+weaken-held mask h a core b e g eg =
+    subst (λ (q : HandleBytes). Always (weakeningBy mask b) (replyOf (a .number) q nothing (a .count) 0 [])) (sym eg)
+    (weaken-always (weakeningBy mask b .args) a (λ s m. core b s m e))

@@ -1,6 +1,4 @@
 -- What an exported call gives and leaves: the store comes and goes as its image, the rest as document 01 has it.
---     bytesHeld hs          the bytes of a handle that a caller holds in 28: as many as the last of them tells
---     handed hs             a handle given so: its 27 bytes, and its length
 --     nothing               no handle: 27 zeros and the length 0
 --     replyOf ..            the reply of these values, in the order of the record's fields, which shows no bytes
 --     Exported              the reply, and the image and the memory that are left; where a look's part lies stands beside it
@@ -26,11 +24,11 @@ use mathlib.Core.Path.{_≡_}
 use Prim.Native.Nat.{ℕ, _+_}
 use mathlib.Core.Bool.{Bool, true, false, not, cond}
 use mathlib.Core.List.{List, [], _∷_}
-use lib.ListN.{length, getD, take}
+use lib.ListN.{length}
 use Rattle.sizes.specs.Sizes.{memory as memoryBytes}
-use Rattle.handle.specs.Widths.{mostBytes}
 use Rattle.handle.specs.declared.HandleBytes.{HandleBytes}
 use Rattle.handle.specs.Handles.{laid}
+use Rattle.codec.specs.Held.{handed}
 use Rattle.store.specs.declared.Store.{Store}
 use Rattle.calls.specs.Calls.{Call, among, buffer}
 use Rattle.calls.specs.declared.Part.{Part}
@@ -40,12 +38,6 @@ use Rattle.calls.specs.Looks.{nowhere, aesLooked}
 use Rattle.calls.specs.Answers.{copyOf}
 use Rattle.image.specs.Images.{good, storeIn, imageOf}
 use Rattle.numbers.specs.Numbers.{unsoundNumber, wrongLengthNumber}
-
-abbrev pub bytesHeld : List ℕ → List ℕ
-bytesHeld hs = take (getD hs mostBytes 0) hs
-
-abbrev pub handed : List ℕ → HandleBytes
-handed hs = record { length = getD hs mostBytes 0; bytes = take mostBytes hs }
 
 abbrev pub nothing : HandleBytes
 nothing = laid noBytes

@@ -1,4 +1,5 @@
 pub mod Exported
+pub mod Version
 pub mod Looks
 pub mod Validation
 pub mod Fits

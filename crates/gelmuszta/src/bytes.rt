@@ -1,7 +1,7 @@
 // Calls 3, 5 and 6, and the look: they clear, read, write or show the bytes of a segment.
-use crate::HELD;
 use crate::keep;
 use crate::look_up;
+use codec::HELD;
 use image::IMAGE;
 use sizes::MEMORY;
 ghost use mathlib.Core.Path.{_≡_};
@@ -9,7 +9,8 @@ ghost use mathlib.Core.List.{[]};
 ghost use Rattle.calls.specs.Calls as calls;
 ghost use lib.ListN as lists;
 ghost use Rattle.calls.specs.Steps.{plain, lookReply};
-ghost use Rattle.gelmuszta.specs.Exported.{bytesHeld, leaving, telling, exported, OnEveryMemory, partFrom, exportedPart};
+ghost use Rattle.codec.specs.Held.{bytesHeld};
+ghost use Rattle.gelmuszta.specs.Exported.{leaving, telling, exported, OnEveryMemory, partFrom, exportedPart};
 ghost use Rattle.sizes.specs.Sizes as sizes;
 
 // The memory lent has its size: an array behind a reference tells its length only where it is taken as a slice.

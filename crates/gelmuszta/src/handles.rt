@@ -1,16 +1,14 @@
-// Conversion, weakening, reduction and joining: new passwords and handles from old ones.
-use crate::HELD;
-use crate::held;
+// Conversion, weakening, reduction and joining: new passwords and handles from old ones. And a handle from bytes.
 use crate::look_up;
-use crate::own;
-use crate::taken;
+use codec::HELD;
 use image::IMAGE;
 use numbers::LENGTH;
 use sizes::Password;
 ghost use mathlib.Core.Path.{_≡_};
 ghost use Rattle.handle.specs.Conversion.{conversion};
 ghost use Rattle.calls.specs.Calls as calls;
-ghost use Rattle.gelmuszta.specs.Exported.{bytesHeld, giving, counting, Gives, Always};
+ghost use Rattle.codec.specs.Held.{bytesHeld, heldFrom, lengthNumber};
+ghost use Rattle.gelmuszta.specs.Exported.{giving, counting, Gives, Always};
 
 // The password that a parameter turns a password into.
 #[no_mangle]
@@ -21,6 +19,17 @@ pub extern "C" fn gelmuszta_convert(password: &Password, parameter: u16, convert
     let tables = aes::tables();
     let c = handle::convert_with(&tables, p, parameter);
     *converted = c;
+}
+
+// A handle from bytes that came from elsewhere: 25 where no handle has so many, and no handle is held then.
+#[no_mangle]
+pub extern "C" fn gelmuszta_handle_of(bytes: &[u8], handle: &mut [u8; HELD]) -> u8
+    ensures number { λ r. ⌜ r ≡ lengthNumber (now (bytes .entry)) ⌝ }
+    ensures held { λ _. ⌜ now (handle .exit) ≡ heldFrom (now (bytes .entry)) ⌝ }
+{
+    let h = codec::held_from(bytes);
+    *handle = h;
+    codec::length_number(bytes)
 }
 
 // Call 7: the handle weakened by a mask, and how many segments it references. It sees no store.
@@ -34,9 +43,9 @@ pub extern "C" fn gelmuszta_weaken(
     ensures { λ r. ⌜ Always (calls.weakeningBy mask (bytesHeld (now (handle .entry))))
         (counting r (now (given .exit)) (now (count .exit))) ⌝ }
 {
-    let bytes = own(handle);
-    let answer = cluster::weaken(bytes, mask);
-    let g = held(answer.first);
+    let h = codec::taken(handle);
+    let answer = cluster::weaken(h, mask);
+    let g = codec::held(answer.first);
     *given = g;
     *count = answer.count;
     answer.number
@@ -60,7 +69,7 @@ pub extern "C" fn gelmuszta_reduce(
         return refused;
     }
     let answer = cluster::reduce(true, o.handle, o.cluster, mode);
-    let g = held(answer.first);
+    let g = codec::held(answer.first);
     *given = g;
     answer.number
 }
@@ -78,7 +87,7 @@ pub extern "C" fn gelmuszta_join(
         (giving r (now (given .exit))) (now (image .entry)) ⌝ }
 {
     let o = look_up(image, handle);
-    let second = taken(other);
+    let second = codec::taken(other);
     if second.has_width(0) {
         *given = [0; HELD];
         return LENGTH;
@@ -89,7 +98,7 @@ pub extern "C" fn gelmuszta_join(
         return refused;
     }
     let answer = cluster::join(true, o.handle, second, o.cluster, mode);
-    let g = held(answer.first);
+    let g = codec::held(answer.first);
     *given = g;
     answer.number
 }

@@ -5,16 +5,16 @@
 // the three lengths is refused with 25, an image that holds no store with 1. A call judges soundness on the image's bytes,
 // reads the record of its cluster, has the core (`cluster`) do the call on it, and writes it back.
 use calls::RecordLeft;
-use handle::HANDLE_BYTES;
+use codec::HELD;
 use handle::Handle;
-use handle::HandleBytes;
 use image::IMAGE;
 use numbers::LENGTH;
 use numbers::UNSOUND;
 use sizes::MEMORY;
 use store::Cluster;
 ghost use mathlib.Core.Path.{_≡_};
-ghost use Rattle.handle.specs.Handles.{decoded};
+ghost use Rattle.codec.specs.Held.{bytesHeld};
+ghost use Rattle.gelmuszta.specs.Version as versions;
 ghost use Rattle.gelmuszta.specs.Exported as exported;
 ghost use Rattle.gelmuszta.specs.inner.Opened as opened;
 
@@ -29,6 +29,7 @@ pub use bytes::gelmuszta_new_segment;
 pub use bytes::gelmuszta_read;
 pub use bytes::gelmuszta_write;
 pub use handles::gelmuszta_convert;
+pub use handles::gelmuszta_handle_of;
 pub use handles::gelmuszta_join;
 pub use handles::gelmuszta_reduce;
 pub use handles::gelmuszta_weaken;
@@ -41,6 +42,16 @@ pub use stores::gelmuszta_sound;
 pub use stores::gelmuszta_start;
 pub use validation::gelmuszta_validate;
 pub use validation::gelmuszta_validate_all;
+
+// The version of the library: ten thousand times the first number, a hundred times the second, and the third.
+const VERSION: u32 = 900;
+
+#[no_mangle]
+pub extern "C" fn gelmuszta_version() -> u32
+    ensures { λ r. ⌜ r ≡ versions.version ⌝ }
+{
+    VERSION
+}
 
 // What a call finds in an image: the number and the record of its cluster, the first where there is no such place; whether
 // the image holds a sound store.
@@ -82,78 +93,10 @@ fn early(none: bool, sound: bool) -> u8
     0
 }
 
-// A handle as a caller holds it: 27 bytes, and how many of them are its own.
-const HELD: usize = 28;
-
-// The byte as a wider number.
-fn wide(byte: u8) -> usize
-    ensures { λ r. ⌜ r ≡ byte ⌝ }
-{
-    byte as usize
-}
-
-// The bytes of a handle that a caller holds: as many as the last of them tells, all where that is more.
-fn own(held: &[u8; HELD]) -> &[u8]
-    ensures { λ r. ⌜ now r ≡ exported.bytesHeld (now (held .entry)) ⌝ }
-{
-    let all = &held[..];
-    let n = wide(all[HANDLE_BYTES]);
-    if HELD < n {
-        return all;
-    }
-    &all[0..n]
-}
-
-// The handle that a caller holds; none where the last byte tells none of the three lengths.
-fn taken(held: &[u8; HELD]) -> Handle
-    ensures { λ r. ⌜ r ≡ decoded (exported.bytesHeld (now (held .entry))) ⌝ }
-{
-    let bytes = own(held);
-    Handle::decode(bytes)
-}
-
-// A handle given, as a caller holds it.
-fn held(handle: HandleBytes) -> [u8; HELD]
-    ensures { λ r. ⌜ exported.handed r ≡ handle ⌝ }
-{
-    let b = handle.bytes;
-    let n = handle.length;
-    [
-        b[0],
-        b[1],
-        b[2],
-        b[3],
-        b[4],
-        b[5],
-        b[6],
-        b[7],
-        b[8],
-        b[9],
-        b[10],
-        b[11],
-        b[12],
-        b[13],
-        b[14],
-        b[15],
-        b[16],
-        b[17],
-        b[18],
-        b[19],
-        b[20],
-        b[21],
-        b[22],
-        b[23],
-        b[24],
-        b[25],
-        b[26],
-        n,
-    ]
-}
-
 fn look_up(image: &[u8; IMAGE], held: &[u8; HELD]) -> Opened
-    ensures { λ r. ⌜ opened.Opens r (now (image .entry)) (exported.bytesHeld (now (held .entry))) ⌝ }
+    ensures { λ r. ⌜ opened.Opens r (now (image .entry)) (bytesHeld (now (held .entry))) ⌝ }
 {
-    let handle = taken(held);
+    let handle = codec::taken(held);
     let l = locate(image, handle.node(), handle.local as usize);
     let cluster = l.cluster;
     let refused = early(handle.has_width(0), l.sound);

@@ -1,9 +1,8 @@
 // Calls 1, 2, 4, 9 and 10: they change the record of a cluster and no byte of the memory.
-use crate::HELD;
-use crate::held;
 use crate::keep;
 use crate::locate;
 use crate::look_up;
+use codec::HELD;
 use image::IMAGE;
 use numbers::UNSOUND;
 use sizes::Password;
@@ -11,7 +10,8 @@ ghost use mathlib.Core.Path.{_≡_};
 ghost use mathlib.Core.List.{[]};
 ghost use Rattle.calls.specs.Calls as calls;
 ghost use Rattle.calls.specs.Steps.{plain};
-ghost use Rattle.gelmuszta.specs.Exported.{bytesHeld, giving, givingBoth, Gives};
+ghost use Rattle.codec.specs.Held.{bytesHeld};
+ghost use Rattle.gelmuszta.specs.Exported.{giving, givingBoth, Gives};
 
 // Call 1: a cluster of the current node becomes active with a width; its read and its write primary handle.
 #[no_mangle]
@@ -40,8 +40,8 @@ pub extern "C" fn gelmuszta_new_cluster(
     let left = cluster::new_cluster(true, l.cluster, current, local, width, r, w);
     keep(left, l.at, image);
     let answer = left.answer;
-    let a = held(answer.first);
-    let b = held(answer.second);
+    let a = codec::held(answer.first);
+    let b = codec::held(answer.second);
     *first = a;
     *second = b;
     answer.number
@@ -110,7 +110,7 @@ pub extern "C" fn gelmuszta_new_password(
     let left = cluster::new_password(true, o.handle, o.cluster, mode, p);
     keep(left, o.at, image);
     let answer = left.answer;
-    let g = held(answer.first);
+    let g = codec::held(answer.first);
     *given = g;
     answer.number
 }

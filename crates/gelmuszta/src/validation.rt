@@ -1,7 +1,7 @@
 // Validation of one handle, and of many against one store: it is judged sound, and the cipher's tables are taken, once.
-use crate::HELD;
 use crate::look_up;
 use aes::Tables;
+use codec::HELD;
 use handle::Handle;
 use handle::Width;
 use image::IMAGE;
@@ -13,7 +13,8 @@ ghost use lib.ListN.{length};
 ghost use Rattle.aes.specs.Tables.{IsTables};
 ghost use Rattle.calls.specs.Calls as calls;
 ghost use Rattle.calls.specs.Steps.{plain};
-ghost use Rattle.gelmuszta.specs.Exported.{bytesHeld, Gives};
+ghost use Rattle.codec.specs.Held.{bytesHeld};
+ghost use Rattle.gelmuszta.specs.Exported.{Gives};
 ghost use Rattle.gelmuszta.specs.Validation as spec;
 
 // Validation asked for by itself: the number that reduction would give.

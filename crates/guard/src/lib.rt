@@ -13,11 +13,12 @@ use sizes::Password;
 use store::Cluster;
 use store::Store;
 ghost use mathlib.Core.Path.{_≡_};
-ghost use mathlib.Core.List.{[]};
-ghost use Prim.Native.Nat.{_<_};
+ghost use mathlib.Core.List.{List, []};
+ghost use Prim.Native.Nat.{ℕ, _<_};
 ghost use denote.Ref.{ptr};
 ghost use lib.ListN.{length};
 ghost use Rattle.sizes.specs.Sizes.{records};
+ghost use Rattle.store.specs.declared.Store as declared;
 ghost use Rattle.calls.specs.Calls as calls;
 ghost use Rattle.calls.specs.Steps.{aesStep};
 ghost use Rattle.calls.specs.Answers.{copyOf, ended};
@@ -25,8 +26,14 @@ ghost use Rattle.calls.specs.Looks.{aesLooked};
 ghost use Rattle.guard.specs.Places.{further};
 ghost use Rattle.guard.specs.inner.Opens.{Opens, putBack};
 
-// Weakening looks at no store.
-pub use cluster::weaken;
+// Call 7, which looks at no store.
+pub fn weaken(bytes: &[u8], mask: u16) -> Answer
+    ensures { λ r. ⌜ ((s : declared.Store) (m : List ℕ)
+        → ended s m r [] ≡ aesStep (calls.weakeningBy mask (now (bytes .entry))) (copyOf s m)) ⌝ }
+{
+    let handle = Handle::decode(bytes);
+    cluster::weaken(handle, mask)
+}
 
 // What a call that opens a cluster begins with: the handle; the number and the record of its cluster, the first where there
 // is no such place; whether the store is sound.

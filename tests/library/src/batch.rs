@@ -17,7 +17,7 @@ use model::store::{Mode, Store};
 
 /// Something that validates many handles, given the mode and the width; [`guard::validate_all`] is the one to be
 /// compared.
-pub type BatchGuard = fn(&mut Held, usize, usize, &[u8], &mut [u8]) -> usize;
+pub type BatchGuard<'a> = &'a dyn Fn(&mut Held, usize, usize, &[u8], &mut [u8]) -> usize;
 
 const MOST_HANDLES: usize = 40;
 
@@ -135,7 +135,7 @@ fn validated_alone(batch: &Batch, bytes: &[u8], tally: &mut Tally) -> Result<u8,
         beyond: batch.mode,
         ..Question::of(call)
     };
-    let answer = ask(guard::ask, &mut Sides::both(batch.held.clone()), &question)?;
+    let answer = ask(&guard::ask, &mut Sides::both(batch.held.clone()), &question)?;
     tally.note_widths(BATCH, &batch.held, &question, &answer);
     Ok(answer.reply.number)
 }
@@ -150,7 +150,7 @@ fn by_chance(random: &mut Random, damage: Option<Damage>, tally: &mut Tally) -> 
             false => (below(random, NODES), below(random, CLUSTERS)),
         };
         inflict(random, &mut held, damage, place);
-        tally.note_damage(BATCH, damage, Where::seen_from(None, damage, place));
+        tally.note_damage(BATCH, damage, Where::seen_from(None, place));
     }
     let count = below(random, MOST_HANDLES + 1);
     let places = match random.below(4) {

@@ -9,7 +9,6 @@ use std::fmt;
 /// Where damage was done, as seen from the call that came upon it.
 #[derive(Clone, Copy, Debug, PartialEq, Eq, PartialOrd, Ord)]
 pub enum Where {
-    Slice,
     LastRecord,
     ItsRecord,
     ItsNode,
@@ -17,7 +16,7 @@ pub enum Where {
 }
 
 impl Where {
-    const RECORDS: [Where; 4] = [
+    const ALL: [Where; 4] = [
         Where::LastRecord,
         Where::ItsRecord,
         Where::ItsNode,
@@ -25,9 +24,8 @@ impl Where {
     ];
 
     /// The call is about the cluster at `own`, if about one; the damage is done at `place`.
-    pub fn seen_from(own: Option<(usize, usize)>, damage: Damage, place: (usize, usize)) -> Where {
+    pub fn seen_from(own: Option<(usize, usize)>, place: (usize, usize)) -> Where {
         match own {
-            _ if !damage.has_a_record() => Where::Slice,
             _ if place == LAST_PLACE => Where::LastRecord,
             Some(own) if own == place => Where::ItsRecord,
             Some((node, _)) if node == place.0 => Where::ItsNode,
@@ -36,18 +34,11 @@ impl Where {
     }
 }
 
-fn places_of(damage: Damage) -> &'static [Where] {
-    match damage.has_a_record() {
-        true => &Where::RECORDS,
-        false => &[Where::Slice],
-    }
-}
-
 /// A batch has handles of many clusters, so no record is its own.
 fn places_in(code: u8) -> &'static [Where] {
     match code {
         BATCH => &[Where::LastRecord, Where::Elsewhere],
-        _ => &Where::RECORDS,
+        _ => &Where::ALL,
     }
 }
 
@@ -87,7 +78,7 @@ impl Damages {
                 let count = self.of_call(damage, code);
                 need(count, format!("{damage:?}, {}", name(code)));
             }
-            for &place in places_of(damage) {
+            for place in Where::ALL {
                 let count = self.at_place(damage, place);
                 need(count, format!("{damage:?}, {place:?}"));
             }
@@ -113,14 +104,11 @@ fn heading(code: u8) -> String {
 impl fmt::Display for Damages {
     fn fmt(&self, to: &mut fmt::Formatter) -> fmt::Result {
         let codes = CODES.map(|code| format!("{:>7}", heading(code))).concat();
-        let places = Where::RECORDS.map(|place| format!("{:>12}", format!("{place:?}")));
+        let places = Where::ALL.map(|place| format!("{:>12}", format!("{place:?}")));
         writeln!(to, "{:<30}{codes}{}", "damage \\ call", places.concat())?;
         for damage in Damage::ALL {
             let by_code = CODES.map(|code| format!("{:>7}", self.of_call(damage, code)));
-            let by_place = Where::RECORDS.map(|place| match places_of(damage).contains(&place) {
-                true => format!("{:>12}", self.at_place(damage, place)),
-                false => format!("{:>12}", "."),
-            });
+            let by_place = Where::ALL.map(|place| format!("{:>12}", self.at_place(damage, place)));
             let kind = format!("{damage:?}");
             writeln!(to, "{kind:<30}{}{}", by_code.concat(), by_place.concat())?;
         }

@@ -51,14 +51,14 @@ fn one(guard: Guard, random: &mut Random) -> Result<bool, String> {
 }
 
 /// A join, and what it is put to.
-struct Join {
-    guard: Guard,
+struct Join<'a> {
+    guard: Guard<'a>,
     held: Held,
     question: Question,
     mode: u32,
 }
 
-impl Join {
+impl Join<'_> {
     /// What the library replies to a call with the numbers of this one; it works on its own copy.
     fn call(&self, call: Call) -> Answer {
         let mut question = self.question.clone();

@@ -271,7 +271,7 @@ fn giving(handle: &HandleBytes) -> Reply {
 fn held(store: &Store) -> Held {
     Held {
         image: encode(store),
-        memory: vec![0; MEMORY_BYTES],
+        memory: [0; MEMORY_BYTES],
     }
 }
 

@@ -1,8 +1,11 @@
 //! A call with everything it is asked with, what it is asked of, and what is answered.
 
+use crate::ffi::HANDLE_MAX;
+use crate::guard::handles::Behind;
 use crate::image::{encode, Image};
 use model::call::{self, Call, Reply, CALLS};
 use model::handle::{Handle, HandleBytes};
+use model::sizes::MEMORY_BYTES;
 use model::store::Store;
 use std::fmt;
 
@@ -28,11 +31,13 @@ pub fn name(code: u8) -> &'static str {
     }
 }
 
-/// What a caller keeps and lends to each call.
+pub type Memory = [u8; MEMORY_BYTES];
+
+/// What a caller keeps and lends to calls.
 #[derive(Clone, PartialEq, Eq)]
 pub struct Held {
     pub image: Image,
-    pub memory: Vec<u8>,
+    pub memory: Memory,
 }
 
 impl Held {
@@ -54,6 +59,8 @@ pub struct Question {
     pub beyond: usize,
     /// A read's buffer or a write's data.
     pub buffer: Vec<u8>,
+    /// What the library gets in a handle behind its length; the model's have no such bytes.
+    pub behind: Behind,
 }
 
 impl Question {
@@ -62,6 +69,7 @@ impl Question {
             call,
             beyond: BEYOND as usize,
             buffer: Vec::new(),
+            behind: [0; HANDLE_MAX],
         }
     }
 
@@ -137,10 +145,11 @@ impl fmt::Display for Question {
     fn fmt(&self, to: &mut fmt::Formatter) -> fmt::Result {
         write!(
             to,
-            "{:?}, {BEYOND} standing for {}, buffer of {} bytes",
+            "{:?}, {BEYOND} standing for {}, buffer of {} bytes, {:02x?} behind the length",
             self.call,
             self.beyond,
-            self.buffer.len()
+            self.buffer.len(),
+            self.behind
         )
     }
 }

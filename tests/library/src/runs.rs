@@ -49,6 +49,6 @@ fn starting() -> Result<Held, String> {
     let mut image = [u8::MAX; IMAGE_BYTES];
     guard::start(&mut image);
     same_bytes("starting images", &encode(&Store::starting()), &image)?;
-    let memory = vec![0; MEMORY_BYTES];
+    let memory = [0; MEMORY_BYTES];
     Ok(Held { image, memory })
 }

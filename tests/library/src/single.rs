@@ -60,7 +60,7 @@ fn damage(random: &mut Random, held: &mut Held, question: &Question) -> (Damage,
         _ => (below(random, NODES), below(random, CLUSTERS)),
     };
     inflict(random, held, damage, place);
-    (damage, Where::seen_from(own, damage, place))
+    (damage, Where::seen_from(own, place))
 }
 
 /// The node and the local number of the cluster that a call is about, if there is such a place.
@@ -77,7 +77,7 @@ fn place_of(call: &Call) -> Option<(usize, usize)> {
 fn same_soundness(held: &mut Held) -> Result<(), String> {
     let expected = is_sound(held);
     let before = held.image;
-    let found = guard::is_sound(&mut held.image, held.memory.len());
+    let found = guard::is_sound(&mut held.image);
     if found != expected {
         return Err(format!(
             "sound is {expected} in the model, {found} in the library"

@@ -75,6 +75,12 @@ const VALIDATING: &[u8] = &[
     DONE, LENGTH, UNSOUND, NO_SUCH_PLACE, FIELD, GAPPED, INACTIVE, VIOLATED_PROTECTION,
 ];
 
+/// The numbers that calls with this code may come to, and have to.
+pub fn allowed(code: u8) -> &'static [u8] {
+    let row = ALLOWED.iter().find(|(own, _)| *own == code);
+    row.map_or(&[], |(_, numbers)| numbers)
+}
+
 /// Modes above a byte: right in the lowest byte, in the lowest two, or perhaps in the lowest four.
 const WIDE_MODES: [u32; 5] = [257, 258, 65_537, 65_538, BEYOND];
 /// What takes a mode.

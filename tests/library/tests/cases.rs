@@ -6,7 +6,7 @@ use library::chance::stores::{extents, gaps, held, store, Fill};
 use library::chance::words::WORD;
 use library::compare::is_sound;
 use library::copies::{Count, Kept};
-use library::ffi::GIVEN_BYTES;
+use library::ffi::{gelmuszta_handle, HANDLE_MAX};
 use library::image::{decode, encode, IMAGE_BYTES};
 use library::question::LOOK;
 use library::tally::Tally;
@@ -21,8 +21,14 @@ const TIMES: usize = 200;
 #[test]
 fn images_have_the_header_s_size_and_read_back() {
     assert_eq!(IMAGE_BYTES, 3648);
-    assert!(HEADER.contains(&format!("#define GELMUSZTA_IMAGE {IMAGE_BYTES}\n")));
-    assert!(HEADER.contains(&format!("#define GELMUSZTA_HANDLE {GIVEN_BYTES}\n")));
+    assert!(HEADER.contains(&format!(
+        "gelmuszta_image {{ uint8_t bytes[{IMAGE_BYTES}]; }}"
+    )));
+    assert!(HEADER.contains(&format!(
+        "gelmuszta_memory {{ uint8_t bytes[{MEMORY_BYTES}]; }}"
+    )));
+    assert!(HEADER.contains(&format!("#define GELMUSZTA_HANDLE_MAX {HANDLE_MAX}\n")));
+    assert_eq!(size_of::<gelmuszta_handle>(), 28);
     assert_eq!(encode(&Store::starting()), [0; IMAGE_BYTES]);
     let mut random = Random::from_seed(1);
     for _ in 0..TIMES {
@@ -137,7 +143,7 @@ fn what_is_not_reached_is_told() {
         "not tried: way to nothing Validated",
         "not tried: weaken with 21 (empty), damaged",
         "not reached: look with 5 (elsewhere)",
-        "not tried: damage MemoryShort, look",
+        "not tried: damage BaseAbove, look",
         "not tried: damage ItsNode, look",
         "not tried: look, LastOfAll",
         "not tried: look, NodeBeyond",

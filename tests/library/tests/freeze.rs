@@ -7,7 +7,7 @@ mod support;
 use library::chance::damage::{inflict, Damage, LAST_PLACE};
 use library::chance::stores::{held, segments, store, Fill};
 use library::chance::{below, bytes, handles};
-use library::image::{encode, record_at, segment_at, MARK_AT};
+use library::image::{record_at, segment_at, MARK_AT};
 use library::question::{Answer, Held, Question};
 use library::{edges, guard, stays};
 use model::call::{Call, Reply};
@@ -105,10 +105,7 @@ fn done(before: &Held, kind: Kind, segment: usize, data: &[u8]) -> Held {
 }
 
 fn put_to(random: &mut Random, faulty: &Faulty) -> Held {
-    Held {
-        image: encode(&faulty.store),
-        memory: bytes(random, faulty.memory_bytes),
-    }
+    held(random, &faulty.store)
 }
 
 const KINDS: [Kind; 4] = [
@@ -181,9 +178,8 @@ fn marks_are_0_or_1() {
             for mark in 0..=u8::MAX {
                 let mut held = before.clone();
                 held.image[segment_at(node, local, segment).start + MARK_AT] = mark;
-                let memory_bytes = held.memory.len();
                 let sound = mark == 0 || mark == 1 && present;
-                assert_eq!(guard::is_sound(&mut held.image, memory_bytes), sound);
+                assert_eq!(guard::is_sound(&mut held.image), sound);
                 let (answer, _) = asked(&held, &right.call, &[]);
                 assert_eq!(answer.reply.number, u8::from(!sound));
             }
@@ -191,18 +187,18 @@ fn marks_are_0_or_1() {
     }
 }
 
-/// Four nodes, nine stretches and three freezes; of 26 rows of arguments, and as many more as there are segments, three
+/// Four nodes, nine stretches and three freezes; of 20 rows of arguments, and as many more as there are segments, two
 /// are right.
 #[test]
 fn edges_are_all_tried() {
-    let freezes = edges::freezes(guard::ask, 5);
-    let rows = (26 + 4) + (26 + 8) + (26 + 16);
-    assert_eq!(freezes, Ok((4 * 9 * 3 * rows, 4 * 9 * 2 * 3 * 3)));
+    let freezes = edges::freezes(&guard::ask, 5);
+    let rows = (20 + 4) + (20 + 8) + (20 + 16);
+    assert_eq!(freezes, Ok((4 * 9 * 3 * rows, 4 * 9 * 2 * 3 * 2)));
 }
 
 #[test]
 fn what_is_frozen_stays() {
-    let count = stays::compare(guard::ask, 6, 20).expect("everything stays");
+    let count = stays::compare(&guard::ask, 6, 20).expect("everything stays");
     assert!(count.faults().is_empty());
     assert!(count.frozen > 200 && count.refused > 100, "{count:?}");
 }

@@ -5,7 +5,7 @@
 mod support;
 
 use library::chance::damage::{inflict, Damage, LAST_PLACE};
-use library::chance::{below, bytes};
+use library::chance::{below, stores};
 use library::image::encode;
 use library::question::{Held, Question, READ_MODE, WRITE_MODE};
 use library::{copies, edges, guard};
@@ -55,7 +55,7 @@ fn held(width: Width) -> Held {
     }
     Held {
         image: encode(&store),
-        memory: vec![0x77; MEMORY_BYTES],
+        memory: [0x77; MEMORY_BYTES],
     }
 }
 
@@ -172,10 +172,7 @@ fn with_itself() {
 }
 
 fn put_to(random: &mut Random, joint: &Joint) -> Held {
-    Held {
-        image: encode(&joint.store),
-        memory: bytes(random, joint.memory_bytes),
-    }
+    stores::held(random, &joint.store)
 }
 
 /// Every set of faults of either handle: of the numbers that apply, the first is given.
@@ -256,16 +253,16 @@ fn apart_before_all_that_the_clusters_hold() {
     assert_eq!(join(&held, READ_MODE, one, at(1, 2)).number, 0);
 }
 
-/// Four nodes, two modes, three widths and five pairs of handles; of 95 rows of arguments two are right.
+/// Four nodes, two modes, three widths and five pairs of handles; of 89 rows of arguments one is right.
 #[test]
 fn edges_are_all_tried() {
-    let joins = edges::joins(guard::ask, 3);
-    assert_eq!(joins, Ok((4 * 2 * 3 * 5 * 95, 4 * 2 * 3 * 5 * 2)));
+    let joins = edges::joins(&guard::ask, 3);
+    assert_eq!(joins, Ok((4 * 2 * 3 * 5 * 89, 4 * 2 * 3 * 5)));
 }
 
 #[test]
 fn two_copies_come_to_joins() {
-    let count = copies::compare(guard::ask, 4, 40).expect("the copies agree");
+    let count = copies::compare(&guard::ask, 4, 40).expect("the copies agree");
     assert!(count.joins.done > 10 && count.joins.apart > 5, "{count:?}");
     assert!(
         count.by_the_first > 4 && count.by_the_second > 4,

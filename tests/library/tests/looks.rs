@@ -5,11 +5,10 @@
 mod support;
 
 use library::chance::damage::{inflict, Damage, LAST_PLACE};
+use library::chance::handles;
 use library::chance::stores::{held, segments, store, Fill};
-use library::chance::{bytes, handles};
 use library::edges;
 use library::guard;
-use library::image::encode;
 use library::question::{Held, Question};
 use model::call::{Call, Part, Reply};
 use model::handle::{Handle, Width};
@@ -109,10 +108,7 @@ fn each_segment_where_its_record_says() {
 fn numbers_in_their_order() {
     let random = &mut Random::from_seed(2);
     for faulty in faults::all(Kind::Look) {
-        let held = Held {
-            image: encode(&faulty.store),
-            memory: bytes(random, faulty.memory_bytes),
-        };
+        let held = held(random, &faulty.store);
         let expected = match faulty.number() {
             0 => shown(2 * 4096 + 100, 4),
             number => Reply::refused(number),
@@ -171,11 +167,11 @@ fn by_read_handles_alone() {
     }
 }
 
-/// Four nodes, nine stretches and two handles; of 26 rows of arguments, and as many more as there are segments, three
+/// Four nodes, nine stretches and two handles; of 20 rows of arguments, and as many more as there are segments, two
 /// are right.
 #[test]
 fn edges_are_all_tried() {
-    let looks = edges::looks(guard::ask, 5);
-    let rows = (26 + 4) + (26 + 8) + (26 + 16);
-    assert_eq!(looks, Ok((4 * 9 * 2 * rows, 4 * 9 * 2 * 3 * 3)));
+    let looks = edges::looks(&guard::ask, 5);
+    let rows = (20 + 4) + (20 + 8) + (20 + 16);
+    assert_eq!(looks, Ok((4 * 9 * 2 * rows, 4 * 9 * 2 * 3 * 2)));
 }

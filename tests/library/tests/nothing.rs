@@ -133,9 +133,7 @@ fn numbers_in_their_places_whatever_the_store() {
 fn a_weakening_done_never_counts_0() {
     let random = &mut Random::from_seed(2);
     for width in Width::ALL {
-        let mut held = sound(random, width);
-        // It looks at no store.
-        held.memory.clear();
+        let held = sound(random, width);
         for selector in sets(width) {
             let masks: Vec<u16> = match width {
                 Width::Four => (0..64).map(|mask| mask * 0x0421).collect(),

@@ -4,8 +4,8 @@
 #[path = "../../tests/support/mod.rs"]
 mod support;
 
-use library::chance::bytes;
 use library::chance::damage::{inflict, Damage, LAST_PLACE};
+use library::chance::stores;
 use library::image::{encode, password_at, record_at};
 use library::question::{Answer, Held, Question, READ_MODE, WRITE_MODE};
 use library::{copies, guard, untold};
@@ -37,7 +37,7 @@ fn held(width: Width, [read, write]: [Password; 2]) -> Held {
     cluster.segments[SEGMENT as usize] = Segment::present(100, 4);
     Held {
         image: encode(&store),
-        memory: vec![0x77; MEMORY_BYTES],
+        memory: [0x77; MEMORY_BYTES],
     }
 }
 
@@ -169,7 +169,7 @@ fn one_handle_for_both_modes_and_its_end() {
             Mode::ALL.map(|mode| mode == made)
         );
         renew(&mut held, made, primary(own), other);
-        assert!(guard::is_sound(&mut held.image, MEMORY_BYTES));
+        assert!(guard::is_sound(&mut held.image));
         let both = family(&held, changed, primary(other));
         assert_eq!(both, family(&held, changed.other(), primary(other)));
         for handle in &both {
@@ -222,10 +222,7 @@ fn refuses_twins(width: Width) {
 }
 
 fn put_to(random: &mut Random, renewed: &Renewed) -> Held {
-    Held {
-        image: encode(&renewed.store),
-        memory: bytes(random, renewed.memory_bytes),
-    }
+    stores::held(random, &renewed.store)
 }
 
 /// Every set of faults, in either mode, the two passwords equal and not: of the numbers that apply, the first is given.
@@ -274,12 +271,12 @@ fn equal_passwords_are_sound_where_the_cluster_is_active() {
             let mut image = encode(&Store::starting());
             let record = record_at(node, local);
             image[record.start + 2..record.start + 34].fill(0x11);
-            assert!(!guard::is_sound(&mut image, MEMORY_BYTES));
+            assert!(!guard::is_sound(&mut image));
             image[record.start] = 1;
             for width in 0..=u8::MAX {
                 image[record.start + 1] = width;
                 let sound = [4, 8, 16].contains(&width);
-                assert_eq!(guard::is_sound(&mut image, MEMORY_BYTES), sound);
+                assert_eq!(guard::is_sound(&mut image), sound);
             }
         }
     }
@@ -287,13 +284,13 @@ fn equal_passwords_are_sound_where_the_cluster_is_active() {
 
 #[test]
 fn two_images_and_two_copies_come_to_equal_passwords() {
-    let count = untold::compare(guard::ask, 3, 400).expect("the replies are the same");
+    let count = untold::compare(&guard::ask, 3, 400).expect("the replies are the same");
     assert!(count.faults().is_empty(), "{count:?}");
     assert!(
         count.guessed.iter().all(|&guessed| guessed > 100),
         "{count:?}"
     );
-    let count = copies::compare(guard::ask, 4, 40).expect("the copies agree");
+    let count = copies::compare(&guard::ask, 4, 40).expect("the copies agree");
     assert!(count.equal_in_one > 3 && count.by_both > 50, "{count:?}");
     assert!(count.guessed > 1 && count.made_equal > 3, "{count:?}");
 }

@@ -1,5 +1,6 @@
 //! The numbers that a call may be turned down with, their words and their order.
 
+mod concerns;
 mod rows;
 
 use crate::call::Call;
@@ -121,42 +122,50 @@ impl<'a> Asked<'a> {
     }
 }
 
+type Concerns = fn(&Call) -> bool;
 type Test = fn(&Asked) -> bool;
 
 /// The rows that concern calls, in the table's order; a number added later stands at the place named
 /// for it. Two have two places: 22, one for call 2 and one for calls 4 and 6, and 25, first for
 /// lengths that no handle has, then for handles of another width than their cluster's. A row's test
-/// may count on the rows above it not applying.
-const ROWS: [(u8, Test); 24] = [
-    (LENGTH, rows::no_length),
-    (UNSOUND, rows::unsound),
-    (NO_SUCH_PLACE, rows::no_such_place),
-    (FIELD, rows::field),
-    (GAPPED, rows::gapped),
-    (APART, rows::apart),
-    (ELSEWHERE, rows::elsewhere),
-    (IN_USE, rows::in_use),
-    (TWINS, rows::twins),
-    (INACTIVE, rows::inactive),
-    (LENGTH, rows::other_width),
-    (VIOLATED_PROTECTION, rows::violated_protection),
-    (WHOLE, rows::whole),
-    (NOT_PRIMARY, rows::not_primary),
-    (FROZEN, rows::frozen_in_the_cluster),
-    (NOT_REFERENCED, rows::not_referenced),
-    (OLD_PASSWORD, rows::old_password),
-    (PRESENT, rows::present),
-    (ABSENT, rows::absent),
-    (FROZEN, rows::frozen),
-    (SHORT, rows::short),
-    (NO_ROOM, rows::no_room),
-    (EMPTY, rows::empty),
-    (SPENT, rows::spent),
+/// may count on its concerning the call, and on the rows above it not applying.
+#[rustfmt::skip]
+const ROWS: [(u8, Concerns, Test); 24] = [
+    (LENGTH, concerns::presenting, rows::no_length),
+    (UNSOUND, concerns::on_a_store, rows::unsound),
+    (NO_SUCH_PLACE, concerns::all, rows::no_such_place),
+    (FIELD, concerns::with_a_field, rows::field),
+    (GAPPED, concerns::presenting, rows::gapped),
+    (APART, concerns::is_join, rows::apart),
+    (ELSEWHERE, concerns::local, rows::elsewhere),
+    (IN_USE, concerns::is_new_cluster, rows::in_use),
+    (TWINS, concerns::is_new_cluster, rows::twins),
+    (INACTIVE, concerns::validating, rows::inactive),
+    (LENGTH, concerns::validating, rows::other_width),
+    (VIOLATED_PROTECTION, concerns::validating, rows::violated_protection),
+    (WHOLE, concerns::is_join, rows::whole),
+    (NOT_PRIMARY, Call::needs_primary, rows::not_primary),
+    (FROZEN, concerns::is_delete_cluster, rows::frozen_in_the_cluster),
+    (NOT_REFERENCED, Call::reaches_bytes, rows::not_referenced),
+    (OLD_PASSWORD, concerns::is_new_password, rows::old_password),
+    (PRESENT, concerns::is_new_segment, rows::present),
+    (ABSENT, concerns::present_segments, rows::absent),
+    (FROZEN, concerns::altering_segments, rows::frozen),
+    (SHORT, Call::moves_bytes, rows::short),
+    (NO_ROOM, concerns::is_new_segment, rows::no_room),
+    (EMPTY, concerns::is_weaken, rows::empty),
+    (SPENT, concerns::is_weaken, rows::spent),
 ];
 
 /// The numbers of the rows that concern calls, in the table's order; 22 and 25 come twice.
 pub fn numbers_of_calls() -> impl Iterator<Item = u8> {
-    ROWS.iter().map(|(number, _)| *number)
+    ROWS.iter().map(|(number, ..)| *number)
+}
+
+/// The same for calls like this one, whatever it is asked with.
+pub fn numbers_of(call: &Call) -> Vec<u8> {
+    let rows = ROWS.iter().filter(|(_, concerns, _)| concerns(call));
+    rows.map(|(number, ..)| *number).collect()
 }
 
 /// The first number of the table that applies.
@@ -166,7 +175,10 @@ pub fn refusal(call: &Call, found: &Found) -> Option<u8> {
 
 /// The first number that applies of those standing above `row`; above 25 is above its first place.
 pub fn refusal_above(row: u8, call: &Call, found: &Found) -> Option<u8> {
-    let above = ROWS.iter().take_while(|(number, _)| *number != row).count();
+    let above = ROWS
+        .iter()
+        .take_while(|(number, ..)| *number != row)
+        .count();
     first_of(&ROWS[..above], call, found)
 }
 
@@ -177,13 +189,14 @@ pub fn refusal_below(row: u8, call: &Call, found: &Found) -> Option<u8> {
     let asked = Asked::of(call, found);
     let last = match row {
         LENGTH if rows::no_length(&asked) => 0,
-        _ => ROWS.iter().rposition(|(number, _)| *number == row)?,
+        _ => ROWS.iter().rposition(|(number, ..)| *number == row)?,
     };
     first_of(&ROWS[last + 1..], call, found)
 }
 
-fn first_of(rows: &[(u8, Test)], call: &Call, found: &Found) -> Option<u8> {
+fn first_of(rows: &[(u8, Concerns, Test)], call: &Call, found: &Found) -> Option<u8> {
     let asked = Asked::of(call, found);
-    let row = rows.iter().find(|(_, applies)| applies(&asked))?;
+    let mut concerned = rows.iter().filter(|(_, concerns, _)| concerns(call));
+    let row = concerned.find(|(_, _, applies)| applies(&asked))?;
     Some(row.0)
 }

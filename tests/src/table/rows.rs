@@ -15,7 +15,7 @@ pub fn no_length(asked: &Asked) -> bool {
 
 pub fn unsound(asked: &Asked) -> bool {
     let found = asked.found;
-    !matches!(asked.call, Call::Weaken { .. }) && !found.store.is_sound(found.memory_bytes)
+    !found.store.is_sound(found.memory_bytes)
 }
 
 pub fn no_such_place(asked: &Asked) -> bool {
@@ -113,19 +113,16 @@ pub fn whole(asked: &Asked) -> bool {
 }
 
 pub fn not_primary(asked: &Asked) -> bool {
-    asked.call.needs_primary() && asked.handles().any(|handle| !handle.selector.is_primary())
+    asked.handles().any(|handle| !handle.selector.is_primary())
 }
 
 pub fn frozen_in_the_cluster(asked: &Asked) -> bool {
-    matches!(asked.call, Call::DeleteCluster { .. })
-        && asked.named_cluster().is_some_and(Cluster::has_frozen)
+    asked.named_cluster().is_some_and(Cluster::has_frozen)
 }
 
 pub fn not_referenced(asked: &Asked) -> bool {
     match (&asked.handle, asked.call.segment()) {
-        (Some(handle), Some(segment)) if asked.call.reaches_bytes() => {
-            !handle.selector.references(segment as usize)
-        }
+        (Some(handle), Some(segment)) => !handle.selector.references(segment as usize),
         _ => false,
     }
 }
@@ -142,29 +139,23 @@ pub fn old_password(asked: &Asked) -> bool {
 }
 
 pub fn present(asked: &Asked) -> bool {
-    matches!(asked.call, Call::NewSegment { .. }) && asked.named_extent().is_some()
+    asked.named_extent().is_some()
 }
 
 pub fn absent(asked: &Asked) -> bool {
-    let call = asked.call;
-    let concerned =
-        matches!(call, Call::DeleteSegment { .. } | Call::Freeze { .. }) || call.reaches_bytes();
-    concerned
-        && asked
-            .named_segment()
-            .is_some_and(|segment| !segment.is_present())
+    asked
+        .named_segment()
+        .is_some_and(|segment| !segment.is_present())
 }
 
 pub fn frozen(asked: &Asked) -> bool {
-    matches!(asked.call, Call::DeleteSegment { .. } | Call::Write { .. })
-        && asked.named_segment().is_some_and(|segment| segment.frozen)
+    asked.named_segment().is_some_and(|segment| segment.frozen)
 }
 
 pub fn short(asked: &Asked) -> bool {
-    asked.call.moves_bytes()
-        && asked
-            .named_extent()
-            .is_some_and(|extent| asked.found.buffer_bytes < extent.length)
+    asked
+        .named_extent()
+        .is_some_and(|extent| asked.found.buffer_bytes < extent.length)
 }
 
 pub fn no_room(asked: &Asked) -> bool {

@@ -2,10 +2,9 @@
 //! from the set alone.
 #![allow(dead_code)] // each test file uses its own part
 
-use super::{cut, others};
+use super::{cut, make_unsound, others};
 use model::call::Call;
 use model::handle::{Handle, HandleBytes, Password, Selector, Width};
-use model::sizes::MEMORY_BYTES;
 use model::store::{Cluster, Segment, Store};
 
 const READ: Password = [0x11; 16];
@@ -74,7 +73,6 @@ pub struct Faulty {
     /// The segment that the call is about where nothing is wrong with it.
     pub segment: usize,
     pub store: Store,
-    pub memory_bytes: usize,
     pub buffer_bytes: usize,
     pub call: Call,
 }
@@ -172,9 +170,12 @@ fn with(kind: Kind, width: Width, faults: Vec<u8>, frozen: bool) -> Faulty {
         true => own.number().into(),
         false => segment as u32,
     };
+    let mut store = store(kind, width, low, frozen);
+    if has(1) {
+        make_unsound(&mut store);
+    }
     Faulty {
-        store: store(kind, width, low, frozen),
-        memory_bytes: MEMORY_BYTES - usize::from(has(1)),
+        store,
         buffer_bytes: if has(15) { LENGTH - 1 } else { OTHER_LENGTH },
         call: call(kind, node, asked, &faults, handle(kind, own, low, &faults)),
         width,

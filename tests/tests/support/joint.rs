@@ -2,10 +2,9 @@
 //! what each has to be refused with is known from the set alone.
 #![allow(dead_code)] // each test file uses its own part
 
-use super::{cut, others};
+use super::{cut, make_unsound, others};
 use model::call::Call;
 use model::handle::{Handle, HandleBytes, Password, Selector, Width};
-use model::sizes::MEMORY_BYTES;
 use model::store::{Cluster, Mode, Segment, Store};
 
 /// The cluster that the first handle names, where that is a place.
@@ -61,7 +60,6 @@ const WAYS: [usize; 10] = [4, 2, 4, 2, 4, NAMES.len(), 4, 4, PAIRS, 2];
 pub struct Joint {
     pub faults: Vec<u8>,
     pub store: Store,
-    pub memory_bytes: usize,
     pub call: Call,
     /// That of the clusters.
     pub width: Width,
@@ -128,13 +126,16 @@ fn with(choices: [usize; 10], width: Width) -> Joint {
             false => handle.into(),
         }
     };
+    let mut put_to = store.clone();
+    if unsound == 1 {
+        make_unsound(&mut put_to);
+    }
     Joint {
         faults: applying
             .iter()
             .filter(|(fault, _)| *fault != 0)
             .map(|(_, number)| *number)
             .collect(),
-        memory_bytes: MEMORY_BYTES - unsound,
         call: Call::Join {
             mode: [1, 2, 0, 3][2 * field + write],
             handle: handle(0),
@@ -142,7 +143,7 @@ fn with(choices: [usize; 10], width: Width) -> Joint {
         },
         width,
         primary: [READ, WRITE][write],
-        store,
+        store: put_to,
     }
 }
 

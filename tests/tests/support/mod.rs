@@ -139,6 +139,11 @@ impl Bench {
     }
 }
 
+/// Makes a store unsound where no call of these tests is about: an inactive cluster has a width.
+pub fn make_unsound(store: &mut Store) {
+    store.clusters[1][7].width = Width::Eight.number();
+}
+
 /// A selector of width 8.
 pub fn eight(subselectors: [u16; 4]) -> Selector {
     Selector::new(Width::Eight, subselectors)

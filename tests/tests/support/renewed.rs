@@ -2,10 +2,9 @@
 //! and where they are equal: what each has to be refused with is known from the set alone.
 #![allow(dead_code)] // each test file uses its own part
 
-use super::{cut, others};
+use super::{cut, make_unsound, others};
 use model::call::Call;
 use model::handle::{Handle, Password, Selector, Width};
-use model::sizes::MEMORY_BYTES;
 use model::store::{Cluster, Mode, Segment, Store};
 
 /// The cluster whose password is replaced where nothing is wrong.
@@ -26,7 +25,6 @@ const WAYS: [usize; 13] = [2, 2, 2, 2, 2, 2, 2, 2, 2, 3, 2, 2, 3];
 pub struct Renewed {
     pub faults: Vec<u8>,
     pub store: Store,
-    pub memory_bytes: usize,
     pub call: Call,
     pub mode: Mode,
     pub width: Width,
@@ -96,14 +94,17 @@ fn with(choices: [usize; 13]) -> Renewed {
         1 => cut(handle, choices.iter().sum()),
         _ => handle.into(),
     };
+    let mut store = store(mode, width, other);
+    if unsound == 1 {
+        make_unsound(&mut store);
+    }
     Renewed {
         faults: applying
             .iter()
             .filter(|(fault, _)| *fault != 0)
             .map(|(_, number)| *number)
             .collect(),
-        store: store(mode, width, other),
-        memory_bytes: MEMORY_BYTES - unsound,
+        store,
         call: Call::NewPassword {
             mode: [1, 2, 0, 3][2 * field + write],
             handle,

@@ -1,19 +1,17 @@
 //! Every way in which a store or its image can be damaged.
 
+use super::below;
 use super::faults::fault;
-use super::{below, bytes};
 use crate::image::{decode, encode, record_at, segment_at, MARK_AT, SEGMENTS_AT};
 use crate::question::Held;
 use model::random::Random;
-use model::sizes::{CLUSTERS, MEMORY_BYTES, NODES, NODE_BYTES, SEGMENTS};
+use model::sizes::{CLUSTERS, NODES, SEGMENTS};
 
 /// The node and the local number of the last record.
 pub const LAST_PLACE: (usize, usize) = (NODES - 1, CLUSTERS - 1);
 
 #[derive(Clone, Copy, Debug, PartialEq, Eq, PartialOrd, Ord)]
 pub enum Damage {
-    MemoryShort,
-    MemoryLong,
     ActiveByteTwo,
     ActiveByteAbove,
     /// The image's form of a present segment of length zero.
@@ -61,9 +59,7 @@ pub enum Damage {
 }
 
 impl Damage {
-    pub const ALL: [Damage; 34] = [
-        Damage::MemoryShort,
-        Damage::MemoryLong,
+    pub const ALL: [Damage; 32] = [
         Damage::ActiveByteTwo,
         Damage::ActiveByteAbove,
         Damage::AbsentWithBase,
@@ -97,47 +93,15 @@ impl Damage {
         Damage::OverlapInsideWords,
         Damage::OverlapOfTheNode,
     ];
-
-    /// Whether it is done to a record, and not to the memory's slice.
-    pub fn has_a_record(&self) -> bool {
-        !matches!(self, Damage::MemoryShort | Damage::MemoryLong)
-    }
 }
 
 /// Damages a sound store, at the cluster of `place` where that makes a difference.
 pub fn inflict(random: &mut Random, held: &mut Held, damage: Damage, place: (usize, usize)) {
-    match damage {
-        Damage::MemoryShort => held.memory.truncate(short(random)),
-        Damage::MemoryLong => {
-            let more = long(random);
-            held.memory.extend(bytes(random, more));
-        }
-        _ => {
-            let mut store = decode(&held.image).expect("it was sound");
-            let segment = below(random, SEGMENTS);
-            fault(random, &mut store, damage, place, segment);
-            held.image = encode(&store);
-            damage_bytes(random, held, damage, place, segment);
-        }
-    }
-}
-
-fn short(random: &mut Random) -> usize {
-    match random.below(4) {
-        0 => 0,
-        1 => MEMORY_BYTES - 1,
-        2 => MEMORY_BYTES - NODE_BYTES,
-        _ => below(random, MEMORY_BYTES),
-    }
-}
-
-fn long(random: &mut Random) -> usize {
-    match random.below(4) {
-        0 => 1,
-        1 => NODE_BYTES,
-        2 => MEMORY_BYTES,
-        _ => 1 + below(random, MEMORY_BYTES),
-    }
+    let mut store = decode(&held.image).expect("it was sound");
+    let segment = below(random, SEGMENTS);
+    fault(random, &mut store, damage, place, segment);
+    held.image = encode(&store);
+    damage_bytes(random, held, damage, place, segment);
 }
 
 /// Damage that only an image can hold.

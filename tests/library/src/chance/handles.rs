@@ -7,7 +7,7 @@ use model::random::Random;
 use model::sizes::{CLUSTERS, NODES, PASSWORD_BYTES, SUBSELECTORS};
 use model::store::{Cluster, Mode, Store};
 
-/// Bytes that are presented for a handle have at most so many.
+/// Bytes that are presented for a handle mostly have at most so many; a length byte tells up to 255.
 pub const MOST_BYTES: usize = 40;
 /// Lengths beside those that handles have.
 const NEAR_LENGTHS: [usize; 7] = [0, 20, 22, 24, 25, 26, 28];
@@ -55,9 +55,10 @@ pub fn presented(random: &mut Random, handle: &Handle) -> HandleBytes {
 /// Bytes of a length that no handle has: cut, or with more bytes after them.
 pub fn of_no_length(random: &mut Random, mut handle: HandleBytes) -> HandleBytes {
     let length = loop {
-        let length = match random.one_in(2) {
-            true => NEAR_LENGTHS[below(random, NEAR_LENGTHS.len())],
-            false => below(random, MOST_BYTES + 1),
+        let length = match random.below(4) {
+            0 => random.byte().into(),
+            1 => below(random, MOST_BYTES + 1),
+            _ => NEAR_LENGTHS[below(random, NEAR_LENGTHS.len())],
         };
         if Width::of_handle_bytes(length).is_none() {
             break length;

@@ -2,7 +2,9 @@
 
 use super::handles::{self, Wish};
 use super::stores::gaps;
-use super::{below, bytes, near, password};
+use super::{below, bytes, fill, near, password};
+use crate::ffi::HANDLE_MAX;
+use crate::guard::handles::Behind;
 use crate::question::{Question, BEYOND, LOOK, READ_MODE, VALIDATION, WRITE_MODE};
 use model::call::{self, Call};
 use model::handle::{Handle, HandleBytes, Password};
@@ -54,7 +56,17 @@ impl Maker<'_> {
             call,
             beyond: self.beyond(),
             buffer: bytes(self.random, buffer_bytes),
+            behind: self.behind(),
         }
+    }
+
+    /// Zeros, as in a handle that was given, or anything.
+    fn behind(&mut self) -> Behind {
+        let mut behind = [0; HANDLE_MAX];
+        if self.random.one_in(2) {
+            fill(self.random, &mut behind);
+        }
+        behind
     }
 
     /// A number that no `u32` holds. In fewer bytes some of them would be small.

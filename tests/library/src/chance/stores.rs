@@ -2,7 +2,7 @@
 
 use super::handles::everywhere;
 use super::words::WORD;
-use super::{below, bytes, passwords, width};
+use super::{below, fill, passwords, width};
 use crate::image::encode;
 use crate::question::Held;
 use model::handle::Width;
@@ -98,9 +98,11 @@ fn freeze_one_of_each(random: &mut Random, store: &mut Store) {
 
 /// The store with a memory that has any bytes.
 pub fn held(random: &mut Random, store: &Store) -> Held {
+    let mut memory = [0; MEMORY_BYTES];
+    fill(random, &mut memory);
     Held {
         image: encode(store),
-        memory: bytes(random, MEMORY_BYTES),
+        memory,
     }
 }
 

@@ -1,7 +1,6 @@
-//! Joins where an argument comes to an end: lengths of the memory, modes, and the node and the local number of either
-//! handle.
+//! Joins where an argument comes to an end: modes, and the node and the local number of either handle.
 
-use super::{around, narrow, MEMORIES};
+use super::{around, narrow};
 use crate::chance::stores::{self, segments_of, Fill};
 use crate::chance::{below, cases};
 use crate::compare::{ask, Guard, Sides};
@@ -9,7 +8,7 @@ use crate::question::{Held, Question, READ_MODE, WRITE_MODE};
 use model::call::Call;
 use model::handle::{Handle, Selector, Width};
 use model::random::Random;
-use model::sizes::{CLUSTERS, MEMORY_BYTES, NODES};
+use model::sizes::{CLUSTERS, NODES};
 use model::store::{Mode, Segment};
 
 /// Modes are numbered from 1.
@@ -32,7 +31,6 @@ struct Both {
 
 /// What one join is asked with.
 struct Arguments {
-    memory_bytes: usize,
     mode: usize,
     handles: [Handle; 2],
 }
@@ -50,9 +48,6 @@ pub fn joins(guard: Guard, seed: u64) -> Result<(u64, u64), String> {
         let both = Both::by_chance(random, (node, mode), width, segments);
         for arguments in both.arguments() {
             let mut sides = Sides::both(both.held.clone());
-            for side in [&mut sides.guard, &mut sides.model] {
-                side.memory.resize(arguments.memory_bytes, 0);
-            }
             let answer = ask(guard, &mut sides, &arguments.question())?;
             asked += 1;
             done += u64::from(answer.reply.is_done());
@@ -106,18 +101,15 @@ impl Both {
 
     /// In each all but one are right.
     fn arguments(&self) -> Vec<Arguments> {
-        let right = |memory_bytes, mode| Arguments {
-            memory_bytes,
+        let modes = around(self.mode, MODES).map(|mode| Arguments {
             mode,
             handles: self.handles,
-        };
-        let memories = MEMORIES.map(|bytes| right(bytes, self.mode));
-        let modes = around(self.mode, MODES).map(|mode| right(MEMORY_BYTES, mode));
-        let named = self.names().into_iter().map(|handles| Arguments {
-            handles,
-            ..right(MEMORY_BYTES, self.mode)
         });
-        memories.into_iter().chain(modes).chain(named).collect()
+        let named = self.names().into_iter().map(|handles| Arguments {
+            mode: self.mode,
+            handles,
+        });
+        modes.chain(named).collect()
     }
 
     /// The two handles with other nodes and other local numbers: of the first, of the second, and of both.

@@ -1,8 +1,9 @@
 //! Soundness where it changes: every byte of an image with every value that matters, and two segments of one node
 //! that begin and end about the borders of words. Looks and freezes where their segment or their arguments come
 //! to an end: the first and the last byte of a node, the whole of it, and numbers just out of range. Joins with
-//! modes and names just out of range. Handles of every length, and what goes by the width.
+//! modes and names just out of range. Handles of every length, made of bytes and presented, and what goes by the width.
 
+mod handles;
 mod joins;
 mod widths;
 
@@ -12,6 +13,7 @@ use crate::chance::{below, cases};
 use crate::compare::{ask, is_sound, Guard, Sides};
 use crate::image::{encode, Image, READ_AT, RECORD_BYTES, SEGMENTS_AT};
 use crate::question::{Held, Question, BEYOND};
+pub use handles::{handles, Maker};
 pub use joins::joins;
 use model::call::Call;
 use model::handle::{Handle, Width};
@@ -22,7 +24,7 @@ pub use widths::{lengths, masks, new_clusters, segments};
 
 /// Something that tells whether an image holds a sound store; [`crate::guard::is_sound`] is the one
 /// to be compared.
-pub type Judge = fn(&mut Image, usize) -> bool;
+pub type Judge<'a> = &'a dyn Fn(&mut Image) -> bool;
 
 /// The first words of a node, those in its middle, and its last; 64 begins behind it.
 const WORDS: [usize; 10] = [0, 1, 2, 3, 31, 32, 33, 62, 63, 64];
@@ -38,15 +40,6 @@ const STRETCHES: [(usize, usize); 9] = [
     (256, 255),
     (NODE_BYTES - 2, 2),
     (NODE_BYTES - 1, 1),
-];
-/// Lengths of the memory; a store is sound with one of them alone.
-const MEMORIES: [usize; 6] = [
-    0,
-    NODE_BYTES,
-    MEMORY_BYTES - NODE_BYTES,
-    MEMORY_BYTES - 1,
-    MEMORY_BYTES,
-    MEMORY_BYTES + 1,
 ];
 /// Added to a number that is right, these are seen in its highest bytes alone.
 const HIGH: [usize; 5] = [1 << 8, 1 << 16, 1 << 32, 1 << 48, 1 << 63];
@@ -93,7 +86,7 @@ pub fn pairs_at_words(judge: Judge, seed: u64) -> Result<(u64, u64), String> {
         for (first, second) in pairs() {
             let mut held = Held {
                 image: encode(&with_both(random, first, second)),
-                memory: vec![0; MEMORY_BYTES],
+                memory: [0; MEMORY_BYTES],
             };
             let is_sound = same(judge, &mut held)
                 .map_err(|what| format!("segments at {first:?} and {second:?}: {what}"))?;
@@ -142,7 +135,7 @@ fn with_both(random: &mut Random, first: Extent, second: Extent) -> Store {
 fn same(judge: Judge, held: &mut Held) -> Result<bool, String> {
     let expected = is_sound(held);
     let before = held.image;
-    let found = judge(&mut held.image, held.memory.len());
+    let found = judge(&mut held.image);
     match found == expected && held.image == before {
         true => Ok(expected),
         false => Err(format!(
@@ -183,11 +176,8 @@ fn around_segments<const N: usize>(
     cases(seed, places.len() as u64, |random| {
         let ((node, (base, length)), width) = places.next().expect("there are as many cases");
         let lone = LoneSegment::by_chance(random, node, width, Extent { base, length });
-        for (memory_bytes, current, segment) in lone.arguments() {
+        for (current, segment) in lone.arguments() {
             let mut sides = Sides::both(lone.held.clone());
-            for side in [&mut sides.guard, &mut sides.model] {
-                side.memory.resize(memory_bytes, 0);
-            }
             for question in questions(&lone, current, segment) {
                 let answer = ask(guard, &mut sides, &question)
                     .map_err(|what| format!("segment at {base}, {length} bytes: {what}"))?;
@@ -232,14 +222,12 @@ impl LoneSegment {
         Handle::primary(self.width, node, local, *self.cluster.primary(mode))
     }
 
-    /// Lengths of the memory, current nodes and segments: in each row all but one are right.
-    fn arguments(&self) -> Vec<(usize, usize, usize)> {
+    /// Current nodes and segments: in each row one of the two is right.
+    fn arguments(&self) -> impl Iterator<Item = (usize, usize)> {
         let (node, segment) = (self.node, self.segment);
-        let memories = MEMORIES.map(|bytes| (bytes, node, segment));
-        let nodes = around(node, NODES).map(|current| (MEMORY_BYTES, current, segment));
+        let nodes = around(node, NODES).map(move |current| (current, segment));
         let segments = around(segment, self.width.segments());
-        let segments = segments.map(|other| (MEMORY_BYTES, node, other));
-        memories.into_iter().chain(nodes).chain(segments).collect()
+        nodes.chain(segments.map(move |other| (node, other)))
     }
 }
 

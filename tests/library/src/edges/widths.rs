@@ -4,7 +4,7 @@
 use super::{around, narrow, HIGH};
 use crate::chance::handles::at_width;
 use crate::chance::stores::{self, active_of, present};
-use crate::chance::{bytes, cases};
+use crate::chance::{bytes, cases, fill};
 use crate::compare::{ask, Guard, Sides};
 use crate::image::record_at;
 use crate::question::{Held, Question, READ_MODE};
@@ -14,8 +14,6 @@ use model::random::Random;
 use model::sizes::{NODES, PASSWORD_BYTES, SEGMENTS};
 use model::store::{Mode, Store};
 
-/// Bytes are presented for a handle from none up to so many.
-const MOST_BYTES: usize = 64;
 /// Widths are tried from 0 up to so many: one more byte is begun.
 const MOST_WIDTH: usize = 300;
 /// What the calls are about: the segment that is there, its length, and one that is not.
@@ -104,7 +102,8 @@ fn put(guard: Guard, held: &Held, question: &Question, asked: &mut Asked) -> Res
     Ok(())
 }
 
-/// Every call with every handle that it takes made as long as each of these lengths, alone and, of two, both.
+/// Every call with every length byte in every handle that it takes, alone and, of two, in both; what a handle of 28 bytes
+/// has behind its length is anything.
 pub fn lengths(guard: Guard, seed: u64) -> Result<Asked, String> {
     let mut asked = (0, 0);
     with_each(seed, |random, _, known| {
@@ -115,9 +114,10 @@ pub fn lengths(guard: Guard, seed: u64) -> Result<Asked, String> {
                 .iter()
                 .flat_map(|held| (1..1 << handles).map(move |chosen| (held, chosen)))
             {
-                for length in 0..=MOST_BYTES {
-                    let more = bytes(random, MOST_BYTES);
+                for length in 0..=u8::MAX.into() {
+                    let more = bytes(random, length);
                     let mut question = question.clone();
+                    fill(random, &mut question.behind);
                     let presented = question.presented_mut().into_iter().enumerate();
                     for (_, handle) in presented.filter(|(at, _)| chosen >> at & 1 == 1) {
                         handle.extend(&more);
@@ -188,11 +188,6 @@ fn about_each_segment(question: &Question) -> Vec<Question> {
 pub fn masks(guard: Guard, seed: u64) -> Result<Asked, String> {
     let mut asked = (0, 0);
     with_each(seed, |_, width, known| {
-        // It looks at no store.
-        let held = Held {
-            memory: Vec::new(),
-            ..known.held.clone()
-        };
         let flat = width.flat();
         let selectors = [
             [flat & 0x7bda, flat, flat, flat],
@@ -205,7 +200,7 @@ pub fn masks(guard: Guard, seed: u64) -> Result<Asked, String> {
             for mask in 0..=u16::MAX {
                 let handle = handle.to_bytes();
                 let question = Question::of(Call::Weaken { mask, handle });
-                put(guard, &held, &question, &mut asked)?;
+                put(guard, &known.held, &question, &mut asked)?;
             }
         }
         Ok(())

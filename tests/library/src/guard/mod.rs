@@ -1,43 +1,73 @@
 //! The library's functions on borrowed bytes.
 //!
 //! Every call, here and in `calls`, is sound for one reason. Each pointer comes from a reference or a slice that
-//! is borrowed for as long as the call takes, and the length beside it is that slice's. Whatever
+//! is borrowed for as long as the call takes, and the length beside it is that slice's. Image, memory and passwords are
+//! lent as the header's structs, which have the bytes of these arrays and nothing else. Whatever
 //! the library may write is borrowed exclusively, so it overlaps with nothing else that is lent.
 //! Image and memory are borrowed exclusively also where the library promises to read them only,
 //! so that a broken promise would be seen afterwards and not be undefined behaviour.
 
 mod calls;
-pub mod given;
+pub mod handles;
 
-use crate::ffi;
+use crate::ffi::{self, gelmuszta_handle, gelmuszta_image, gelmuszta_memory, gelmuszta_password};
 use crate::image::Image;
-use crate::question::{Answer, Held, Question, BEYOND};
+use crate::question::{Answer, Held, Memory, Question, BEYOND};
 use calls::weaken;
+use handles::Presented;
 use model::call::{Call, Reply};
 use model::handle::Password;
 use model::sizes::PASSWORD_BYTES;
-use std::ptr::from_mut;
+use std::ptr::{from_mut, from_ref};
 
 /// What outputs hold before the call, so that one that is not written is seen.
 const UNWRITTEN: u8 = 0x5a;
 const UNWRITTEN_NUMBER: usize = usize::from_ne_bytes([UNWRITTEN; size_of::<usize>()]);
 
+fn image_of(image: &mut Image) -> *mut gelmuszta_image {
+    from_mut(image).cast()
+}
+
+fn memory_of(memory: &mut Memory) -> *mut gelmuszta_memory {
+    from_mut(memory).cast()
+}
+
+fn password_of(password: &Password) -> *const gelmuszta_password {
+    from_ref(password).cast()
+}
+
+/// The version that the library tells.
+pub fn version() -> u32 {
+    // SAFETY: it is lent nothing.
+    unsafe { ffi::gelmuszta_version() }
+}
+
 /// Writes the starting store's image.
 pub fn start(image: &mut Image) {
     // SAFETY: see the head of this file.
-    unsafe { ffi::gelmuszta_start(image) }
+    unsafe { ffi::gelmuszta_start(image_of(image)) }
 }
 
-pub fn is_sound(image: &mut Image, memory_bytes: usize) -> bool {
+pub fn is_sound(image: &mut Image) -> bool {
     // SAFETY: see the head of this file.
-    unsafe { ffi::gelmuszta_sound(image, memory_bytes) }
+    unsafe { ffi::gelmuszta_sound(image_of(image)) }
+}
+
+/// The number, and the handle that holds the bytes.
+pub fn handle_of(bytes: &[u8]) -> (u8, gelmuszta_handle) {
+    let mut handle = gelmuszta_handle::UNWRITTEN;
+    // SAFETY: see the head of this file.
+    let number = unsafe { ffi::gelmuszta_handle_of(bytes.as_ptr(), bytes.len(), &mut handle) };
+    (number, handle)
 }
 
 pub fn convert(password: &Password, parameter: u16) -> Password {
-    let mut converted = [UNWRITTEN; PASSWORD_BYTES];
+    let mut converted = gelmuszta_password {
+        bytes: [UNWRITTEN; PASSWORD_BYTES],
+    };
     // SAFETY: see the head of this file.
-    unsafe { ffi::gelmuszta_convert(password, parameter, &mut converted) }
-    converted
+    unsafe { ffi::gelmuszta_convert(password_of(password), parameter, &mut converted) }
+    converted.bytes
 }
 
 /// Validates the handles of one width that stand in `handles` one after the other; gives how many were judged.
@@ -51,9 +81,7 @@ pub fn validate_all(
     // SAFETY: see the head of this file.
     unsafe {
         ffi::gelmuszta_validate_all(
-            from_mut(&mut held.image),
-            held.memory.as_mut_ptr(),
-            held.memory.len(),
+            image_of(&mut held.image),
             mode,
             width,
             handles.as_ptr(),
@@ -72,49 +100,49 @@ pub fn ask(held: &mut Held, question: &Question) -> Answer {
         memory: &mut held.memory,
         buffer: &mut buffer,
     };
-    let reply = lent.run(&question.call, question.beyond);
+    let presented = Presented::of(&question.call, &question.behind);
+    let reply = lent.run(&question.call, &presented, question.beyond);
     Answer { reply, buffer }
 }
 
 /// What one call gets: image, memory, and a read's buffer or a write's data.
 pub struct Lent<'a> {
     pub image: &'a mut Image,
-    pub memory: &'a mut [u8],
+    pub memory: &'a mut Memory,
     pub buffer: &'a mut [u8],
 }
 
 impl Lent<'_> {
-    /// Runs one call, with `beyond` in the place of arguments that are [`BEYOND`].
-    pub fn run(self, call: &Call, beyond: usize) -> Reply {
+    /// Runs one call by the handles that it presents, with `beyond` in the place of arguments that are [`BEYOND`].
+    pub fn run(self, call: &Call, presented: &Presented, beyond: usize) -> Reply {
         let wide = |number: &u32| match *number {
             BEYOND => beyond,
             number => number as usize,
         };
+        let Presented { handle, other } = presented;
         #[rustfmt::skip]
         let reply = match call {
             Call::NewCluster { node, local, width, read, write } => {
                 self.new_cluster((wide(node), wide(local)), *width, read, write)
             }
-            Call::DeleteCluster { node, handle } => self.delete_cluster(wide(node), handle),
-            Call::NewSegment { node, segment, size, handle } => {
+            Call::DeleteCluster { node, .. } => self.delete_cluster(wide(node), handle),
+            Call::NewSegment { node, segment, size, .. } => {
                 self.new_segment(wide(node), wide(segment), wide(size), handle)
             }
-            Call::DeleteSegment { node, segment, handle } => {
+            Call::DeleteSegment { node, segment, .. } => {
                 self.delete_segment(wide(node), wide(segment), handle)
             }
-            Call::Read { segment, handle } => self.read(wide(segment), handle),
-            Call::Write { segment, handle } => self.write(wide(segment), handle),
-            Call::Weaken { mask, handle } => weaken(*mask, handle),
-            Call::Reduce { mode, handle } => self.reduce(wide(mode), handle),
-            Call::NewPassword { mode, handle, password } => {
+            Call::Read { segment, .. } => self.read(wide(segment), handle),
+            Call::Write { segment, .. } => self.write(wide(segment), handle),
+            Call::Weaken { mask, .. } => weaken(*mask, handle),
+            Call::Reduce { mode, .. } => self.reduce(wide(mode), handle),
+            Call::NewPassword { mode, password, .. } => {
                 self.new_password(wide(mode), handle, password)
             }
-            Call::Freeze { node, segment, handle } => {
-                self.freeze(wide(node), wide(segment), handle)
-            }
-            Call::Join { mode, handle, other } => self.join(wide(mode), handle, other),
-            Call::Look { node, segment, handle } => self.look(wide(node), wide(segment), handle),
-            Call::Validate { mode, handle } => self.validate(wide(mode), handle),
+            Call::Freeze { node, segment, .. } => self.freeze(wide(node), wide(segment), handle),
+            Call::Join { mode, .. } => self.join(wide(mode), handle, other),
+            Call::Look { node, segment, .. } => self.look(wide(node), wide(segment), handle),
+            Call::Validate { mode, .. } => self.validate(wide(mode), handle),
         };
         reply
     }

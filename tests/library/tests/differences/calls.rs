@@ -3,7 +3,7 @@
 use crate::driver::{by, not_by, run, told, By, Word, BATCH, BUFFERS, IMAGES, MEMORIES, MORE};
 use crate::driver::{REFUSAL_CHANGES, REPLIES};
 use crate::wrong::Wrong;
-use crate::wrong::{after, asked, asking, at, batch, cut_to, memory_of, on, right, validate_all};
+use crate::wrong::{after, asked, asking, at, batch, cut_to, on, right, validate_all};
 use library::image::{
     Image, IMAGE_BYTES, LENGTH_AT, MARK_AT, READ_AT, RECORD_BYTES, SEGMENTS_AT, SEGMENT_BYTES,
 };
@@ -71,7 +71,6 @@ fn bases_of_absent_segments_cleared(image: &mut Image) {
 table! {
     any_active_byte_taken_for_active: imaging(active_bytes_mended) => by(By::Single, [Says("differ")]);
     bases_of_absent_segments_overlooked: imaging(bases_of_absent_segments_cleared) => by(By::Single, [Says("differ")]);
-    a_longer_slice_taken_for_sound: memory_of(|bytes| bytes.min(MEMORY_BYTES)) => by(By::Single, [REPLIES]);
     numbers_cut_to_four_bytes: cut_to(4) => told([REPLIES]);
     numbers_cut_to_six_bytes: cut_to(6) => told([REPLIES]);
     segments_cut_to_one_byte: asking(|question| {

@@ -1,7 +1,7 @@
 //! Damage that is overlooked: libraries that see one kind of it as if it were mended.
 
 use crate::driver::{by, By, Complaint, Word, BATCH};
-use crate::wrong::{judging, validate_all, Wrong};
+use crate::wrong::{judging, right, validate_all, Wrong};
 use library::compare::is_sound;
 use library::guard;
 use library::image::{decode, encode, Image, IMAGE_BYTES, LENGTH_AT, MARK_AT, READ_AT};
@@ -31,7 +31,7 @@ fn mended(mend: fn(&mut Image)) -> Wrong {
             true => validate_all(held, how, handles, numbers),
             false => validate_all(&mut seen(held), how, handles, numbers),
         }),
-        judge: Rc::new(guard::is_sound),
+        ..right()
     }
 }
 
@@ -205,12 +205,12 @@ fn shortened(image: &Image) -> Image {
 
 // Soundness asked by itself.
 table! {
-    a_byte_of_an_image: judging(|image, size| guard::is_sound(&mut the_last_byte_cleared(image), size))
+    a_byte_of_an_image: judging(|image| guard::is_sound(&mut the_last_byte_cleared(image)))
         => by(By::EveryByte, [Says("byte 3647 made")]);
     touching_taken_for_sharing:
-        judging(|image, size| guard::is_sound(image, size) && guard::is_sound(&mut lengthened(image), size))
+        judging(|image| guard::is_sound(image) && guard::is_sound(&mut lengthened(image)))
         => by(By::AtWords, [Says("sound is true in the model")]);
     sharing_taken_for_touching:
-        judging(|image, size| guard::is_sound(image, size) || guard::is_sound(&mut shortened(image), size))
+        judging(|image| guard::is_sound(image) || guard::is_sound(&mut shortened(image)))
         => by(By::AtWords, [Says("sound is false in the model")]);
 }

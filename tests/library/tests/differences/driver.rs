@@ -1,12 +1,10 @@
 //! Who finds a wrong library out, in which words, and the driver that sees to it.
 
 use crate::wrong::{on, right, Wrong};
-use library::image::Image;
-use library::question::{Answer, Held, Question, LOOK, VALIDATION};
+use library::question::{Held, LOOK, VALIDATION};
 use library::tally::Tally;
 use library::{batch, copies, edges, laws, runs, single, stays, untold, writers};
 use model::call::{READ, WRITE};
-use std::cell::RefCell;
 
 const SEED: u64 = 7;
 
@@ -26,6 +24,7 @@ pub enum By {
     Masks,
     NewClusters,
     Segments,
+    Handles,
     Stays,
     Laws,
     Untold,
@@ -37,9 +36,9 @@ pub enum By {
 
 impl By {
     #[rustfmt::skip]
-    const ALL: [By; 19] = [
+    const ALL: [By; 20] = [
         By::Single, By::Runs, By::Batches, By::BatchWidths, By::EveryByte, By::AtWords, By::Looks, By::Freezes, By::Joins,
-        By::Lengths, By::Masks, By::NewClusters, By::Segments, By::Stays, By::Laws, By::Untold, By::Writers, By::Copies,
+        By::Lengths, By::Masks, By::NewClusters, By::Segments, By::Handles, By::Stays, By::Laws, By::Untold, By::Writers, By::Copies,
         By::FewCopies,
     ];
 
@@ -47,7 +46,10 @@ impl By {
     fn compare(self, wrong: &Wrong, one_of: u64) -> Result<(), String> {
         let tally = &mut Tally::default();
         let of = |cases: u64| cases / one_of;
-        LENT.set(wrong.clone());
+        let (ask, judge, make) = (&*wrong.ask, &*wrong.judge, &*wrong.make);
+        let of_many = &|held: &mut Held, mode, width, handles: &[u8], numbers: &mut [u8]| {
+            (wrong.batch)(held, (mode, width), handles, numbers)
+        };
         match self {
             By::Single => single::compare(ask, SEED, of(40_000), tally),
             By::Runs => runs::compare(ask, SEED, of(120), tally),
@@ -62,6 +64,7 @@ impl By {
             By::Masks => edges::masks(ask, SEED).map(drop),
             By::NewClusters => edges::new_clusters(ask, SEED).map(drop),
             By::Segments => edges::segments(ask, SEED).map(drop),
+            By::Handles => edges::handles(make, SEED).map(drop),
             By::Stays => stays::compare(ask, SEED, of(40)).map(drop),
             By::Laws => laws::compare(ask, SEED, of(2_000)).map(drop),
             By::Untold => untold::compare(ask, SEED, of(200)).map(drop),
@@ -186,32 +189,6 @@ pub fn run(name: &str, wrong: &Wrong, complaint: &Complaint) {
     if let Err(what) = complaint.judge(wrong, 1) {
         panic!("{name}: {what}");
     }
-}
-
-// Comparisons take plain functions: these ask the library that is lent to the thread.
-
-thread_local!(static LENT: RefCell<Wrong> = RefCell::new(right()));
-
-fn lent() -> Wrong {
-    LENT.with_borrow(Wrong::clone)
-}
-
-fn ask(held: &mut Held, question: &Question) -> Answer {
-    (lent().ask)(held, question)
-}
-
-fn of_many(
-    held: &mut Held,
-    mode: usize,
-    width: usize,
-    handles: &[u8],
-    numbers: &mut [u8],
-) -> usize {
-    (lent().batch)(held, (mode, width), handles, numbers)
-}
-
-fn judge(image: &mut Image, memory_bytes: usize) -> bool {
-    (lent().judge)(image, memory_bytes)
 }
 
 // That the driver can fail.

@@ -2,7 +2,7 @@
 
 use crate::driver::{by, numbers, told, By, Complaint, Word, IMAGES, MEMORIES, REFUSAL_CHANGES};
 use crate::seen::Seen;
-use crate::wrong::{after, asked, cut_to, instead, memory_of, on, refusing, After, Wrong};
+use crate::wrong::{after, asked, cut_to, instead, on, refusing, After, Wrong};
 use library::compare::is_sound;
 use library::guard;
 use library::image::{segment_at, IMAGE_BYTES, LENGTH_AT, MARK_AT, READ_AT, RECORD_BYTES};
@@ -11,7 +11,7 @@ use library::question::{Held, Question, LOOK, VALIDATION};
 use model::call::{Call, Reply, DELETE_CLUSTER, DELETE_SEGMENT, FREEZE, NEW_CLUSTER};
 use model::call::{NEW_PASSWORD, NEW_SEGMENT, READ, REDUCE, WRITE};
 use model::handle::derive;
-use model::sizes::{MEMORY_BYTES, SEGMENTS};
+use model::sizes::SEGMENTS;
 use model::store::Cluster;
 use Word::{Call as Asks, Gives, Right, Says};
 
@@ -163,7 +163,6 @@ table! {
     absent_before_not_primary: refusing(FREEZE, 10, 14, Seen::is_absent) => numbers(FREEZE, 10, 14);
     arguments_in_one_byte_the_node: instead(FREEZE, 2, cut) => numbers(FREEZE, 2, 0);
     arguments_in_one_byte_the_segment: instead(FREEZE, 3, cut) => numbers(FREEZE, 3, 0);
-    a_memory_one_byte_too_long_taken_for_whole: memory_of(|bytes| bytes.min(MEMORY_BYTES)) => edge(1, 0);
     numbers_cut_to_six_bytes: cut_to(6) => edge(2, 0);
     a_second_freeze_refused_wherever_the_segment_is: refusing(FREEZE, 0, 22, Seen::is_frozen) => edge(0, 22);
 }

@@ -3,7 +3,7 @@
 use crate::driver::{by, numbers, told, By, Complaint, Word, IMAGES, MEMORIES, MORE, REPLIES};
 use crate::driver::{REFUSAL_CHANGES, SHOWN};
 use crate::seen::Seen;
-use crate::wrong::{after, asking, cut_to, instead, memory_of, on, refusing, Wrong};
+use crate::wrong::{after, asking, cut_to, instead, on, refusing, Wrong};
 use library::guard;
 use library::image::{decode, encode};
 use library::question::{BEYOND, LOOK};
@@ -132,8 +132,6 @@ fn cut(seen: &Seen, cut: fn(&mut u32, &mut u32)) -> Option<Reply> {
 table! {
     a_place_before_the_store: refusing(LOOK, 1, 2, |it| it.node as usize >= NODES) => damage(2);
     other_records_not_judged: instead(LOOK, 1, with_its_record_alone) => damage(0);
-    the_memory_s_length_not_judged:
-        instead(LOOK, 1, |it| it.done(|held, _| held.memory.resize(MEMORY_BYTES, 0))) => damage(0);
     current_nodes_in_one_byte: instead(LOOK, 2, |it| cut(it, |node, _| in_one_byte(node))) => numbers(LOOK, 2, 0);
     segments_in_one_byte: instead(LOOK, 3, |it| cut(it, |_, segment| in_one_byte(segment))) => numbers(LOOK, 3, 0);
     arguments_in_four_bytes:
@@ -142,8 +140,6 @@ table! {
         => by(By::Looks, [Says("segment at 0, 4096 bytes")]);
     the_last_byte_of_the_memory_left_out: part(|from, length| (from, length.min(MEMORY_BYTES - 1 - from)))
         => by(By::Looks, [Says("shown 4096 from 12288")]);
-    a_memory_one_byte_short_taken_for_whole: memory_of(|bytes| bytes + usize::from(bytes == MEMORY_BYTES - 1))
-        => by(By::Looks, [Right(1)]);
     current_nodes_cut_to_six_bytes: cut_to(6) => by(By::Looks, [Right(2)]);
 }
 

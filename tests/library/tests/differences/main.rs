@@ -16,6 +16,7 @@ mod calls;
 mod damage;
 mod driver;
 mod freezes;
+mod held;
 mod joins;
 mod looks;
 mod nothing;

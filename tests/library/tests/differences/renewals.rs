@@ -211,7 +211,7 @@ fn has_equal(image: &Image) -> bool {
 /// Holds a store for unsound in which they are.
 fn unsound_where_equal() -> Wrong {
     Wrong {
-        judge: Rc::new(|image, size| guard::is_sound(image, size) && !has_equal(image)),
+        judge: Rc::new(|image| guard::is_sound(image) && !has_equal(image)),
         ..asked(
             |held, question| match has_equal(&held.image) && question.code() != WEAKEN {
                 true => Answer {

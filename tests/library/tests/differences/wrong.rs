@@ -1,6 +1,7 @@
 //! Ways to be wrong that tables put together: another question, another answer, something left behind.
 
 use crate::seen::Seen;
+use library::ffi::gelmuszta_handle;
 use library::guard;
 use library::image::{record_at, segment_at, Image};
 use library::question::{Answer, Held, Question};
@@ -11,14 +12,16 @@ use std::rc::Rc;
 pub type Ask = dyn Fn(&mut Held, &Question) -> Answer;
 /// Mode and width are one argument.
 pub type Batch = dyn Fn(&mut Held, (usize, usize), &[u8], &mut [u8]) -> usize;
-pub type Judge = dyn Fn(&mut Image, usize) -> bool;
+pub type Judge = dyn Fn(&mut Image) -> bool;
+pub type Make = dyn Fn(&[u8]) -> (u8, gelmuszta_handle);
 
-/// A library: what it answers, how it judges many handles, and which images it holds for sound.
+/// A library: what it answers, how it judges many handles, which images it holds for sound, and what it makes of bytes.
 #[derive(Clone)]
 pub struct Wrong {
     pub ask: Rc<Ask>,
     pub batch: Rc<Batch>,
     pub judge: Rc<Judge>,
+    pub make: Rc<Make>,
 }
 
 /// The library as it is.
@@ -27,6 +30,7 @@ pub fn right() -> Wrong {
         ask: Rc::new(guard::ask),
         batch: Rc::new(validate_all),
         judge: Rc::new(guard::is_sound),
+        make: Rc::new(guard::handle_of),
     }
 }
 
@@ -58,9 +62,17 @@ pub fn batch(
 }
 
 /// Holds other images for sound.
-pub fn judging(judge: impl Fn(&mut Image, usize) -> bool + 'static) -> Wrong {
+pub fn judging(judge: impl Fn(&mut Image) -> bool + 'static) -> Wrong {
     Wrong {
         judge: Rc::new(judge),
+        ..right()
+    }
+}
+
+/// Makes another handle of bytes.
+pub fn making(make: impl Fn(&[u8]) -> (u8, gelmuszta_handle) + 'static) -> Wrong {
+    Wrong {
+        make: Rc::new(make),
         ..right()
     }
 }
@@ -77,19 +89,6 @@ pub fn asking(change: impl Fn(&mut Question) + 'static) -> Wrong {
 /// Takes a mode or another number for what its low bytes say, where no four bytes hold it.
 pub fn cut_to(bytes: usize) -> Wrong {
     asking(move |question| question.beyond &= (1 << (8 * bytes)) - 1)
-}
-
-/// Takes a memory for one of another length, and never writes behind its end.
-pub fn memory_of(bytes: fn(usize) -> usize) -> Wrong {
-    asked(move |held, question| {
-        let mut seen = held.clone();
-        seen.memory.resize(bytes(held.memory.len()), 0);
-        let answer = guard::ask(&mut seen, question);
-        held.image = seen.image;
-        let common = held.memory.len().min(seen.memory.len());
-        held.memory[..common].copy_from_slice(&seen.memory[..common]);
-        answer
-    })
 }
 
 /// What a call was asked of, what it was, and what has come of it.

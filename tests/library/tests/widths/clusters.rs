@@ -11,7 +11,6 @@ use library::{batch, copies, edges, guard, writers};
 use model::call::{Call, Reply};
 use model::handle::{Handle, HandleBytes, Width};
 use model::hexadecimal;
-use model::sizes::MEMORY_BYTES;
 
 fn given(held: &Held, call: Call) -> HandleBytes {
     let (reply, _) = asked(held, &call);
@@ -188,7 +187,7 @@ fn widths_of_records() {
                 true => [4, 8, 16].contains(&width),
                 false => width == 0,
             };
-            assert_eq!(guard::is_sound(&mut held.image, MEMORY_BYTES), sound);
+            assert_eq!(guard::is_sound(&mut held.image), sound);
             let number = match (sound, active && width != 8) {
                 (false, _) => 1,
                 (true, true) => 25,
@@ -203,7 +202,7 @@ fn widths_of_records() {
             let place = segment_at(1, local(width), segment);
             held.image[place].copy_from_slice(&[0x0f, 0xff, 0, 1, segment as u8 % 2]);
             let sound = segment < width.segments();
-            assert_eq!(guard::is_sound(&mut held.image, MEMORY_BYTES), sound);
+            assert_eq!(guard::is_sound(&mut held.image), sound);
             assert_eq!(asked(&held, &validate).0.number, u8::from(!sound));
         }
     }
@@ -242,26 +241,26 @@ fn batches_of_one_width() {
 
 #[test]
 fn edges_are_all_tried() {
-    // Eleven calls with one handle and one with two, of which each and both are changed; 65 lengths, three stores.
-    let (calls, done) = edges::lengths(guard::ask, 5).expect("no difference");
-    assert_eq!(calls, 3 * (11 + 3) * 65 * 3);
+    // Eleven calls with one handle and one with two, of which each and both are changed; 256 lengths, three stores.
+    let (calls, done) = edges::lengths(&guard::ask, 5).expect("no difference");
+    assert_eq!(calls, 3 * (11 + 3) * 256 * 3);
     assert!(done > 40, "{done}");
     // Six calls about a segment, with 24 numbers each, and six about none; two passwords, three widths of each.
-    let (calls, done) = edges::segments(guard::ask, 5).expect("no difference");
+    let (calls, done) = edges::segments(&guard::ask, 5).expect("no difference");
     assert_eq!(calls, 3 * 3 * 2 * (6 * 24 + 6));
     assert!(done > 50, "{done}");
-    let (calls, done) = edges::new_clusters(guard::ask, 5).expect("no difference");
+    let (calls, done) = edges::new_clusters(&guard::ask, 5).expect("no difference");
     assert_eq!((calls, done), (3 * 4 * 306, 3 * 3));
-    let batches = batch::every_width(guard::validate_all, 5).expect("no difference");
+    let batches = batch::every_width(&guard::validate_all, 5).expect("no difference");
     assert_eq!(batches, 3 * 38 + (43 + 47 + 55));
 }
 
 #[test]
 fn two_copies_come_to_every_width() {
-    let count = copies::compare(guard::ask, 6, 60).expect("the copies agree");
+    let count = copies::compare(&guard::ask, 6, 60).expect("the copies agree");
     for counted in [count.widths, count.other_width, count.by_width] {
         assert!(counted.iter().all(|counted| *counted > 4), "{count:?}");
     }
-    let count = writers::compare(guard::ask, 6, 200).expect("the copies agree");
+    let count = writers::compare(&guard::ask, 6, 200).expect("the copies agree");
     assert!(count.faults().is_empty(), "{count:?}");
 }

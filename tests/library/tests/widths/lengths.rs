@@ -5,13 +5,13 @@ use crate::support::every::{every, Rest};
 use crate::wide::{held, local, primary, refused, REST, WRITE};
 use library::chance::damage::{inflict, Damage, LAST_PLACE};
 use library::chance::handles::at_width;
-use library::guard::given::Given;
+use library::ffi::gelmuszta_handle;
 use library::question::WRITE_MODE;
 use model::call::Call;
 use model::handle::{Handle, Width};
 use model::random::Random;
 
-/// Every length from 0 to 64 that no handle has, in every call and for either handle of a join: 25 on a sound store and
+/// Every length byte that no handle has, in every call and for either handle of a join: 25 on a sound store and
 /// beside every kind of damage.
 #[test]
 fn lengths_that_no_handle_has() {
@@ -25,7 +25,7 @@ fn lengths_that_no_handle_has() {
     let right = primary(Width::Eight, WRITE)
         .weaken(1)
         .expect("all are flat");
-    for length in (0..=64).filter(|length| ![21, 23, 27].contains(length)) {
+    for length in (0..=255).filter(|length| ![21, 23, 27].contains(length)) {
         let mut wrong = right.to_bytes();
         wrong.resize(length, 0xff);
         let right = right.to_bytes();
@@ -88,16 +88,38 @@ fn handles_as_they_are_given() {
     let given = |length, from: usize| {
         let mut bytes = [0; 27];
         bytes[..from].fill(7);
-        Given { bytes, length }
+        gelmuszta_handle { bytes, length }
     };
     for length in [21, 23, 27] {
-        assert_eq!(given(length, length).told(), vec![7; length]);
+        assert_eq!(given(length, length.into()).told(), vec![7; length.into()]);
     }
     assert_eq!(given(0, 0).told(), Vec::<u8>::new());
-    for (length, from) in [(0, 1), (21, 22), (23, 27), (28, 27), (usize::MAX, 0)] {
+    for (length, from) in [(0, 1), (21, 22), (23, 27), (28, 27), (u8::MAX, 0)] {
         let told = given(length, from).told();
-        assert_eq!(told.len(), 35, "{length} {from}");
+        assert_eq!(told.len(), 28, "{length} {from}");
         assert_eq!(Handle::from_bytes(&told), None);
     }
-    assert_eq!(Given::UNWRITTEN.told().len(), 35);
+    assert_eq!(gelmuszta_handle::UNWRITTEN.told().len(), 28);
+}
+
+/// What is taken is laid out with what lies behind the length; where the length is more than there is room for, the
+/// first bytes are there.
+#[test]
+fn handles_as_they_are_taken() {
+    let behind: [u8; 27] = std::array::from_fn(|at| 101 + at as u8);
+    let bytes: Vec<u8> = (1..=255).collect();
+    for (length, own) in [
+        (0, 0),
+        (1, 1),
+        (21, 21),
+        (26, 26),
+        (27, 27),
+        (28, 27),
+        (255, 27),
+    ] {
+        let taken = gelmuszta_handle::of(&bytes[..length], &behind);
+        assert_eq!(usize::from(taken.length), length);
+        assert_eq!(taken.bytes[..own], bytes[..own]);
+        assert_eq!(taken.bytes[own..], behind[own..]);
+    }
 }

@@ -39,7 +39,7 @@ pub fn held() -> Held {
     }
     Held {
         image: encode(&store),
-        memory: vec![0x77; MEMORY_BYTES],
+        memory: [0x77; MEMORY_BYTES],
     }
 }
 

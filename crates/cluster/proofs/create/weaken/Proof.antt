@@ -9,4 +9,4 @@ returns : tie.Need-returns
 returns c = search (needs, weaken-is)
 
 pub weaken-spec : {M : Type 1} → statement M
-weaken-spec = tie.close (tie.spec (λ c κs. search needs) (λ c κs. search needs) (λ c κs. search needs) returns)
+weaken-spec = tie.close (tie.spec (λ c κs. search needs) (λ c κs. search needs) returns)

@@ -91,7 +91,7 @@ fn soundness(name: &str, store: &Store) {
     let times = beside(
         ROUNDS,
         CALLS,
-        || *first &= guard::is_sound(black_box(&mut held.image), MEMORY_BYTES),
+        || *first &= guard::is_sound(black_box(&mut held.image)),
         || *second &= decode(black_box(&image)).is_some_and(|store| store.is_sound(MEMORY_BYTES)),
         || *third &= black_box(store).is_sound(MEMORY_BYTES),
     );
@@ -103,7 +103,7 @@ fn soundness(name: &str, store: &Store) {
 /// how long it is; where the memories are the same too, so are the bytes shown.
 fn one_call(row: &Row) {
     let Row { name, call, .. } = row;
-    let [mut first, mut second] = [(); 2].map(|()| OnImage::new(&row.store, row.place));
+    let [mut first, mut second] = [(); 2].map(|()| OnImage::new(&row.store, row.place, call));
     let mut third = OnRecords::new(&row.store, row.place);
     let times = beside(
         ROUNDS,

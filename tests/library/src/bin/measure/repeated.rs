@@ -1,13 +1,16 @@
 //! The same call done again and again: afterwards the record of its cluster is put back.
 
 use crate::stores::{held, memory};
+use library::ffi::HANDLE_MAX;
+use library::guard::handles::Presented;
 use library::guard::Lent;
 use library::image::{decode, encode, record_at, RECORD_BYTES};
-use library::question::Held;
+use library::question::{Held, Memory};
 use model::call::{Call, Reply};
 use model::model::run;
 use model::sizes::NODE_BYTES;
 use model::store::{Cluster, Store};
+use std::hint::black_box;
 use std::ops::Range;
 
 /// A store as an image, for the library and for the model.
@@ -15,6 +18,8 @@ pub struct OnImage {
     pub held: Held,
     pub reply: Reply,
     pub buffer: [u8; NODE_BYTES],
+    /// As the library takes them.
+    handles: Presented,
     /// What weakening gets, which looks at no store.
     unused: Store,
     record: Range<usize>,
@@ -22,7 +27,7 @@ pub struct OnImage {
 }
 
 impl OnImage {
-    pub fn new(store: &Store, (node, local): (usize, usize)) -> OnImage {
+    pub fn new(store: &Store, (node, local): (usize, usize), call: &Call) -> OnImage {
         let held = held(store);
         let record = record_at(node, local);
         let mut saved = [0; RECORD_BYTES];
@@ -31,6 +36,7 @@ impl OnImage {
             held,
             reply: Reply::DONE,
             buffer: [0; NODE_BYTES],
+            handles: Presented::of(call, &[0; HANDLE_MAX]),
             unused: Store::starting(),
             record,
             saved,
@@ -43,7 +49,7 @@ impl OnImage {
             memory: &mut self.held.memory,
             buffer: &mut self.buffer,
         };
-        self.reply = lent.run(call, 0);
+        self.reply = lent.run(call, black_box(&self.handles), 0);
         self.put_back();
     }
 
@@ -69,7 +75,7 @@ impl OnImage {
 
 /// A store as the model keeps it.
 pub struct OnRecords {
-    pub memory: Vec<u8>,
+    pub memory: Memory,
     pub reply: Reply,
     pub buffer: [u8; NODE_BYTES],
     store: Store,

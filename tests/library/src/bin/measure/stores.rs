@@ -1,9 +1,9 @@
 //! The stores that calls are measured on.
 
 use library::image::encode;
-use library::question::Held;
+use library::question::{Held, Memory};
 use model::handle::Width;
-use model::sizes::{CLUSTERS, MEMORY_BYTES, NODES, NODE_BYTES};
+use model::sizes::{CLUSTERS, NODES, NODE_BYTES};
 use model::store::{Cluster, Segment, Store};
 
 /// The cluster that calls are about, and one that a call can make.
@@ -25,8 +25,8 @@ pub const fn full_length(width: Width) -> usize {
 const PERIOD: usize = 251;
 
 /// What every side begins with; no two nodes have the same bytes.
-pub fn memory() -> Vec<u8> {
-    (0..MEMORY_BYTES).map(|at| (at % PERIOD) as u8).collect()
+pub fn memory() -> Memory {
+    std::array::from_fn(|at| (at % PERIOD) as u8)
 }
 
 pub fn held(store: &Store) -> Held {

@@ -167,7 +167,7 @@ mod laws {
 
     #[test]
     fn the_library_keeps_them() {
-        let done = library::laws::compare(guard::ask, 7, 2_000).expect("they hold");
+        let done = library::laws::compare(&guard::ask, 7, 2_000).expect("they hold");
         assert!(done > 100, "{done}");
     }
 

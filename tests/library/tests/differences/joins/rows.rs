@@ -2,12 +2,11 @@
 
 use super::{joined, joins, noting, without, Asked, Row, RIGHT, RIGHTLY};
 use crate::driver::{by, not_by, By, Complaint, Word, REPLIES};
-use crate::wrong::{after, asking, cut_to, memory_of, Wrong};
+use crate::wrong::{after, asking, cut_to, Wrong};
 use library::image::decode;
 use library::question::{change_handle, Held};
 use model::call::JOIN;
 use model::handle::Handle;
-use model::sizes::MEMORY_BYTES;
 use model::store::Mode;
 use std::ops::Range;
 use Word::{Call as Asks, Right};
@@ -125,9 +124,6 @@ table! {
     a_node_in_its_low_byte_second: cut(1, |handle| handle.node &= 0xff) => edge(2);
     a_local_number_in_its_low_bits_first: cut(0, |handle| handle.local &= 7) => edge(2);
     a_local_number_in_its_low_bits_second: cut(1, |handle| handle.local &= 7) => edge(2);
-    a_memory_of_another_length_taken_for_whole_longer: memory_of(|bytes| bytes.min(MEMORY_BYTES)) => edge(1);
-    a_memory_of_another_length_taken_for_whole_shorter:
-        memory_of(|bytes| bytes + usize::from(bytes == MEMORY_BYTES - 1)) => edge(1);
 }
 
 /// A number that hangs on the passwords of the cluster that the handle names, if it opens it or need not.

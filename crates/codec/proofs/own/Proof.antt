@@ -1,9 +1,9 @@
 -- As many bytes as the last one tells, or all.
 -- Assumes nothing.
-use Rattle.gelmuszta.proofs.MemoryLaws.{all-held, some-held}
+use Rattle.codec.proofs.HeldLaws.{all-held, some-held}
 use borrow.Author.Needs.{needs}
-use Rattle.gelmuszta.proofs.own.Statement.{statement}
-use Rattle.gelmuszta.proofs.own.Tie as tie
+use Rattle.codec.proofs.own.Statement.{statement}
+use Rattle.codec.proofs.own.Tie as tie
 
 returns : tie.Need-returns
 returns c = search (needs, all-held)

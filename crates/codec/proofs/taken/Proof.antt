@@ -1,9 +1,9 @@
 -- The handle of those bytes.
 -- Assumes nothing.
-use Rattle.gelmuszta.proofs.MemoryLaws.{taken-so}
+use Rattle.codec.proofs.HeldLaws.{taken-so}
 use borrow.Author.Needs.{needs}
-use Rattle.gelmuszta.proofs.taken.Statement.{statement}
-use Rattle.gelmuszta.proofs.taken.Tie as tie
+use Rattle.codec.proofs.taken.Statement.{statement}
+use Rattle.codec.proofs.taken.Tie as tie
 
 returns : tie.Need-returns
 returns c = search (needs, taken-so)
