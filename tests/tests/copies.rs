@@ -25,13 +25,7 @@ fn pair(random: &mut Random) -> [Bench; 2] {
     start.memory.fill_with(|| random.byte());
     for local in [APART, BESIDE] {
         let width = any_width(random);
-        let mut cluster = Cluster {
-            active: true,
-            width: width.number(),
-            read: random.bytes(),
-            write: random.bytes(),
-            ..Cluster::INACTIVE
-        };
+        let mut cluster = Cluster::new(width, random.bytes(), random.bytes());
         for (at, segment) in [0, width.segments() - 1].into_iter().enumerate() {
             let base = (2 * at + local) * BUFFER_BYTES;
             let length = 1 + random.below(BUFFER_BYTES as u64);

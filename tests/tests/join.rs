@@ -147,10 +147,7 @@ fn with_itself_and_with_less() {
         for parts in sets(width) {
             let selector = Selector::new(width, parts);
             let handle = Handle::converted(0, 2, &READ_SECRET, selector);
-            let reduction = bench.reply(Call::Reduce {
-                mode: READ_MODE,
-                handle: handle.into(),
-            });
+            let reduction = bench.reply(Call::reduce(READ_MODE, handle));
             let expected = match selector.is_primary() {
                 true => Reply::refused(23),
                 false => reduction,

@@ -115,7 +115,7 @@ fn numbers_of_weakening_in_their_order() {
             ];
             let first = numbers.iter().find(|(applies, _)| *applies);
             let mut state = Bench::starting();
-            state.memory.clear();
+            make_unsound(&mut state.store);
             let reply = state.reply(Call::Weaken { mask, handle });
             match first {
                 Some((_, number)) => assert_eq!(reply, Reply::refused(*number), "{set}"),

@@ -13,38 +13,17 @@ fn gapped() -> Handle {
     }
 }
 
-fn delete_cluster(node: u32, handle: Handle) -> Call {
-    Call::DeleteCluster {
-        node,
-        handle: handle.into(),
-    }
-}
-
-fn reduce(mode: u32, handle: Handle) -> Call {
-    Call::Reduce {
-        mode,
-        handle: handle.into(),
-    }
-}
-
-fn weaken(mask: u16, handle: Handle) -> Call {
-    Call::Weaken {
-        mask,
-        handle: handle.into(),
-    }
-}
-
 #[test]
 fn no_such_place_before_field() {
     let mut bench = Bench::with_segment();
     assert_eq!(bench.number(new_cluster(4, 0)), 2);
     assert_eq!(bench.number(new_cluster(0, 8)), 2);
-    assert_eq!(bench.number(delete_cluster(4, writer())), 2);
+    assert_eq!(bench.number(Call::delete_cluster(4, writer())), 2);
     let far = Handle {
         node: 256,
         ..writer()
     };
-    assert_eq!(bench.number(reduce(9, far)), 2);
+    assert_eq!(bench.number(Call::reduce(9, far)), 2);
     assert_eq!(
         bench.read(
             99,
@@ -55,14 +34,14 @@ fn no_such_place_before_field() {
         ),
         Err(2)
     );
-    assert_eq!(bench.number(weaken(0, far)), 2);
+    assert_eq!(bench.number(Call::weaken(0, far)), 2);
 }
 
 #[test]
 fn field_before_gapped() {
     let mut bench = Bench::with_segment();
-    assert_eq!(bench.number(reduce(0, gapped())), 3);
-    assert_eq!(bench.number(reduce(3, gapped())), 3);
+    assert_eq!(bench.number(Call::reduce(0, gapped())), 3);
+    assert_eq!(bench.number(Call::reduce(3, gapped())), 3);
     assert_eq!(bench.read(8, gapped()), Err(3));
     assert_eq!(bench.number(new_segment(1, 0)), 3);
     assert_eq!(bench.number(new_segment(1, 4097)), 3);
@@ -73,17 +52,17 @@ fn field_before_gapped() {
 #[test]
 fn gapped_before_elsewhere() {
     let mut bench = Bench::with_segment();
-    assert_eq!(bench.number(delete_cluster(1, gapped())), 4);
-    assert_eq!(bench.number(weaken(0, gapped())), 4);
-    assert_eq!(bench.number(weaken(255, gapped())), 4);
+    assert_eq!(bench.number(Call::delete_cluster(1, gapped())), 4);
+    assert_eq!(bench.number(Call::weaken(0, gapped())), 4);
+    assert_eq!(bench.number(Call::weaken(255, gapped())), 4);
 }
 
 #[test]
 fn elsewhere_before_inactive() {
     let mut bench = Bench::with_segment();
     let inactive = Handle::primary(Width::Eight, 0, 3, [0; 16]);
-    assert_eq!(bench.number(delete_cluster(1, inactive)), 5);
-    assert_eq!(bench.number(delete_cluster(0, inactive)), 8);
+    assert_eq!(bench.number(Call::delete_cluster(1, inactive)), 5);
+    assert_eq!(bench.number(Call::delete_cluster(0, inactive)), 8);
 }
 
 #[test]
@@ -104,10 +83,10 @@ fn in_use_before_twins() {
 fn a_zero_password_opens_no_inactive_cluster() {
     let mut bench = Bench::starting();
     let zero = Handle::primary(Width::Eight, 0, 2, [0; 16]);
-    assert_eq!(bench.number(delete_cluster(0, zero)), 8);
+    assert_eq!(bench.number(Call::delete_cluster(0, zero)), 8);
     assert_eq!(bench.read(0, zero), Err(8));
     assert_eq!(bench.write(0, b"", zero), 8);
-    assert_eq!(bench.number(reduce(1, zero)), 8);
+    assert_eq!(bench.number(Call::reduce(1, zero)), 8);
 }
 
 #[test]
@@ -115,18 +94,9 @@ fn violated_protection_before_what_the_tables_hold() {
     let mut bench = Bench::with_segment();
     assert_eq!(bench.read(0, writer()), Err(9));
     assert_eq!(bench.write(0, b"", reader()), 9);
-    let with_reader = Call::NewSegment {
-        node: 0,
-        segment: 5,
-        size: 4,
-        handle: reader().into(),
-    };
+    let with_reader = Call::new_segment(0, 5, 4, reader());
     assert_eq!(bench.number(with_reader), 9);
-    let wrong = Call::DeleteSegment {
-        node: 0,
-        segment: 0,
-        handle: reader().into(),
-    };
+    let wrong = Call::delete_segment(0, 0, reader());
     assert_eq!(bench.number(wrong), 9);
 }
 
@@ -138,8 +108,8 @@ fn violated_protection_before_not_primary() {
         password: WRITE_SECRET,
         ..weakened
     };
-    assert_eq!(bench.number(delete_cluster(0, forged)), 9);
-    assert_eq!(bench.number(delete_cluster(0, weakened)), 10);
+    assert_eq!(bench.number(Call::delete_cluster(0, forged)), 9);
+    assert_eq!(bench.number(Call::delete_cluster(0, weakened)), 10);
 }
 
 #[test]
@@ -181,10 +151,7 @@ fn present_before_no_room() {
 #[test]
 fn short_buffer_and_short_data() {
     let mut bench = Bench::with_segment();
-    let read = Call::Read {
-        segment: 5,
-        handle: reader().into(),
-    };
+    let read = Call::read(5, reader());
     let mut buffer = *b"...";
     assert_eq!(bench.ask(read, &mut buffer).number, 15);
     assert_eq!(&buffer, b"...");
@@ -205,7 +172,7 @@ fn empty_before_spent() {
             0xf0 => 0,
             _ => 17,
         };
-        assert_eq!(bench.number(weaken(mask, spent)), expected, "{mask}");
+        assert_eq!(bench.number(Call::weaken(mask, spent)), expected, "{mask}");
     }
 }
 
@@ -217,9 +184,9 @@ fn refused_weakening_gives_no_count() {
         ..writer()
     };
     for (mask, number) in [(239, 17), (15, 21)] {
-        let reply = bench.reply(weaken(mask, spent));
+        let reply = bench.reply(Call::weaken(mask, spent));
         assert_eq!((reply.number, reply.count), (number, 0));
         assert!(reply.first.is_empty());
     }
-    assert_eq!(bench.reply(weaken(240, spent)).count, 4);
+    assert_eq!(bench.reply(Call::weaken(240, spent)).count, 4);
 }

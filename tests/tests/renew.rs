@@ -50,10 +50,7 @@ fn neighbours(password: Password) -> impl Iterator<Item = Password> {
 }
 
 fn validates(state: &mut Bench, mode: u32, handle: Handle) -> bool {
-    let number = state.number(Call::Validate {
-        mode,
-        handle: handle.into(),
-    });
+    let number = state.number(Call::validate(mode, handle));
     assert!(number == 0 || number == 9);
     number == 0
 }
@@ -69,10 +66,7 @@ fn family(state: &mut Bench, mode: u32, primary: Handle) -> Vec<Handle> {
     let two = 0b11 << own(primary.width());
     let once = primary.weaken(!1).unwrap();
     let twice = once.weaken(two).unwrap();
-    let reduce = Call::Reduce {
-        mode,
-        handle: twice.into(),
-    };
+    let reduce = Call::reduce(mode, twice);
     let joined = join(mode, twice, primary.weaken(0b1000).unwrap());
     let made = [reduce, joined].map(|call| given(&state.reply(call)));
     let parts = made.map(|handle| handle.selector.subselectors[0]);
@@ -175,10 +169,7 @@ fn call_1_still_refuses_twins() {
             assert_eq!(twins, Reply::refused(7));
         }
         assert_eq!(state.number(new_cluster(3, [0x44; 16])), 0);
-        let delete = Call::DeleteCluster {
-            node: 0,
-            handle: both.into(),
-        };
+        let delete = Call::delete_cluster(0, both);
         assert_eq!(state.number(delete), 0);
         assert_eq!(state.number(new_cluster(2, both.password)), 7);
     }
@@ -251,20 +242,13 @@ fn it_does_all_that_a_write_primary_handle_does() {
         for call in calls {
             assert_eq!(state.number(&call), 0, "{call:?}");
         }
-        let delete = Call::DeleteCluster {
-            node,
-            handle: handle.into(),
-        };
+        let delete = Call::delete_cluster(node, handle);
         assert_eq!(state.number(delete), 22);
         let weaker = handle.weaken(1 << present).unwrap();
         let by_the_old = freeze_of(handle.width(), present);
         let number = u8::from(made.1 == WRITE_MODE) * 9;
         assert_eq!(state.number(by_the_old), number);
-        let by_the_weaker = Call::DeleteSegment {
-            node,
-            segment: present,
-            handle: weaker.into(),
-        };
+        let by_the_weaker = Call::delete_segment(node, present, weaker);
         assert_eq!(state.number(by_the_weaker), 10);
     }
 }

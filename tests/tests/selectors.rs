@@ -32,10 +32,7 @@ fn weakened(selector: u32, mask: u16) -> (u32, u32) {
 /// What call 7 replies.
 fn reply(selector: u32, mask: u16) -> Reply {
     let handle = handle(selector);
-    Bench::starting().reply(Call::Weaken {
-        mask,
-        handle: handle.into(),
-    })
+    Bench::starting().reply(Call::weaken(mask, handle))
 }
 
 #[test]

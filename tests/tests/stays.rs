@@ -68,10 +68,7 @@ fn a_freeze_between_all_other_calls() {
     let mut bench = Bench::with_segment();
     assert_eq!(bench.reply(freeze(5)), Reply::DONE);
     let before = bench.clone();
-    let delete = Call::DeleteCluster {
-        node: 0,
-        handle: writer().into(),
-    };
+    let delete = Call::delete_cluster(0, writer());
     for call in [
         delete,
         delete_segment(5),

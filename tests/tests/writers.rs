@@ -26,13 +26,7 @@ fn pair(random: &mut Random) -> [Bench; 2] {
     start.memory.fill_with(|| random.byte());
     for local in [APART, BESIDE] {
         let width = any_width(random);
-        let mut cluster = Cluster {
-            active: true,
-            width: width.number(),
-            read: random.bytes(),
-            write: random.bytes(),
-            ..Cluster::INACTIVE
-        };
+        let mut cluster = Cluster::new(width, random.bytes(), random.bytes());
         for (at, segment) in [0, width.segments() - 1].into_iter().enumerate() {
             let base = (2 * at + local) * BUFFER_BYTES;
             let length = 1 + random.below(BUFFER_BYTES as u64);
@@ -53,10 +47,7 @@ fn pair(random: &mut Random) -> [Bench; 2] {
 fn is_free(states: &[Bench; 2], call: &Call) -> bool {
     let reads = |handle: Handle| {
         let mode = READ_MODE;
-        let validation = Call::Validate {
-            mode,
-            handle: handle.into(),
-        };
+        let validation = Call::validate(mode, handle);
         let mut states = states.iter();
         states.any(|state| state.clone().number(&validation) == 0)
     };

@@ -127,10 +127,7 @@ fn one(guard: BatchGuard, batch: &Batch, tally: &mut Tally) -> Result<(), String
 
 /// The number on which the library's single validation and the model agree.
 fn validated_alone(batch: &Batch, bytes: &[u8], tally: &mut Tally) -> Result<u8, String> {
-    let call = Call::Validate {
-        mode: narrow(batch.mode),
-        handle: bytes.to_vec(),
-    };
+    let call = Call::validate(narrow(batch.mode), bytes.to_vec());
     let question = Question {
         beyond: batch.mode,
         ..Question::of(call)

@@ -67,11 +67,7 @@ impl Join<'_> {
     }
 
     fn asked(&self, handle: &HandleBytes, other: &HandleBytes) -> Answer {
-        self.call(Call::Join {
-            mode: self.mode,
-            handle: handle.clone(),
-            other: other.clone(),
-        })
+        self.call(Call::join(self.mode, handle.clone(), other.clone()))
     }
 
     fn reduced(&self, handle: &HandleBytes) -> Reply {

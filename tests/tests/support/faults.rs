@@ -119,13 +119,7 @@ pub fn of(kind: Kind, width: Width) -> impl Iterator<Item = Faulty> {
 fn store(kind: Kind, width: Width, low: usize, frozen: bool) -> Store {
     let mut store = Store::starting();
     for cluster in &mut store.clusters[NODE][LOCAL..=LOCAL + 1] {
-        *cluster = Cluster {
-            active: true,
-            width: width.number(),
-            read: READ,
-            write: WRITE,
-            ..Cluster::INACTIVE
-        };
+        *cluster = Cluster::new(width, READ, WRITE);
     }
     let other = |at: usize| {
         let base = BASE + LENGTH + at * OTHER_LENGTH;

@@ -136,11 +136,7 @@ fn with(choices: [usize; 10], width: Width) -> Joint {
             .filter(|(fault, _)| *fault != 0)
             .map(|(_, number)| *number)
             .collect(),
-        call: Call::Join {
-            mode: [1, 2, 0, 3][2 * field + write],
-            handle: handle(0),
-            other: handle(1),
-        },
+        call: Call::join([1, 2, 0, 3][2 * field + write], handle(0), handle(1)),
         width,
         primary: [READ, WRITE][write],
         store: put_to,
@@ -164,11 +160,5 @@ fn store(places: [(u16, u8); 2], width: Width, inactive: usize) -> Store {
 }
 
 fn active(width: Width) -> Cluster {
-    Cluster {
-        active: true,
-        width: width.number(),
-        read: READ,
-        write: WRITE,
-        ..Cluster::INACTIVE
-    }
+    Cluster::new(width, READ, WRITE)
 }

@@ -105,11 +105,7 @@ fn with(choices: [usize; 13]) -> Renewed {
             .map(|(_, number)| *number)
             .collect(),
         store,
-        call: Call::NewPassword {
-            mode: [1, 2, 0, 3][2 * field + write],
-            handle,
-            password,
-        },
+        call: Call::new_password([1, 2, 0, 3][2 * field + write], handle, password),
         mode,
         width,
         password,

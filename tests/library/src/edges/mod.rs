@@ -239,21 +239,13 @@ fn around(right: usize, bound: usize) -> impl Iterator<Item = usize> {
 
 fn look(current: usize, segment: usize, handle: &Handle) -> Question {
     let (node, number) = (narrow(current), narrow(segment));
-    let call = Call::Look {
-        node,
-        segment: number,
-        handle: handle.to_bytes(),
-    };
+    let call = Call::look(node, number, handle.to_bytes());
     wide(call, current, segment)
 }
 
 fn freeze(current: usize, segment: usize, handle: &Handle) -> Question {
     let (node, number) = (narrow(current), narrow(segment));
-    let call = Call::Freeze {
-        node,
-        segment: number,
-        handle: handle.to_bytes(),
-    };
+    let call = Call::freeze(node, number, handle.to_bytes());
     wide(call, current, segment)
 }
 

@@ -186,13 +186,7 @@ fn twins_made() -> Wrong {
         };
         let (node, local) = it.cluster().expect("2 comes before 7");
         let width = Width::of_segments(width).expect("3 comes before 7");
-        let cluster = Cluster {
-            active: true,
-            width: width.number(),
-            read,
-            write,
-            ..Cluster::INACTIVE
-        };
+        let cluster = Cluster::new(width, read, write);
         *it.held = with(it.held, (node, local), cluster);
         let handle =
             |password| Handle::primary(width, node as u16, local as u8, password).to_bytes();
