@@ -2,9 +2,6 @@
 
 mod support;
 
-use model::call::{Call, Reply};
-use model::handle::{convert, Handle, HandleBytes, Selector, Width};
-use model::store::{Cluster, Segment};
 use support::*;
 
 #[test]

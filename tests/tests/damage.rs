@@ -2,10 +2,6 @@
 
 mod support;
 
-use model::call::{Call, Reply};
-use model::handle::{Handle, Width};
-use model::sizes::MEMORY_BYTES;
-use model::store::{Segment, Store};
 use model::table::{word, EMPTY, LENGTH, UNSOUND};
 use support::*;
 

@@ -2,10 +2,6 @@
 
 mod support;
 
-use model::call::{Call, Reply};
-use model::handle::{Handle, Width};
-use model::sizes::{MEMORY_BYTES, NODES};
-use model::store::Segment;
 use model::table::{numbers_of_calls, word};
 use support::*;
 

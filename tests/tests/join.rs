@@ -3,8 +3,6 @@
 
 mod support;
 
-use model::call::{Call, Reply};
-use model::handle::{convert, Handle, Selector, Width};
 use support::naive::{flat, has, selectors_of, sets};
 use support::*;
 

@@ -2,9 +2,6 @@
 
 mod support;
 
-use model::call::{Call, Reply};
-use model::handle::{convert, Handle, Selector, Width};
-use model::sizes::MEMORY_BYTES;
 use model::table::{numbers_of_calls, word};
 use support::joint::{self, union, LOCAL, NODE};
 use support::naive::flat;

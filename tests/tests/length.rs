@@ -3,10 +3,6 @@
 
 mod support;
 
-use model::call::{Call, Reply};
-use model::handle::{Handle, HandleBytes, Selector, Width};
-use model::sizes::MEMORY_BYTES;
-use model::store::Mode;
 use model::table::{numbers_of_calls, refusal_above, refusal_below, word, Found, LENGTH, UNSOUND};
 use support::every::{every, looking, Rest};
 use support::*;
@@ -105,11 +101,7 @@ fn of_either_handle_of_a_join() {
 fn and_nothing_else_stands_above_1() {
     let mut damaged = Bench::with_segment();
     damaged.store.clusters[3][7].write[0] = 1;
-    let found = Found {
-        store: &damaged.store,
-        memory_bytes: MEMORY_BYTES,
-        buffer_bytes: 0,
-    };
+    let found = Found::whole(&damaged.store, 0);
     for width in Width::ALL {
         let handle = writer_of(width).to_bytes();
         for call in looking(&handle, &handle, WRONG_REST) {

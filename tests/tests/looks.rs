@@ -2,12 +2,7 @@
 
 mod support;
 
-use model::call::{Call, Part, Reply};
-use model::handle::{Handle, Selector, Width};
 use model::list::{request, Request, CODE_AT, RECORD_BYTES};
-use model::random::Random;
-use model::sizes::{MEMORY_BYTES, NODES, NODE_BYTES};
-use model::store::{Cluster, Segment};
 use support::*;
 
 fn shown(from: usize, length: usize) -> Reply {

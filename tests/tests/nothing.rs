@@ -3,9 +3,6 @@
 
 mod support;
 
-use model::call::{Call, Reply};
-use model::handle::{convert, Handle, Selector, Width};
-use model::random::Random;
 use model::table::word;
 use support::naive::{flat, has, number, referenced_and_kept, sets};
 use support::*;

@@ -3,10 +3,6 @@
 
 mod support;
 
-use model::call::{Call, Part, Reply};
-use model::handle::{Handle, Selector, Width};
-use model::sizes::{MEMORY_BYTES, NODE_BYTES};
-use model::store::{Cluster, Segment};
 use support::faults::{self, Faulty, Kind, BASE, LENGTH, LOCAL, NODE};
 use support::*;
 

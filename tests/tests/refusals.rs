@@ -2,8 +2,6 @@
 
 mod support;
 
-use model::call::Call;
-use model::handle::{Handle, Width};
 use support::*;
 
 fn gapped() -> Handle {

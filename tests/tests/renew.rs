@@ -3,9 +3,6 @@
 
 mod support;
 
-use model::call::{Call, Reply};
-use model::handle::{Handle, Password, Width};
-use model::sizes::MEMORY_BYTES;
 use support::renewed::{self, LOCAL, NODE};
 use support::*;
 

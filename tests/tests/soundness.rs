@@ -2,11 +2,7 @@
 
 mod support;
 
-use model::call::Call;
-use model::handle::{Handle, Width};
 use model::model::run;
-use model::sizes::{CLUSTERS, MEMORY_BYTES, NODE_BYTES, SEGMENTS};
-use model::store::{Place, Segment, Store};
 use support::*;
 
 fn store() -> Store {

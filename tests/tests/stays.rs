@@ -3,15 +3,10 @@
 
 mod support;
 
-use model::call::{Call, Reply};
 use model::frozen::Watch;
-use model::handle::{Handle, Width};
 use model::list::{
     output, Record, CODE_AT, HANDLE_AT, HANDLE_BYTES, NODE_AT, RECORD_BYTES, SEGMENT_AT,
 };
-use model::random::Random;
-use model::sizes::MEMORY_BYTES;
-use model::store::Segment;
 use std::collections::BTreeMap;
 use support::valid::valid_call;
 use support::*;

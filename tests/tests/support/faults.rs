@@ -2,10 +2,7 @@
 //! from the set alone.
 #![allow(dead_code)] // each test file uses its own part
 
-use super::{cut, make_unsound, others};
-use model::call::Call;
-use model::handle::{Handle, HandleBytes, Password, Selector, Width};
-use model::store::{Cluster, Segment, Store};
+use super::*;
 
 const READ: Password = [0x11; 16];
 const WRITE: Password = [0x22; 16];

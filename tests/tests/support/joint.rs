@@ -2,10 +2,7 @@
 //! what each has to be refused with is known from the set alone.
 #![allow(dead_code)] // each test file uses its own part
 
-use super::{cut, make_unsound, others};
-use model::call::Call;
-use model::handle::{Handle, HandleBytes, Password, Selector, Width};
-use model::store::{Cluster, Mode, Segment, Store};
+use super::*;
 
 /// The cluster that the first handle names, where that is a place.
 pub const NODE: u16 = 2;

@@ -1,14 +1,16 @@
 //! A store, a memory and shorthands for asking it things.
-#![allow(dead_code)] // each test file uses its own part
+#![allow(dead_code, unused_imports)] // each test file uses its own part
+
+pub use model::call::{Call, Part, Reply};
+pub use model::handle::{convert, derive, Handle, HandleBytes, Password, Selector, Width};
+pub use model::random::Random;
+pub use model::sizes::{CLUSTERS, MEMORY_BYTES, NODES, NODE_BYTES, SEGMENTS};
+pub use model::store::{Cluster, Extent, Mode, Place, Segment, Store};
 
 #[cfg(of_the_library)]
 use library::guard::run;
-use model::call::{Call, Reply};
-use model::handle::{Handle, HandleBytes, Password, Selector, Width};
 #[cfg(not(of_the_library))]
 use model::model::run;
-use model::sizes::{MEMORY_BYTES, NODE_BYTES};
-use model::store::{Cluster, Segment, Store};
 use std::borrow::Borrow;
 use std::ops::Range;
 

@@ -1,17 +1,7 @@
 //! Document 01: wrong answers, wrong bytes left, arguments that are cut, batches, two copies, published handles.
 
-use crate::driver::{by, not_by, run, told, By, Word, BATCH, BUFFERS, IMAGES, MEMORIES, MORE};
-use crate::driver::{REFUSAL_CHANGES, REPLIES};
-use crate::wrong::Wrong;
-use crate::wrong::{after, asked, asking, at, batch, cut_to, on, right, validate_all};
-use library::image::{
-    Image, IMAGE_BYTES, LENGTH_AT, MARK_AT, READ_AT, RECORD_BYTES, SEGMENTS_AT, SEGMENT_BYTES,
-};
-use library::question::{BEYOND, VALIDATION};
-use library::{guard, published};
-use model::call::{Call, DELETE_CLUSTER, JOIN, NEW_PASSWORD, NEW_SEGMENT, READ, REDUCE, WRITE};
-use model::sizes::{MEMORY_BYTES, NODE_BYTES};
-use Word::{Call as Asks, Right, Says};
+use crate::words::*;
+use library::published;
 
 #[test]
 fn the_library_is_not_found_out() {

@@ -1,17 +1,7 @@
 //! Damage that is overlooked: libraries that see one kind of it as if it were mended.
 
-use crate::driver::{by, By, Complaint, Word, BATCH};
-use crate::wrong::{judging, right, validate_all, Wrong};
+use crate::words::*;
 use library::compare::is_sound;
-use library::guard;
-use library::image::{decode, encode, Image, IMAGE_BYTES, LENGTH_AT, MARK_AT, READ_AT};
-use library::image::{RECORD_BYTES, SEGMENTS_AT, SEGMENT_BYTES, WIDTH_AT};
-use library::question::Held;
-use model::sizes::NODE_BYTES;
-use model::store::{Extent, Place, Segment, Store};
-use std::ops::Range;
-use std::rc::Rc;
-use Word::{Right, Says};
 
 const LAST_RECORD: usize = IMAGE_BYTES - RECORD_BYTES;
 

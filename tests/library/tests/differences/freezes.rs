@@ -1,19 +1,7 @@
 //! §3, freezing: wrong marks, wrong bytes beside them, 22 in another place or for other calls, what does not stay.
 
-use crate::driver::{by, numbers, told, By, Complaint, Word, IMAGES, MEMORIES, REFUSAL_CHANGES};
-use crate::seen::Seen;
-use crate::wrong::{after, asked, cut_to, instead, on, refusing, After, Wrong};
+use crate::words::*;
 use library::compare::is_sound;
-use library::guard;
-use library::image::{segment_at, IMAGE_BYTES, LENGTH_AT, MARK_AT, READ_AT, RECORD_BYTES};
-use library::image::{SEGMENTS_AT, SEGMENT_BYTES};
-use library::question::{Held, Question, LOOK, VALIDATION};
-use model::call::{Call, Reply, DELETE_CLUSTER, DELETE_SEGMENT, FREEZE, NEW_CLUSTER};
-use model::call::{NEW_PASSWORD, NEW_SEGMENT, READ, REDUCE, WRITE};
-use model::handle::derive;
-use model::sizes::SEGMENTS;
-use model::store::Cluster;
-use Word::{Call as Asks, Gives, Right, Says};
 
 fn images(code: u8) -> Complaint {
     told([Asks(code), IMAGES])

@@ -1,12 +1,8 @@
 //! Handles in 28 bytes: wrong about the length, about what lies behind it, and about bytes that came from elsewhere.
 
-use crate::driver::{by, By, Complaint, Word, REPLIES};
-use crate::wrong::{after, asked, making, Wrong};
+use crate::words::*;
+use library::edges;
 use library::ffi::{gelmuszta_handle, HANDLE_MAX};
-use library::question::Question;
-use library::{edges, guard};
-use model::handle::HandleBytes;
-use Word::{Gives, Right, Says};
 
 /// Takes the handles for others.
 fn taking(change: fn(&Question, &mut HandleBytes)) -> Wrong {

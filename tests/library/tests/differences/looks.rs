@@ -1,17 +1,6 @@
 //! §2, looks: another part shown, a part shown beside a refusal, numbers, arguments, and what a look changes or tells.
 
-use crate::driver::{by, numbers, told, By, Complaint, Word, IMAGES, MEMORIES, MORE, REPLIES};
-use crate::driver::{REFUSAL_CHANGES, SHOWN};
-use crate::seen::Seen;
-use crate::wrong::{after, asking, cut_to, instead, on, refusing, Wrong};
-use library::guard;
-use library::image::{decode, encode};
-use library::question::{BEYOND, LOOK};
-use model::call::{Call, Part, Reply};
-use model::handle::derive;
-use model::sizes::{MEMORY_BYTES, NODES, NODE_BYTES};
-use model::store::{Cluster, Store};
-use Word::{Call as Asks, Gives, Right, Says};
+use crate::words::*;
 
 /// What a number holds to which nothing was written.
 const UNWRITTEN: usize = 0x5a5a_5a5a_5a5a_5a5a;

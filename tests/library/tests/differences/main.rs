@@ -12,6 +12,23 @@ macro_rules! table {
     )*};
 }
 
+/// What every table is written in.
+mod words {
+    pub use crate::driver::Word::{Call as Asks, Either, Gives, Right, Says};
+    pub use crate::driver::*;
+    pub use crate::seen::Seen;
+    pub use crate::wrong::*;
+    pub use library::guard;
+    pub use library::image::*;
+    pub use library::question::{change_handle, Answer, Held, Question, BEYOND, LOOK, VALIDATION};
+    pub use model::call::*;
+    pub use model::handle::{derive, Handle, HandleBytes, Password, Selector, Width};
+    pub use model::sizes::*;
+    pub use model::store::{Cluster, Extent, Mode, Place, Segment, Store};
+    pub use std::ops::Range;
+    pub use std::rc::Rc;
+}
+
 mod calls;
 mod damage;
 mod driver;

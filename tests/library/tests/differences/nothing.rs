@@ -1,13 +1,7 @@
 //! §1, handles to nothing: libraries that give them, that refuse too much, or that look at 21 in another place.
 
-use crate::driver::{by, numbers, By, Word, MORE};
-use crate::wrong::{after, at, on, refused_if, Wrong};
+use crate::words::*;
 use library::compare::is_sound;
-use library::guard;
-use library::question::VALIDATION;
-use model::call::{Call, Reply, REDUCE, WEAKEN};
-use model::handle::Handle;
-use Word::{Gives, Right};
 
 /// A weakening, and what it got.
 pub struct Weakened {

@@ -1,20 +1,9 @@
 //! §7, those who write: libraries that tell them what lies there, or what the read password is. The two copies in which no
 //! list opens the cluster set apart find out none of them, unless that is said.
 
-use crate::driver::{by, not_by, run, By, Complaint, Word, BUFFERS, RECORDS, REPLIES, SHOWN};
 use crate::renewals::{compared, giving, is_either, Asked};
-use crate::seen::Seen;
-use crate::wrong::{after, asked, instead, on, refused_if, refusing, right, After, Wrong};
+use crate::words::*;
 use library::chance::stores::{gaps, present};
-use library::guard;
-use library::image::decode;
-use library::question::{Answer, Held, Question, LOOK, VALIDATION};
-use model::call::{Call, Reply, DELETE_CLUSTER, DELETE_SEGMENT, FREEZE, JOIN, NEW_CLUSTER};
-use model::call::{NEW_PASSWORD, NEW_SEGMENT, READ, REDUCE, WRITE};
-use model::handle::{derive, Handle, Password};
-use model::sizes::MEMORY_BYTES;
-use model::store::{Extent, Mode, Store};
-use Word::{Call as Asks, Says};
 
 /// By a call with this code and in this word.
 fn told_by(code: u8, word: Word) -> Complaint {

@@ -1,14 +1,8 @@
 //! Another handle given, one beside a refusal, something changed, and laws that do not hold, found out without the model.
 
 use super::{joined, joins, noting, without, Asked, Given, RIGHT, RIGHTLY};
-use crate::driver::{by, told, By, Complaint, Word, IMAGES, MEMORIES, MORE, REFUSAL_CHANGES};
-use crate::wrong::{after, on, Wrong};
+use crate::words::*;
 use library::chance::handles::at_width;
-use library::guard;
-use model::call::{Call, Reply, JOIN};
-use model::handle::{Handle, HandleBytes, Password, Width};
-use model::store::Mode;
-use Word::{Call as Asks, Right, Says};
 
 fn giving(given: Given) -> Wrong {
     joined(RIGHT.to_vec(), given)

@@ -5,15 +5,8 @@ mod given;
 mod orders;
 mod rows;
 
-use crate::driver::{not_by, numbers, run, told, By, Complaint, Word};
-use crate::wrong::{asked, Wrong};
+use crate::words::*;
 use library::compare::is_sound;
-use library::guard;
-use library::image::decode;
-use library::question::{Answer, Held, Question};
-use model::call::{Call, Reply, JOIN};
-use model::handle::{Handle, HandleBytes, Password, Selector, Width};
-use model::store::{Cluster, Mode, Store};
 
 /// A join, and what it is put to.
 pub struct Asked {

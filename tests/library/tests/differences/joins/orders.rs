@@ -1,10 +1,7 @@
 //! Two numbers in another order, be it for one of the two handles alone, or with one handle judged whole before the other.
 
 use super::{by_rows, joined, orders, Asked, Row, RIGHT, RIGHTLY};
-use crate::driver::{by, told, By, Complaint, Word};
-use crate::wrong::{asked, Wrong};
-use model::call::JOIN;
-use Word::{Call as Asks, Gives, Right};
+use crate::words::*;
 
 /// Looks at this row before the one that gives `right`.
 fn before(right: u8, wrong: u8, applies: fn(&Asked) -> bool) -> Wrong {

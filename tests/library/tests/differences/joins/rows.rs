@@ -1,15 +1,7 @@
 //! A row that is not looked at, or another one in its place; arguments that are cut; two copies.
 
 use super::{joined, joins, noting, without, Asked, Row, RIGHT, RIGHTLY};
-use crate::driver::{by, not_by, By, Complaint, Word, REPLIES};
-use crate::wrong::{after, asking, cut_to, Wrong};
-use library::image::decode;
-use library::question::{change_handle, Held};
-use model::call::JOIN;
-use model::handle::Handle;
-use model::store::Mode;
-use std::ops::Range;
-use Word::{Call as Asks, Right};
+use crate::words::*;
 
 /// The right rows but these.
 fn skipping(rows: Range<usize>) -> Wrong {

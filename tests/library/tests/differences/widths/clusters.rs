@@ -2,19 +2,8 @@
 //! made of another width than they should, and two copies.
 
 use super::{at_second, is_none, up_to_the_next, widths};
-use crate::driver::{by, numbers, told, By, Complaint, Word, IMAGES, RECORDS, REPLIES};
-use crate::seen::Seen;
-use crate::wrong::{asked, asking, at, on, refusing, Wrong};
+use crate::words::*;
 use library::chance::handles::at_width;
-use library::guard;
-use library::image::WIDTH_AT;
-use library::question::{LOOK, VALIDATION};
-use model::call::{Call, Reply, DELETE_CLUSTER, DELETE_SEGMENT, FREEZE, JOIN, NEW_CLUSTER};
-use model::call::{NEW_PASSWORD, NEW_SEGMENT, READ, REDUCE, WEAKEN, WRITE};
-use model::handle::{derive, Width};
-use model::sizes::{CLUSTERS, NODES, NODE_BYTES};
-use model::store::Mode;
-use Word::{Call as Asks, Gives, Right, Says};
 
 /// Handles of these widths open clusters of these, where their passwords are right.
 fn opened(opens: fn(handle: usize, cluster: usize) -> bool) -> Wrong {

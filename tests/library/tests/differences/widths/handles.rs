@@ -2,14 +2,8 @@
 //! that are looked at or below it that are not.
 
 use super::widths;
-use crate::driver::{told, By, Complaint, Word, REPLIES};
 use crate::nothing::{weakening, Weakened};
-use crate::wrong::{asked, asking, on, refused_if, Wrong};
-use library::guard;
-use library::question::VALIDATION;
-use model::call::{Call, Reply, REDUCE, WEAKEN};
-use model::handle::{derive, Handle, HandleBytes, Password, Width};
-use Word::{Call as Asks, Right};
+use crate::words::*;
 
 const SELECTOR_AT: usize = 19;
 

@@ -2,17 +2,9 @@
 //! batches with slots of another length.
 
 use super::{at_first, is_known, is_none, up_to_the_next, widths};
-use crate::driver::{by, told, By, Complaint, Word, BATCH, MORE, REPLIES};
-use crate::wrong::{after, asking, batch, on, validate_all, After, Wrong};
+use crate::words::*;
 use library::chance::handles::at_width;
 use library::compare::is_sound;
-use library::image::decode;
-use library::question::{Held, Question, LOOK, VALIDATION};
-use model::call::{Call, DELETE_CLUSTER, DELETE_SEGMENT, FREEZE, JOIN, NEW_CLUSTER, NEW_PASSWORD};
-use model::call::{NEW_SEGMENT, READ, REDUCE, WEAKEN, WRITE};
-use model::handle::{Handle, Width};
-use model::sizes::{NODES, NODE_BYTES};
-use Word::{Either, Gives, Right, Says};
 
 /// Takes bytes of one length for a handle of another; those that are missing are all ones.
 fn taken_for(meant: impl Fn(&Question) -> bool + 'static, lengths: fn(usize) -> usize) -> Wrong {

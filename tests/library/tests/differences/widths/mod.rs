@@ -5,12 +5,7 @@ mod clusters;
 mod handles;
 mod lengths;
 
-use crate::driver::{told, Complaint, Word};
-use crate::seen::Seen;
-use crate::wrong::{after, Wrong};
-use library::question::{Held, Question};
-use model::call::{Call, Reply};
-use model::handle::Width;
+use crate::words::*;
 
 /// By single calls and by long rows, where the model gives this number.
 fn widths(right: u8) -> Complaint {

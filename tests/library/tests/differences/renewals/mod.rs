@@ -1,18 +1,10 @@
 //! §6, new passwords: compared with another than the mode's own or put in another place, equal ones that are not borne, a
 //! handle of both modes that does not open one of them, and replies that tell of the other mode.
 
-use crate::driver::{by, not_by, numbers, run, told, By, Complaint, Word, BATCH, IMAGES, REPLIES};
-use crate::seen::Seen;
-use crate::wrong::{asked, batch, instead, on, refused_if, refusing, validate_all, Wrong};
-use library::guard;
-use library::image::{decode, Image};
-use library::question::{Answer, Held, Question, LOOK, VALIDATION};
-use model::call::{Call, Reply, DELETE_CLUSTER, DELETE_SEGMENT, FREEZE, JOIN, NEW_CLUSTER};
-use model::call::{NEW_PASSWORD, NEW_SEGMENT, READ, REDUCE, WEAKEN, WRITE};
-use model::handle::{Handle, Password, Width};
-use model::store::{Cluster, Mode};
-use std::rc::Rc;
-use Word::{Call as Asks, Either, Gives, Says};
+mod both;
+mod untold;
+
+use crate::words::*;
 
 /// A new password to which no number before 12 applies, and the cluster that it is for.
 pub struct Asked {
@@ -303,133 +295,4 @@ mod another_password_replaced {
 table! {
     another_handle_given_the_old: giving(Asked::own) => another(REPLIES);
     another_handle_given_the_other: giving(Asked::other) => another(REPLIES);
-}
-
-// A handle that opens both modes and is kept from one of them.
-
-fn opens_both(handle: &Handle, cluster: &Cluster) -> bool {
-    let mut modes = Mode::ALL.iter();
-    modes.all(|mode| handle.validates(cluster, *mode))
-}
-
-/// 9 for calls with this code in these modes by a handle that opens both.
-fn kept(code: u8, modes: &'static [Mode]) -> Wrong {
-    refusing(code, 0, 9, move |seen| {
-        let cluster = seen.cluster();
-        let meant = seen.mode().is_some_and(|mode| modes.contains(&mode));
-        meant && cluster.is_some_and(|cluster| opens_both(&seen.handle, &cluster))
-    })
-}
-
-const READS: &[Mode] = &[Mode::Read];
-const WRITES: &[Mode] = &[Mode::Write];
-
-fn kept_from(code: u8) -> Complaint {
-    numbers(code, 0, 9)
-}
-
-/// What a batch tells of such a handle, in one of the modes.
-fn batch_kept(kept_from: Mode) -> Wrong {
-    batch(move |held, (mode, width), handles, numbers| {
-        let count = validate_all(held, (mode, width), handles, numbers);
-        let store = decode(&held.image).filter(|_| mode == kept_from.number() as usize);
-        let (Some(width), Some(store)) = (Width::of_segments(width), store) else {
-            return count;
-        };
-        let handles = handles.chunks_exact(width.handle_bytes());
-        for (number, bytes) in numbers.iter_mut().zip(handles).take(count) {
-            let handle = Handle::from_bytes(bytes).expect("it is a whole one");
-            let cluster = store.cluster(handle.node.into(), handle.local.into());
-            if *number == 0 && cluster.is_some_and(|cluster| opens_both(&handle, cluster)) {
-                *number = 9;
-            }
-        }
-        count
-    })
-}
-
-table! {
-    a_read: kept(READ, READS) => kept_from(READ);
-    a_look: kept(LOOK, READS) => kept_from(LOOK);
-    a_write: kept(WRITE, WRITES) => kept_from(WRITE);
-    a_new_segment: kept(NEW_SEGMENT, WRITES) => kept_from(NEW_SEGMENT);
-    a_deleted_segment: kept(DELETE_SEGMENT, WRITES) => kept_from(DELETE_SEGMENT);
-    a_deleted_cluster: kept(DELETE_CLUSTER, WRITES) => kept_from(DELETE_CLUSTER);
-    a_freeze: kept(FREEZE, WRITES) => kept_from(FREEZE);
-    a_reduction_to_read: kept(REDUCE, READS) => kept_from(REDUCE);
-    a_reduction_to_write: kept(REDUCE, WRITES) => kept_from(REDUCE);
-    a_join_to_read: kept(JOIN, READS) => kept_from(JOIN);
-    a_join_to_write: kept(JOIN, WRITES) => kept_from(JOIN);
-    a_validation_to_read: kept(VALIDATION, READS) => kept_from(VALIDATION);
-    a_validation_to_write: kept(VALIDATION, WRITES) => kept_from(VALIDATION);
-    a_new_password_to_read: kept(NEW_PASSWORD, READS) => kept_from(NEW_PASSWORD);
-    a_new_password_to_write: kept(NEW_PASSWORD, WRITES) => kept_from(NEW_PASSWORD);
-    by_a_batch_to_read: batch_kept(Mode::Read) => by(By::Batches, [BATCH]);
-    by_a_batch_to_write: batch_kept(Mode::Write) => by(By::Batches, [BATCH]);
-}
-
-// Replies that tell of the other mode, found out without the model; and two copies with equal passwords in one of them.
-
-/// Those that are wrong without telling anything are not found out either.
-#[test]
-fn what_does_not_hang_on_the_other_mode_is_not_found_out() {
-    let never_old = compared(|_| false);
-    for wrong in [crate::wrong::right(), renewed(rightly), never_old] {
-        run("untold", &wrong, &not_by([By::Untold]));
-    }
-}
-
-/// Leaves something that hangs on the other mode's password elsewhere.
-fn noting(note: fn(&mut Held, u8)) -> Wrong {
-    asked(move |held, question| {
-        let asked = Asked::of(held, question);
-        let answer = guard::ask(held, question);
-        if let Some(asked) = asked {
-            let other = asked.other().into_iter();
-            let sum = other.fold(0, |sum: u8, byte| sum.wrapping_mul(31).wrapping_add(byte));
-            note(held, sum);
-        }
-        answer
-    })
-}
-
-/// 9 is 1 for calls with this code where the passwords of the handle's cluster are equal.
-fn another_number_where_equal(code: u8) -> Wrong {
-    instead(code, 9, |seen| refused_if(seen.has_equal_passwords(), 1))
-}
-
-fn untold(word: Word) -> Complaint {
-    by(By::Untold, [word, Asks(NEW_PASSWORD)])
-}
-
-const OTHERS: Word = Says("the other mode's passwords differ");
-
-mod untold {
-    use super::*;
-
-    table! {
-        by_the_number_with_both: compared(is_either) => untold(REPLIES);
-        by_the_number_with_the_other: compared(Asked::is_other) => untold(REPLIES);
-        by_the_number_with_the_read_password: compared(|it| it.password == it.cluster.read) => untold(REPLIES);
-        by_the_number_with_the_write_password: compared(|it| it.password == it.cluster.write) => untold(REPLIES);
-        by_the_number_made_equal: not_made_equal(7) => untold(REPLIES);
-        by_the_number_unsound: unsound_where_equal() => untold(REPLIES);
-        by_the_handle: giving(Asked::other) => untold(REPLIES);
-        by_what_is_left_of_it_both: leaving(both_replaced) => untold(OTHERS);
-        by_what_is_left_of_it_both_where_equal: leaving(both_replaced_where_equal) => untold(OTHERS);
-        by_what_is_left_of_it_read: leaving(read_replaced_where_equal) => untold(OTHERS);
-        by_what_is_left_of_it_write: leaving(write_replaced_where_equal) => untold(OTHERS);
-        by_what_is_left_of_it_the_other: leaving(the_other_replaced) => untold(OTHERS);
-        by_what_is_left_of_it_passed_on: leaving(passed_on) => untold(OTHERS);
-        by_what_is_left_elsewhere_image: noting(|held, told| held.image[0] = told)
-            => untold(Says("the two images differ"));
-        by_what_is_left_elsewhere_memory: noting(|held, told| held.memory[0] = told)
-            => untold(Says("the two memories differ"));
-        what_two_copies_tell_of_passwords_old: old_before(9) => by(By::Copies, [REPLIES]);
-        what_two_copies_tell_of_passwords_read: another_number_where_equal(READ) => by(By::Copies, [REPLIES]);
-        what_two_copies_tell_of_passwords_write: another_number_where_equal(WRITE) => by(By::Copies, [REPLIES]);
-        what_two_copies_tell_of_passwords_new: another_number_where_equal(NEW_PASSWORD) => by(By::Copies, [REPLIES]);
-        /// It tells of the other mode to those who open one: no list has such a handle of the cluster set apart.
-        what_two_copies_tell_of_passwords_open: compared(is_either) => not_by([By::FewCopies]);
-    }
 }
