@@ -102,25 +102,6 @@ fn by_the_mode_s_own_password_alone() {
     assert_eq!(refused, 6);
 }
 
-/// Where the two are equal, that one password is 12 in either mode, and any other is taken.
-#[test]
-fn by_the_one_password_of_both_modes() {
-    for made in made() {
-        let (start, both) = equal(made);
-        assert!(start.store.clusters[0][2].has_equal_passwords());
-        for mode in [READ_MODE, WRITE_MODE] {
-            let mut state = start.clone();
-            let reply = state.reply(renew(mode, both, both.password));
-            assert_eq!(reply, Reply::refused(12));
-            assert_eq!(state, start);
-            for password in [[0; 16], [0x33; 16]] {
-                let renewed = Reply::with_handle(&Handle { password, ..both });
-                assert_eq!(start.clone().reply(renew(mode, both, password)), renewed);
-            }
-        }
-    }
-}
-
 /// Every set of faults: alone each gives its number, and of several the first is given.
 #[test]
 fn numbers_in_their_order() {
