@@ -1,5 +1,5 @@
-//! Arguments and handles that are refused, beside the sets of numbers that `orders` has: values out of range, sizes, handles
-//! of the other mode, and a password of zeros.
+//! Arguments and handles that are refused, beside the sets of numbers that `orders` has: values out of range, sizes,
+//! handles of the other mode, and a password of zeros.
 
 mod support;
 

@@ -10,8 +10,8 @@ pub const BUFFER_BYTES: usize = 40;
 pub const APART: usize = 0;
 pub const BESIDE: usize = 1;
 
-/// The two, each of a width by chance and with two segments, the first and the last, in a memory of bytes by chance; some
-/// are frozen, if they may be.
+/// The two, each of a width by chance and with two segments, the first and the last, in a memory of bytes by chance;
+/// some are frozen, if they may be.
 pub fn two_clusters(random: &mut Random, frozen: bool) -> Bench {
     let mut start = Bench::starting();
     start.memory.fill_with(|| random.byte());

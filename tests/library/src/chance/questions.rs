@@ -248,7 +248,8 @@ impl Maker<'_> {
     fn new_password(&mut self) -> Call {
         let (mode, number) = self.mode();
         let handle = self.handle(mode, true, true);
-        Call::new_password(number, self.presented(&handle), self.next_password(&handle))
+        let password = self.next_password(&handle);
+        Call::new_password(number, self.presented(&handle), password)
     }
 
     /// Often one of those that the handle's cluster has already, or one bit off.

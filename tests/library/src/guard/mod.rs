@@ -106,8 +106,8 @@ pub fn ask(held: &mut Held, question: &Question) -> Answer {
     Answer { reply, buffer }
 }
 
-/// Runs a call as the model does: on a store, a memory and a buffer, which hold afterwards what the library leaves. A memory
-/// of another length cannot be lent, nor a handle whose length is no byte: the model answers then.
+/// Runs a call as the model does: on a store, a memory and a buffer, which hold afterwards what the library leaves. A
+/// memory of another length cannot be lent, nor a handle whose length is no byte: the model answers then.
 pub fn run(store: &mut Store, memory: &mut [u8], buffer: &mut [u8], call: &Call) -> Reply {
     let mut lengths = call.presented_bytes().map(<[u8]>::len);
     let (true, Ok(lent)) = (

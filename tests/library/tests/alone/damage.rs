@@ -1,4 +1,5 @@
-//! Damage is told before everything but a length that no handle has, weakening does not look at it, and nothing changes.
+//! Damage is told before everything but a length that no handle has, weakening does not look at it, and nothing
+//! changes.
 
 use crate::support::faults::{self, Kind, LOCAL, NODE};
 use crate::support::{joint, renewed};
@@ -22,8 +23,8 @@ const KINDS: [Kind; 9] = [
     Kind::Validate,
 ];
 const PLACES: [(usize, usize); 3] = [(NODE, LOCAL), (0, 0), LAST_PLACE];
-/// Of all joins with every set of faults, one in so many: it shares no factor with the numbers of ways but 2, so that every
-/// two faults still meet.
+/// Of all joins with every set of faults, one in so many: it shares no factor with the numbers of ways but 2, so that
+/// every two faults still meet.
 const EVERY: usize = 13 * 8;
 
 /// Refused beside the damage, whatever else is wrong with the call.

@@ -1,4 +1,5 @@
-//! What the comparison has to come to, written out call by call, is what the rows of the model's table say of each call.
+//! What the comparison has to come to, written out call by call, is what the rows of the model's table say of each
+//! call.
 
 use crate::support::every::{every, Rest};
 use crate::support::{new_cluster, reader};

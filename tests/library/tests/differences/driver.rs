@@ -52,7 +52,7 @@ impl By {
         };
         match self {
             By::Single => single::compare(ask, SEED, of(40_000), tally),
-            By::Runs => runs::compare(ask, SEED, of(120), tally),
+            By::Runs => runs::compare(ask, SEED, of(200), tally),
             By::Batches => batch::compare(of_many, SEED, of(2_000), tally).map(drop),
             By::BatchWidths => batch::every_width(of_many, SEED).map(drop),
             By::EveryByte => edges::every_byte(judge, SEED).map(drop),
@@ -193,8 +193,8 @@ pub fn run(name: &str, wrong: &Wrong, complaint: &Complaint) {
 
 // That the driver can fail.
 
-/// The right library is found out by none, so that a row in which nothing is wrong fails, whoever has to find it out. The
-/// three that take longest are left to `against-library`.
+/// The right library is found out by none, so that a row in which nothing is wrong fails, whoever has to find it out.
+/// The three that take longest are left to `against-library`.
 #[test]
 fn nothing_wrong_is_no_row() {
     let long = [By::EveryByte, By::AtWords, By::Masks];

@@ -155,7 +155,8 @@ table! {
     a_second_freeze_refused_wherever_the_segment_is: refusing(FREEZE, 0, 22, Seen::is_frozen) => edge(0, 22);
 }
 
-/// Where the marks of the cluster lie that the question's handle names, if the store is sound and there is such a place.
+/// Where the marks of the cluster lie that the question's handle names, if the store is sound and there is such a
+/// place.
 fn marks_of(held: &Held, question: &Question) -> Vec<usize> {
     let seen = Seen::of(held, question).filter(|_| is_sound(held));
     let seen = seen.filter(|seen| seen.cluster().is_some());
@@ -166,8 +167,8 @@ fn marks_of(held: &Held, question: &Question) -> Vec<usize> {
     marks.collect()
 }
 
-/// Does not see the marks of these segments in calls with this code. Those of segments that are still there afterwards are
-/// as they were.
+/// Does not see the marks of these segments in calls with this code. Those of segments that are still there afterwards
+/// are as they were.
 fn blind(code: u8, segments: fn(usize) -> bool) -> Wrong {
     asked(move |held, question| {
         let before = held.image;

@@ -1,5 +1,5 @@
-//! That the comparison can fail: libraries that are wrong in one way each, all of them found out. One table a request of
-//! document 02; a row is a test of its own and has a name, what is wrong, and who has to find it out in which words.
+//! That the comparison can fail: libraries that are wrong in one way each, all of them found out. One table a request
+//! of document 02; a row is a test of its own and has a name, what is wrong, and who has to find it out in which words.
 
 /// `name: what is wrong => who has to find it out;`
 macro_rules! table {

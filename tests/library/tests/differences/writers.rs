@@ -1,5 +1,5 @@
-//! §7, those who write: libraries that tell them what lies there, or what the read password is. The two copies in which no
-//! list opens the cluster set apart find out none of them, unless that is said.
+//! §7, those who write: libraries that tell them what lies there, or what the read password is. The two copies in which
+//! no list opens the cluster set apart find out none of them, unless that is said.
 
 use crate::renewals::{compared, giving, is_either, Asked};
 use crate::words::*;
@@ -84,7 +84,8 @@ table! {
     /// The data of some writes is what lies there in one of the copies.
     a_write_that_tells_whether_it_changes_something:
         written(|it, there| it.reply.length = u32::from(it.buffer[..there.len()] != *there)) => writers(WRITE, REPLIES);
-    /// Where the first byte of the memory is another cluster's. Where it is the cluster's, the other copies find it out.
+    /// Where the first byte of the memory is another cluster's. Where it is the cluster's, the other copies find it
+    /// out.
     a_write_that_leaves_what_was_there_elsewhere: written(|it, there| it.held.memory[0] ^= there[0])
         => told_by(WRITE, SEGMENTS);
     a_mark_that_hangs_on_a_byte: instead(FREEZE, 0, |seen| is_odd(seen).then_some(Reply::DONE))
@@ -178,7 +179,8 @@ table! {
     a_new_segment_that_keeps_off_what_lies_there_refused: instead(NEW_SEGMENT, 0, no_room)
         => writers(NEW_SEGMENT, REPLIES);
     a_new_cluster_that_takes_over_what_lies_there: on(NEW_CLUSTER, 0, taken_over) => writers(NEW_CLUSTER, RECORDS);
-    /// Another cluster's segment, and what lies behind it. Where that is one of the cluster, the other copies find it out.
+    /// Another cluster's segment, and what lies behind it. Where that is one of the cluster, the other copies find it
+    /// out.
     a_look_that_shows_a_byte_more: after(a_byte_more) => told_by(LOOK, SHOWN);
 }
 
@@ -256,8 +258,8 @@ fn refuse(_: &mut Held, question: &Question) -> Answer {
     }
 }
 
-// What is told to those who read is not found out: no list has a call that asks for reading by a handle that reads. What is
-// told to others who ask for it is, and that is what the other copies find out, too.
+// What is told to those who read is not found out: no list has a call that asks for reading by a handle that reads.
+// What is told to others who ask for it is, and that is what the other copies find out, too.
 table! {
     those_who_read_may_be_told: telling(Mode::Read, true) => not_by([By::Writers]);
     those_who_read_may_be_told_others: telling(Mode::Read, false)

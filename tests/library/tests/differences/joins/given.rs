@@ -1,4 +1,5 @@
-//! Another handle given, one beside a refusal, something changed, and laws that do not hold, found out without the model.
+//! Another handle given, one beside a refusal, something changed, and laws that do not hold, found out without the
+//! model.
 
 use super::{joined, joins, noting, without, Asked, Given, RIGHT, RIGHTLY};
 use crate::words::*;

@@ -1,5 +1,5 @@
-//! §5, joining. A join is put together from the rows that may refuse it and from the handle that it gives: a wrong library
-//! has a row less, or another, or two in another order, or gives another handle.
+//! §5, joining. A join is put together from the rows that may refuse it and from the handle that it gives: a wrong
+//! library has a row less, or another, or two in another order, or gives another handle.
 
 mod given;
 mod orders;

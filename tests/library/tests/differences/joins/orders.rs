@@ -1,4 +1,5 @@
-//! Two numbers in another order, be it for one of the two handles alone, or with one handle judged whole before the other.
+//! Two numbers in another order, be it for one of the two handles alone, or with one handle judged whole before the
+//! other.
 
 use super::{by_rows, joined, orders, Asked, Row, RIGHT, RIGHTLY};
 use crate::words::*;

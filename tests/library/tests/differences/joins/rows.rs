@@ -156,8 +156,8 @@ fn apart() -> Complaint {
     by(By::Copies, [REPLIES, Asks(JOIN)])
 }
 
-// Two copies. A library that tells of a cluster's passwords to those who open it, by the first handle or by the second, is
-// not found out: no list presents one that opens the cluster set apart, in either place.
+// Two copies. A library that tells of a cluster's passwords to those who open it, by the first handle or by the second,
+// is not found out: no list presents one that opens the cluster set apart, in either place.
 table! {
     /// They validate nowhere, so that lists have them with passwords that would open the cluster.
     by_handles_of_another_width: joined(without(&[11, 12]), RIGHTLY) => apart();

@@ -1,5 +1,5 @@
-//! §6, new passwords: compared with another than the mode's own or put in another place, equal ones that are not borne, a
-//! handle of both modes that does not open one of them, and replies that tell of the other mode.
+//! §6, new passwords: compared with another than the mode's own or put in another place, equal ones that are not borne,
+//! a handle of both modes that does not open one of them, and replies that tell of the other mode.
 
 mod both;
 mod untold;

@@ -1,4 +1,5 @@
-//! Replies that tell of the other mode, found out without the model; and two copies with equal passwords in one of them.
+//! Replies that tell of the other mode, found out without the model; and two copies with equal passwords in one of
+//! them.
 
 use super::*;
 

@@ -1,5 +1,5 @@
-//! Handles of another width than their cluster's, 25 at another place than the second, segments by another width, clusters
-//! made of another width than they should, and two copies.
+//! Handles of another width than their cluster's, 25 at another place than the second, segments by another width,
+//! clusters made of another width than they should, and two copies.
 
 use super::{at_second, is_none, up_to_the_next, widths};
 use crate::words::*;
@@ -276,8 +276,8 @@ fn hanging() -> Wrong {
     })
 }
 
-// Two copies: a handle of another width than its cluster's does not validate, so that lists present it with passwords that
-// would open the cluster.
+// Two copies: a handle of another width than its cluster's does not validate, so that lists present it with passwords
+// that would open the cluster.
 table! {
     a_handle_of_another_width_that_opens_the_cluster: opened(|_, _| true)
         => by(By::Copies, []).and(By::Writers, [Says("differ")]);

@@ -1,5 +1,5 @@
-//! Selectors laid out in another way, passwords converted by another parameter, and bits of a mask at or above the width
-//! that are looked at or below it that are not.
+//! Selectors laid out in another way, passwords converted by another parameter, and bits of a mask at or above the
+//! width that are looked at or below it that are not.
 
 use super::widths;
 use crate::nothing::{weakening, Weakened};

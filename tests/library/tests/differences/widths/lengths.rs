@@ -1,5 +1,5 @@
-//! Lengths that no handle has and that are taken for one, 25 at another place than the first, lengths that are given, and
-//! batches with slots of another length.
+//! Lengths that no handle has and that are taken for one, 25 at another place than the first, lengths that are given,
+//! and batches with slots of another length.
 
 use super::{at_first, is_known, is_none, up_to_the_next, widths};
 use crate::words::*;

@@ -1,5 +1,5 @@
-//! §8, widths: libraries that are wrong in the bytes of a handle, in its length, in the width of its cluster, and in what
-//! goes by the width.
+//! §8, widths: libraries that are wrong in the bytes of a handle, in its length, in the width of its cluster, and in
+//! what goes by the width.
 
 mod clusters;
 mod handles;
