@@ -1,4 +1,5 @@
-//! Links the proved library, which `rt staticlib gelmuszta` writes.
+//! Links the proved library, which `rt staticlib gelmuszta` writes. Tests of the model that are asked of the library
+//! know it by `of_the_library`.
 
 const ARCHIVE_FOLDER: &str = "../../target/staticlib";
 
@@ -7,4 +8,6 @@ fn main() {
     println!("cargo:rustc-link-search=native={here}/{ARCHIVE_FOLDER}");
     println!("cargo:rustc-link-lib=static=gelmuszta");
     println!("cargo:rerun-if-changed={here}/{ARCHIVE_FOLDER}/libgelmuszta.a");
+    println!("cargo:rustc-cfg=of_the_library");
+    println!("cargo:rustc-check-cfg=cfg(of_the_library)");
 }

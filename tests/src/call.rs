@@ -104,6 +104,25 @@ pub enum Call {
 }
 
 impl Call {
+    /// The bytes of every handle that the call presents, to be changed.
+    pub fn presented_mut(&mut self) -> Vec<&mut HandleBytes> {
+        match self {
+            Call::NewCluster { .. } => vec![],
+            Call::Join { handle, other, .. } => vec![handle, other],
+            Call::DeleteCluster { handle, .. }
+            | Call::NewSegment { handle, .. }
+            | Call::DeleteSegment { handle, .. }
+            | Call::Read { handle, .. }
+            | Call::Write { handle, .. }
+            | Call::Weaken { handle, .. }
+            | Call::Reduce { handle, .. }
+            | Call::NewPassword { handle, .. }
+            | Call::Freeze { handle, .. }
+            | Call::Look { handle, .. }
+            | Call::Validate { handle, .. } => vec![handle],
+        }
+    }
+
     /// The bytes of the handle that the call presents; the first, where it presents two.
     pub fn handle_bytes(&self) -> Option<&[u8]> {
         match self {

@@ -8,7 +8,7 @@
 //! - [`handle`]: selectors, the bytes of each width, conversion, weakening, reduction.
 //! - [`store`]: records, soundness, placement.
 //! - [`table`]: the numbers of refusal, their words, and the test behind each of them.
-//! - [`call`]: the eleven calls, looks and validation with their arguments, and replies.
+//! - [`call`]: the eleven calls, looks and validation with their arguments, and replies; `made` has shorthands for them.
 //! - [`model`]: the calls carried out.
 //! - [`list`]: records of 64 bytes, the chain, and the text that a list comes out as.
 //! - [`vectors`]: the published handles.
@@ -28,6 +28,7 @@ pub mod handle;
 pub mod hexadecimal;
 pub mod joins;
 pub mod list;
+mod made;
 pub mod model;
 pub mod nothing;
 pub mod program;

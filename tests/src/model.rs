@@ -82,13 +82,7 @@ fn new_cluster(
     width: Width,
     [read, write]: [Password; 2],
 ) -> Reply {
-    store.clusters[node][local] = Cluster {
-        active: true,
-        width: width.number(),
-        read,
-        write,
-        ..Cluster::INACTIVE
-    };
+    store.clusters[node][local] = Cluster::new(width, read, write);
     let primary = |password| Handle::primary(width, node as u16, local as u8, password).to_bytes();
     Reply {
         first: primary(read),

@@ -142,6 +142,17 @@ impl Cluster {
         segments: [Segment::ABSENT; SEGMENTS],
     };
 
+    /// An active cluster as call 1 makes it.
+    pub fn new(width: Width, read: Password, write: Password) -> Cluster {
+        Cluster {
+            active: true,
+            width: width.number(),
+            read,
+            write,
+            ..Cluster::INACTIVE
+        }
+    }
+
     pub fn has_segments(&self) -> bool {
         any_present(&self.segments)
     }

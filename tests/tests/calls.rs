@@ -2,9 +2,6 @@
 
 mod support;
 
-use model::call::{Call, Reply};
-use model::handle::{convert, Handle, HandleBytes, Selector, Width};
-use model::store::{Cluster, Segment};
 use support::*;
 
 #[test]
@@ -35,10 +32,7 @@ fn delete_cluster_leaves_the_starting_record_and_all_bytes() {
     for width in Width::ALL {
         let mut bench = Bench::with_segment_of(width);
         let memory = bench.memory.clone();
-        let delete = Call::DeleteCluster {
-            node: 0,
-            handle: writer_of(width).into(),
-        };
+        let delete = Call::delete_cluster(0, writer_of(width));
         assert_eq!(bench.reply(delete), Reply::DONE);
         assert_eq!(bench.store, Bench::starting().store);
         assert_eq!(bench.memory, memory);
@@ -79,12 +73,12 @@ fn placement_looks_at_every_cluster_of_the_node() {
             let local = 3 + at as u8;
             assert_eq!(bench.number(new_cluster_of(other, 0, local.into())), 0);
             let segment = u32::from(other.number()) - 1;
-            let call = Call::NewSegment {
-                node: 0,
+            let call = Call::new_segment(
+                0,
                 segment,
-                size: 9,
-                handle: Handle::primary(other, 0, local, WRITE_SECRET).into(),
-            };
+                9,
+                Handle::primary(other, 0, local, WRITE_SECRET),
+            );
             assert_eq!(bench.number(call), 0);
             let placed = Segment::present(4 + 9 * at as u16, 9);
             let segments = bench.store.clusters[0][usize::from(local)].segments;
@@ -110,10 +104,7 @@ fn read_fills_the_front_of_the_buffer() {
     for width in Width::ALL {
         let mut bench = Bench::with_segment_of(width);
         let mut buffer = *b"........";
-        let read = Call::Read {
-            segment: own(width),
-            handle: reader_of(width).into(),
-        };
+        let read = Call::read(own(width), reader_of(width));
         let reply = bench.ask(read, &mut buffer);
         let expected = Reply {
             length: 4,
@@ -130,10 +121,7 @@ fn write_takes_the_front_of_the_data() {
         let mut bench = Bench::with_segment_of(width);
         bench.memory[4] = 0x77;
         let mut data = *b"efghijkl";
-        let write = Call::Write {
-            segment: own(width),
-            handle: writer_of(width).into(),
-        };
+        let write = Call::write(own(width), writer_of(width));
         assert_eq!(bench.ask(write, &mut data), Reply::DONE);
         assert_eq!(&bench.memory[..5], b"efgh\x77");
         assert_eq!(&data, b"efghijkl");
@@ -144,10 +132,10 @@ fn write_takes_the_front_of_the_data() {
 fn weaken_looks_at_no_store() {
     for width in Width::ALL {
         let (mut bench, flat) = (Bench::starting(), width.flat());
-        let reply = bench.reply(Call::Weaken {
-            mask: 0xff09,
-            handle: Handle::primary(width, 3, 7, READ_SECRET).into(),
-        });
+        let reply = bench.reply(Call::weaken(
+            0xff09,
+            Handle::primary(width, 3, 7, READ_SECRET),
+        ));
         let weaker = given(&reply);
         let noted = 0xff09 & flat;
         let selector = Selector::new(width, [noted, flat, flat, flat]);
@@ -211,14 +199,8 @@ fn validation_gives_the_number_of_reduction_and_nothing_else() {
             for mode in 0..4 {
                 let before = bench.clone();
                 let asked = || handle.clone();
-                let reply = bench.reply(Call::Validate {
-                    mode,
-                    handle: asked(),
-                });
-                let expected = bench.number(Call::Reduce {
-                    mode,
-                    handle: asked(),
-                });
+                let reply = bench.reply(Call::validate(mode, asked()));
+                let expected = bench.number(Call::reduce(mode, asked()));
                 assert_eq!(reply, Reply::refused(expected));
                 assert_eq!(bench, before);
             }

@@ -4,42 +4,16 @@
 
 mod support;
 
-use model::call::Call;
-use model::handle::{Handle, HandleBytes, Password, Width};
-use model::random::Random;
-use model::store::{Cluster, Mode, Segment};
 use std::collections::BTreeMap;
-use support::valid::{answer, any_width, parts, valid_call};
+use support::valid::*;
 use support::*;
 
 const LISTS: usize = 300;
 const LIST_CALLS: usize = 60;
-const BUFFER_BYTES: usize = 40;
-/// The cluster set apart, and one beside it, both of node 0.
-const APART: usize = 0;
-const BESIDE: usize = 1;
 
-/// Each cluster has a width by chance and two segments, the first and the last, frozen or not.
+/// Some segments are frozen.
 fn pair(random: &mut Random) -> [Bench; 2] {
-    let mut start = Bench::starting();
-    start.memory.fill_with(|| random.byte());
-    for local in [APART, BESIDE] {
-        let width = any_width(random);
-        let mut cluster = Cluster {
-            active: true,
-            width: width.number(),
-            read: random.bytes(),
-            write: random.bytes(),
-            ..Cluster::INACTIVE
-        };
-        for (at, segment) in [0, width.segments() - 1].into_iter().enumerate() {
-            let base = (2 * at + local) * BUFFER_BYTES;
-            let length = 1 + random.below(BUFFER_BYTES as u64);
-            cluster.segments[segment] = Segment::present(base as u16, length as u16);
-            cluster.segments[segment].frozen = random.one_in(3);
-        }
-        start.store.clusters[0][local] = cluster;
-    }
+    let start = two_clusters(random, true);
     let mut other = start.clone();
     let cluster = &mut other.store.clusters[0][APART];
     (cluster.read, cluster.write) = (random.bytes(), random.bytes());
@@ -84,29 +58,16 @@ fn free_call(random: &mut Random, states: &[Bench; 2]) -> Call {
         let state = &states[random.below(2) as usize];
         let cluster = state.store.clusters[0][APART];
         let mut call = valid_call(random, state);
-        let mut close = |handle: &mut HandleBytes| {
+        let close = |handle: &mut HandleBytes| {
             let presented = Handle::from_bytes(handle).expect("it has a width");
             if opens(states, &presented) {
                 *handle = shut(random, &cluster, &presented).into();
             }
         };
-        match &mut call {
-            Call::Read { handle, .. }
-            | Call::Look { handle, .. }
-            | Call::Write { handle, .. }
-            | Call::Reduce { handle, .. }
-            | Call::Validate { handle, .. }
-            | Call::Freeze { handle, .. }
-            | Call::NewPassword { handle, .. }
-            | Call::DeleteSegment { handle, .. }
-            | Call::NewSegment { handle, .. }
-            | Call::DeleteCluster { handle, .. } => close(handle),
-            Call::Join { handle, other, .. } => {
-                close(handle);
-                close(other);
-            }
-            Call::Weaken { .. } | Call::NewCluster { .. } => return call,
+        if let Call::Weaken { .. } | Call::NewCluster { .. } = call {
+            return call;
         }
+        call.presented_mut().into_iter().for_each(close);
         // What is frozen would soon be all that there is.
         let kept = matches!(call, Call::Freeze { .. }) && !random.one_in(4);
         if !kept && !call.presented().any(|handle| opens(states, &handle)) {

@@ -1,24 +1,16 @@
 //! Calls on stores that are not sound: 1 for all but weakening, nothing changes, and 25 alone comes before it.
 
-use model::call::{Call, Reply};
-use model::handle::{Handle, Width};
-use model::model::run;
-use model::sizes::MEMORY_BYTES;
-use model::store::{Segment, Store};
+mod support;
+
 use model::table::{word, EMPTY, LENGTH, UNSOUND};
+use support::*;
 
-const READ: [u8; 16] = [0x11; 16];
-const WRITE: [u8; 16] = [0x22; 16];
-
-/// A store with one active cluster that has one segment.
-fn store(width: Width) -> Store {
-    let mut store = Store::starting();
-    let cluster = &mut store.clusters[1][3];
-    (cluster.active, cluster.width) = (true, width.number());
-    cluster.read = READ;
-    cluster.write = WRITE;
-    cluster.segments[0] = Segment::present(10, 20);
-    store
+/// What a call replies, what it leaves of the store, and the bytes of memory and buffer.
+fn asked(store: &Store, call: &Call) -> (Reply, Store, Vec<u8>, Vec<u8>) {
+    let (store, memory) = (store.clone(), vec![0xaa; MEMORY_BYTES]);
+    let (mut bench, mut buffer) = (Bench { store, memory }, vec![0xbb; 64]);
+    let reply = bench.ask(call, &mut buffer);
+    (reply, bench.store, bench.memory, buffer)
 }
 
 /// Every call but weakening, a look and validation, all of them about places where nothing is damaged.
@@ -27,7 +19,7 @@ fn calls(reader: &[u8], handle: &[u8]) -> Vec<Call> {
     let (node, segment, mode, size) = (1, 0, 2, 5);
     #[rustfmt::skip]
     let calls = vec![
-        Call::NewCluster { node: 0, local: 0, width: 8, read: READ, write: WRITE },
+        Call::NewCluster { node: 0, local: 0, width: 8, read: READ_SECRET, write: WRITE_SECRET },
         Call::DeleteCluster { node, handle: handle() },
         Call::NewSegment { node, segment: 1, size, handle: handle() },
         Call::DeleteSegment { node, segment, handle: handle() },
@@ -53,12 +45,12 @@ fn weaker(handle: &[u8]) -> Vec<u8> {
 /// that is none, one that an inactive cluster has, a segment at or above it, and a cluster's own made another.
 fn damaged(width: Width) -> Vec<Store> {
     let put = |(node, local): (usize, usize), at: usize, segment| {
-        let mut store = store(width);
+        let mut store = store_of(width);
         store.clusters[node][local].segments[at] = segment;
         store
     };
     let resized = |(node, local): (usize, usize), number| {
-        let mut store = store(width);
+        let mut store = store_of(width);
         store.clusters[node][local].width = number;
         store
     };
@@ -84,9 +76,7 @@ fn damaged(width: Width) -> Vec<Store> {
 
 /// The number of a call that is refused and changes nothing.
 fn refused(store: &Store, call: &Call) -> u8 {
-    let (mut memory, mut buffer) = (vec![0xaa; MEMORY_BYTES], vec![0xbb; 64]);
-    let mut left = store.clone();
-    let reply = run(&mut left, &mut memory, &mut buffer, call);
+    let (reply, left, memory, buffer) = asked(store, call);
     assert_eq!(reply, Reply::refused(reply.number));
     assert_eq!(left, *store);
     assert_eq!((memory, buffer), (vec![0xaa; MEMORY_BYTES], vec![0xbb; 64]));
@@ -96,12 +86,10 @@ fn refused(store: &Store, call: &Call) -> u8 {
 #[test]
 fn damage_anywhere_refuses_all_but_weakening_and_changes_nothing() {
     for width in Width::ALL {
-        let [reader, writer] =
-            [READ, WRITE].map(|password| Handle::primary(width, 1, 3, password).to_bytes());
+        let [reader, writer] = [READ_SECRET, WRITE_SECRET]
+            .map(|password| Handle::primary(width, 1, 3, password).to_bytes());
         for call in calls(&reader, &writer) {
-            let (mut memory, mut buffer) = (vec![0xaa; MEMORY_BYTES], vec![0xbb; 64]);
-            let reply = run(&mut store(width), &mut memory, &mut buffer, &call);
-            assert_eq!(reply.number, 0, "{call:?}");
+            assert_eq!(asked(&store_of(width), &call).0.number, 0, "{call:?}");
             for damaged in damaged(width) {
                 assert_eq!(refused(&damaged, &call), UNSOUND);
             }
@@ -114,7 +102,7 @@ fn damage_anywhere_refuses_all_but_weakening_and_changes_nothing() {
 #[test]
 fn a_wrong_length_comes_before_damage() {
     for width in Width::ALL {
-        let right = Handle::primary(width, 1, 3, WRITE).to_bytes();
+        let right = Handle::primary(width, 1, 3, WRITE_SECRET).to_bytes();
         for length in [0, 1, 20, 22, 24, 26, 28, 64] {
             let mut wrong = right.clone();
             wrong.resize(length, 0);
@@ -134,12 +122,9 @@ fn a_wrong_length_comes_before_damage() {
 #[test]
 fn damage_does_not_matter_to_weakening() {
     for width in Width::ALL {
-        let handle = Handle::primary(width, 1, 3, READ);
-        for mut damaged in damaged(width) {
-            let mut weaken = |mask, handle| {
-                let call = Call::Weaken { mask, handle };
-                run(&mut damaged, &mut [], &mut [], &call)
-            };
+        let handle = Handle::primary(width, 1, 3, READ_SECRET);
+        for damaged in damaged(width) {
+            let weaken = |mask, handle| asked(&damaged, &Call::Weaken { mask, handle }).0;
             let reply = weaken(1, handle.into());
             assert_eq!((reply.number, reply.count), (0, 1));
             assert_eq!(weaken(0, handle.into()), Reply::refused(EMPTY));
@@ -155,10 +140,12 @@ fn unsound_comes_before_all_but_a_length() {
             segment: 99,
             handle,
         };
-        let handle = Handle::primary(width, 9, 9, READ).to_bytes();
+        let handle = Handle::primary(width, 9, 9, READ_SECRET).to_bytes();
         let short = handle[..20].to_vec();
         for (handle, number) in [(handle, UNSOUND), (short, LENGTH)] {
-            let reply = run(&mut store(width), &mut [0; 4], &mut [], &nowhere(handle));
+            let (mut store, memory) = (store_of(width), vec![0; MEMORY_BYTES]);
+            make_unsound(&mut store);
+            let reply = Bench { store, memory }.reply(nowhere(handle));
             assert_eq!(reply, Reply::refused(number));
         }
     }

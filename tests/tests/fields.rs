@@ -2,10 +2,6 @@
 
 mod support;
 
-use model::call::{Call, Reply};
-use model::handle::{Handle, Width};
-use model::sizes::MEMORY_BYTES;
-use model::store::Cluster;
 use support::*;
 
 fn made(node: u32, local: u32, width: usize, write: [u8; 16]) -> Call {

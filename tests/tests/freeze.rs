@@ -2,10 +2,6 @@
 
 mod support;
 
-use model::call::{Call, Reply};
-use model::handle::{Handle, Width};
-use model::sizes::{MEMORY_BYTES, NODES};
-use model::store::Segment;
 use model::table::{numbers_of_calls, word};
 use support::*;
 
@@ -37,18 +33,7 @@ fn marks(width: Width) -> Vec<u16> {
 }
 
 fn delete_cluster(handle: Handle) -> Call {
-    Call::DeleteCluster {
-        node: 0,
-        handle: handle.into(),
-    }
-}
-
-fn freeze_by(node: u32, segment: u32, handle: Handle) -> Call {
-    Call::Freeze {
-        node,
-        segment,
-        handle: handle.into(),
-    }
+    Call::delete_cluster(0, handle)
 }
 
 #[test]
@@ -118,18 +103,9 @@ fn everything_else_is_as_with_any_other() {
         password: [0x33; 16],
     };
     let calls = [
-        Call::Reduce {
-            mode: READ_MODE,
-            handle: weaker.into(),
-        },
-        Call::Validate {
-            mode: WRITE_MODE,
-            handle: writer().into(),
-        },
-        Call::Weaken {
-            mask: 0x0f,
-            handle: weaker.into(),
-        },
+        Call::reduce(READ_MODE, weaker),
+        Call::validate(WRITE_MODE, writer()),
+        Call::weaken(0x0f, weaker),
         new_segment(4, 4096),
         new_segment(4, 0),
         renewed(READ_MODE, writer()),
@@ -190,13 +166,7 @@ fn a_frozen_segment_elsewhere_does_not_keep_a_cluster() {
     for (node, local) in [(0, 3), (1, 2)] {
         assert_eq!(bench.number(new_cluster(node, local)), 0);
         let handle = Handle::primary(Width::Eight, node as u16, local as u8, WRITE_SECRET);
-        assert_eq!(
-            bench.number(Call::DeleteCluster {
-                node,
-                handle: handle.into()
-            }),
-            0
-        );
+        assert_eq!(bench.number(Call::delete_cluster(node, handle)), 0);
     }
 }
 
@@ -244,21 +214,21 @@ fn a_new_segment_where_one_is_frozen_is_13() {
 fn arguments_out_of_range() {
     let mut bench = bench(0);
     for node in [4, 5, 255, 256, 65_536, u32::MAX] {
-        assert_eq!(bench.number(freeze_by(node, 8, writer())), 2, "{node}");
+        assert_eq!(bench.number(Call::freeze(node, 8, writer())), 2, "{node}");
     }
     let at = |node, local| Handle::primary(Width::Eight, node, local, WRITE_SECRET);
     for handle in [at(4, 2), at(256, 2), at(0x8000, 2), at(0, 8), at(0, 255)] {
-        assert_eq!(bench.number(freeze_by(0, 8, handle)), 2, "{handle:?}");
+        assert_eq!(bench.number(Call::freeze(0, 8, handle)), 2, "{handle:?}");
     }
     for segment in [8, 9, 13, 255, 256, 261, u32::MAX] {
         assert_eq!(bench.number(freeze(segment)), 3, "{segment}");
     }
     for node in 1..NODES as u32 {
-        assert_eq!(bench.number(freeze_by(node, 5, writer())), 5);
+        assert_eq!(bench.number(Call::freeze(node, 5, writer())), 5);
     }
     let zero = Handle::primary(Width::Eight, 0, 3, [0; 16]);
-    assert_eq!(bench.number(freeze_by(0, 5, zero)), 8);
-    assert_eq!(bench.number(freeze_by(0, 5, reader())), 9);
+    assert_eq!(bench.number(Call::freeze(0, 5, zero)), 8);
+    assert_eq!(bench.number(Call::freeze(0, 5, reader())), 9);
     assert!(!bench.store.clusters[0][2].has_frozen());
     bench.memory.truncate(MEMORY_BYTES - 1);
     assert_eq!(bench.number(freeze(5)), 1);

@@ -3,8 +3,6 @@
 
 mod support;
 
-use model::call::{Call, Reply};
-use model::handle::{convert, Handle, Selector, Width};
 use support::naive::{flat, has, selectors_of, sets};
 use support::*;
 
@@ -147,10 +145,7 @@ fn with_itself_and_with_less() {
         for parts in sets(width) {
             let selector = Selector::new(width, parts);
             let handle = Handle::converted(0, 2, &READ_SECRET, selector);
-            let reduction = bench.reply(Call::Reduce {
-                mode: READ_MODE,
-                handle: handle.into(),
-            });
+            let reduction = bench.reply(Call::reduce(READ_MODE, handle));
             let expected = match selector.is_primary() {
                 true => Reply::refused(23),
                 false => reduction,

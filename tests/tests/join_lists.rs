@@ -3,7 +3,6 @@
 
 mod support;
 
-use model::handle::Handle;
 use model::hexadecimal::encode;
 use model::list::{output, request, Record, Request, RECORD_BYTES};
 use support::*;

@@ -2,9 +2,6 @@
 
 mod support;
 
-use model::call::{Call, Reply};
-use model::handle::{convert, Handle, Selector, Width};
-use model::sizes::MEMORY_BYTES;
 use model::table::{numbers_of_calls, word};
 use support::joint::{self, union, LOCAL, NODE};
 use support::naive::flat;
@@ -136,11 +133,7 @@ fn both_have_to_validate() {
         assert_eq!(bench.number(join(mode, writes, reads)), 9);
     }
     assert_eq!(bench.number(join(WRITE_MODE, reads, reads)), 9);
-    let renew = Call::NewPassword {
-        mode: READ_MODE,
-        handle: reader().into(),
-        password: [0x33; 16],
-    };
+    let renew = Call::new_password(READ_MODE, reader(), [0x33; 16]);
     assert_eq!(bench.number(renew), 0);
     let renewed = Handle::primary(Width::Eight, 0, 2, [0x33; 16])
         .weaken(0x30)

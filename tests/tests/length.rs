@@ -3,10 +3,6 @@
 
 mod support;
 
-use model::call::{Call, Reply};
-use model::handle::{Handle, HandleBytes, Selector, Width};
-use model::sizes::MEMORY_BYTES;
-use model::store::Mode;
 use model::table::{numbers_of_calls, refusal_above, refusal_below, word, Found, LENGTH, UNSOUND};
 use support::every::{every, looking, Rest};
 use support::*;
@@ -82,34 +78,12 @@ fn before_everything_else() {
     }
 }
 
-#[test]
-fn of_either_handle_of_a_join() {
-    let state = Bench::with_segment();
-    let mut damaged = state.clone();
-    damaged.store.clusters[3][7].write[0] = 1;
-    let right: HandleBytes = writer().weaken(7).unwrap().into();
-    for length in WRONG {
-        let wrong = of_length(writer(), length);
-        for mode in [WRITE_MODE, 0] {
-            for (one, two) in [(&right, &wrong), (&wrong, &right), (&wrong, &wrong)] {
-                let call = join(mode, one.clone(), two.clone());
-                refused(&state, &call, 25);
-                refused(&damaged, &call, 25);
-            }
-        }
-    }
-}
-
 /// A call on damage answers 1 with a handle of any width, and what stands above 1 is 25 alone.
 #[test]
 fn and_nothing_else_stands_above_1() {
     let mut damaged = Bench::with_segment();
     damaged.store.clusters[3][7].write[0] = 1;
-    let found = Found {
-        store: &damaged.store,
-        memory_bytes: MEMORY_BYTES,
-        buffer_bytes: 0,
-    };
+    let found = Found::whole(&damaged.store, 0);
     for width in Width::ALL {
         let handle = writer_of(width).to_bytes();
         for call in looking(&handle, &handle, WRONG_REST) {
@@ -154,58 +128,6 @@ fn not_the_cluster_s_width() {
                         refused(&state, &look(0, other.number().into()), 3);
                     }
                 }
-            }
-        }
-    }
-}
-
-/// The first handle's width, the second's, both's; and 24 comes before.
-#[test]
-fn of_either_handle_of_a_join_again() {
-    for width in Width::ALL {
-        let state = Bench::with_segment_of(width);
-        let right = reader_of(width).weaken(2).unwrap();
-        for other in others(width) {
-            let wrong = reader_of(other).weaken(2).unwrap();
-            let apart = Handle { local: 3, ..wrong };
-            let forged = Handle {
-                password: [9; 16],
-                ..wrong
-            };
-            for (one, two) in [(right, wrong), (wrong, right), (wrong, wrong)] {
-                refused(&state, &join(READ_MODE, one, two), 25);
-                refused(&state, &join(0, one, two), 3);
-            }
-            for (one, two) in [(right, forged), (forged, right), (forged, wrong)] {
-                refused(&state, &join(READ_MODE, one, two), 25);
-            }
-            refused(&state, &join(READ_MODE, right, apart), 24);
-            refused(&state, &join(READ_MODE, apart, apart), 8);
-            // All segments of the two are all of their width, and not of the cluster's.
-            let primary = reader_of(other);
-            refused(&state, &join(READ_MODE, primary, primary), 25);
-            refused(&state, &join(READ_MODE, right, primary), 25);
-        }
-    }
-}
-
-/// Where the cluster is inactive it has no width; where it is active, a wrong password does not matter.
-#[test]
-fn after_8_and_before_9() {
-    for width in Width::ALL {
-        let state = Bench::with_segment_of(width);
-        for other in Width::ALL {
-            let inactive = Handle::primary(other, 0, 3, [0; 16]).to_bytes();
-            let forged = Handle::primary(other, 0, 2, [9; 16]).to_bytes();
-            let rest = Rest {
-                segment: 0,
-                ..right(width)
-            };
-            for call in looking(&inactive, &inactive, rest) {
-                refused(&state, &call, 8);
-            }
-            for call in looking(&forged, &forged, rest) {
-                refused(&state, &call, if other == width { 9 } else { 25 });
             }
         }
     }

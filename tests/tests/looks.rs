@@ -2,21 +2,8 @@
 
 mod support;
 
-use model::call::{Call, Part, Reply};
-use model::handle::{Handle, Selector, Width};
 use model::list::{request, Request, CODE_AT, RECORD_BYTES};
-use model::random::Random;
-use model::sizes::{MEMORY_BYTES, NODES, NODE_BYTES};
-use model::store::{Cluster, Segment};
 use support::*;
-
-fn look(node: u32, segment: u32, handle: Handle) -> Call {
-    Call::Look {
-        node,
-        segment,
-        handle: handle.into(),
-    }
-}
 
 fn shown(from: usize, length: usize) -> Reply {
     Reply {
@@ -31,13 +18,7 @@ fn bench(width: Width, node: usize, segments: &[(u16, u16)]) -> Bench {
     let mut random = Random::from_seed(1);
     bench.memory.fill_with(|| random.byte());
     let cluster = &mut bench.store.clusters[node][2];
-    *cluster = Cluster {
-        active: true,
-        width: width.number(),
-        read: READ_SECRET,
-        write: WRITE_SECRET,
-        ..Cluster::INACTIVE
-    };
+    *cluster = Cluster::new(width, READ_SECRET, WRITE_SECRET);
     for (segment, &(base, length)) in cluster.segments.iter_mut().zip(segments) {
         *segment = Segment::present(base, length);
     }
@@ -49,11 +30,11 @@ fn the_segment_and_where_it_is() {
     for width in Width::ALL {
         let mut bench = Bench::with_segment_of(width);
         let (reader, segment) = (reader_of(width), own(width));
-        assert_eq!(bench.reply(look(0, segment, reader)), shown(0, 4));
+        assert_eq!(bench.reply(Call::look(0, segment, reader)), shown(0, 4));
         assert_eq!(bench.look(0, segment, reader), Ok(b"abcd".to_vec()));
         let last = u32::from(width.number()) - 1;
         assert_eq!(bench.number(new_segment_of(width, last, 9)), 0);
-        assert_eq!(bench.reply(look(0, last, reader)), shown(4, 9));
+        assert_eq!(bench.reply(Call::look(0, last, reader)), shown(4, 9));
     }
 }
 
@@ -76,14 +57,14 @@ fn all_of_the_segment_and_no_other_byte() {
             let (base, length) = (usize::from(base), usize::from(length));
             let from = node * 4096 + base;
             assert_eq!(
-                bench.reply(look(node as u32, 0, handle)),
+                bench.reply(Call::look(node as u32, 0, handle)),
                 shown(from, length)
             );
             let expected = bench.memory[from..from + length].to_vec();
             assert_eq!(bench.look(node as u32, 0, handle), Ok(expected));
         }
     }
-    let last = bench(Width::Eight, 3, &[(4095, 1)]).reply(look(
+    let last = bench(Width::Eight, 3, &[(4095, 1)]).reply(Call::look(
         3,
         0,
         Handle::primary(Width::Eight, 3, 2, READ_SECRET),
@@ -156,7 +137,7 @@ fn every_segment_of_the_width() {
         let handle = Handle::primary(width, 2, 2, READ_SECRET);
         for (segment, (base, length)) in extents.iter().enumerate() {
             let from = 2 * NODE_BYTES + usize::from(*base);
-            let reply = bench.reply(look(2, segment as u32, handle));
+            let reply = bench.reply(Call::look(2, segment as u32, handle));
             assert_eq!(reply, shown(from, (*length).into()));
         }
         for segment in [u32::from(width.number()), 16, 20] {
@@ -171,7 +152,7 @@ fn whatever_the_buffer() {
     let handle = Handle::primary(Width::Sixteen, 1, 2, READ_SECRET);
     for bytes in [0, 1, 99, 100, 101, NODE_BYTES] {
         let mut buffer = vec![0xee; bytes];
-        let reply = bench.ask(look(1, 0, handle), &mut buffer);
+        let reply = bench.ask(Call::look(1, 0, handle), &mut buffer);
         assert_eq!(reply, shown(NODE_BYTES + 10, 100));
         assert_eq!(buffer, vec![0xee; bytes]);
     }
@@ -262,11 +243,7 @@ fn what_the_calls_before_it_left() {
     assert_eq!(bench.look(0, 5, reader()), Err(14));
     assert_eq!(bench.number(new_segment(6, 3)), 0);
     assert_eq!(bench.look(0, 6, reader()), Ok(vec![0; 3]));
-    let renew = Call::NewPassword {
-        mode: READ_MODE,
-        handle: reader().into(),
-        password: [0x33; 16],
-    };
+    let renew = Call::new_password(READ_MODE, reader(), [0x33; 16]);
     assert_eq!(bench.number(renew), 0);
     assert_eq!(bench.look(0, 6, reader()), Err(9));
 }

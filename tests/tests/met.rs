@@ -61,11 +61,7 @@ fn every_meeting_of_two_handles() {
                 true => join.mode.number(),
                 false => 0,
             };
-            let call = Call::Join {
-                mode,
-                handle,
-                other,
-            };
+            let call = Call::join(mode, handle, other);
             let found = Found {
                 store: &store,
                 memory_bytes: memory_bytes(random),

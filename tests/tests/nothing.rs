@@ -3,9 +3,6 @@
 
 mod support;
 
-use model::call::{Call, Reply};
-use model::handle::{convert, Handle, Selector, Width};
-use model::random::Random;
 use model::table::word;
 use support::naive::{flat, has, number, referenced_and_kept, sets};
 use support::*;
@@ -20,13 +17,6 @@ fn handle(selector: u32) -> Handle {
         &READ_SECRET,
         eight(selector.to_be_bytes().map(u16::from)),
     )
-}
-
-fn weaken(mask: u16, handle: Handle) -> Call {
-    Call::Weaken {
-        mask,
-        handle: handle.into(),
-    }
 }
 
 /// Handles that reference nothing, with three flat subselectors to none.
@@ -50,11 +40,14 @@ fn its_word() {
 #[test]
 fn a_mask_that_keeps_nothing() {
     let mut bench = Bench::starting();
-    assert_eq!(bench.reply(weaken(0, reader())), Reply::refused(EMPTY));
+    assert_eq!(
+        bench.reply(Call::weaken(0, reader())),
+        Reply::refused(EMPTY)
+    );
     let lab = handle(0x20ff_ffff);
     for mask in 0..=255 {
         let number = if has(mask, 5) { 0 } else { EMPTY };
-        assert_eq!(bench.number(weaken(mask, lab)), number, "{mask}");
+        assert_eq!(bench.number(Call::weaken(mask, lab)), number, "{mask}");
     }
 }
 
@@ -62,9 +55,15 @@ fn a_mask_that_keeps_nothing() {
 fn a_handle_that_references_nothing_whatever_the_mask() {
     let mut bench = Bench::starting();
     for handle in to_nothing() {
-        assert_eq!(bench.reply(weaken(255, handle)), Reply::refused(EMPTY));
+        assert_eq!(
+            bench.reply(Call::weaken(255, handle)),
+            Reply::refused(EMPTY)
+        );
         for mask in 0..=255 {
-            assert_eq!(bench.reply(weaken(mask, handle)), Reply::refused(EMPTY));
+            assert_eq!(
+                bench.reply(Call::weaken(mask, handle)),
+                Reply::refused(EMPTY)
+            );
         }
     }
 }
@@ -75,17 +74,23 @@ fn no_such_place_and_gapped_come_before() {
     for handle in to_nothing().into_iter().chain([reader()]) {
         let no_node = Handle { node: 4, ..handle };
         let no_local = Handle { local: 8, ..handle };
-        assert_eq!(bench.reply(weaken(0, no_node)), Reply::refused(2));
-        assert_eq!(bench.reply(weaken(0, no_local)), Reply::refused(2));
+        assert_eq!(bench.reply(Call::weaken(0, no_node)), Reply::refused(2));
+        assert_eq!(bench.reply(Call::weaken(0, no_local)), Reply::refused(2));
     }
     for gapped in [0xfffe_ffff, 0xff00_ffff, 0x0fff_f0ff, 0x00ff_ff00] {
-        assert_eq!(bench.reply(weaken(0, handle(gapped))), Reply::refused(4));
+        assert_eq!(
+            bench.reply(Call::weaken(0, handle(gapped))),
+            Reply::refused(4)
+        );
     }
     let gapped_nowhere = Handle {
         node: 256,
         ..handle(0xff00_ffff)
     };
-    assert_eq!(bench.reply(weaken(0, gapped_nowhere)), Reply::refused(2));
+    assert_eq!(
+        bench.reply(Call::weaken(0, gapped_nowhere)),
+        Reply::refused(2)
+    );
 }
 
 #[test]
@@ -95,7 +100,7 @@ fn one_segment_kept_is_done_and_counted() {
         let flat = flat(width);
         for segment in segments(width) {
             let mask = 1 << segment;
-            let reply = bench.reply(weaken(mask, reader_of(width)));
+            let reply = bench.reply(Call::weaken(mask, reader_of(width)));
             let kept = Handle {
                 password: convert(&READ_SECRET, mask),
                 selector: Selector::new(width, [mask, flat, flat, flat]),
@@ -106,8 +111,11 @@ fn one_segment_kept_is_done_and_counted() {
                 ..Reply::with_handle(&kept)
             };
             assert_eq!(reply, expected);
-            assert_eq!(bench.reply(weaken(mask, kept)), expected);
-            assert_eq!(bench.reply(weaken(!mask, kept)), Reply::refused(EMPTY));
+            assert_eq!(bench.reply(Call::weaken(mask, kept)), expected);
+            assert_eq!(
+                bench.reply(Call::weaken(!mask, kept)),
+                Reply::refused(EMPTY)
+            );
         }
     }
 }
@@ -118,10 +126,10 @@ fn upper_bits_keep_nothing() {
     let mut bench = Bench::starting();
     for width in [Width::Four, Width::Eight] {
         for bit in u32::from(width.number())..16 {
-            let call = weaken(1 << bit, reader_of(width));
+            let call = Call::weaken(1 << bit, reader_of(width));
             assert_eq!(bench.reply(call), Reply::refused(EMPTY));
         }
-        let all = weaken(!flat(width), reader_of(width));
+        let all = Call::weaken(!flat(width), reader_of(width));
         assert_eq!(bench.reply(all), Reply::refused(EMPTY));
     }
 }
@@ -144,7 +152,7 @@ fn a_weakening_done_never_counts_0() {
                     _ => low | random.number() as u16 & !flat(width),
                 };
                 let expected = number(width, parts, mask);
-                let reply = bench.reply(weaken(mask, handle));
+                let reply = bench.reply(Call::weaken(mask, handle));
                 assert_eq!(reply.number, expected, "{parts:?} {mask}");
                 numbers[usize::from(expected)] += 1;
                 if expected != 0 {
@@ -203,10 +211,7 @@ fn reduction_of_a_handle_that_references_nothing_is_done() {
                 ..Reply::DONE
             };
             assert_eq!(bench.reply(reduce(READ_MODE)), expected);
-            let validate = Call::Validate {
-                mode: READ_MODE,
-                handle: handle.into(),
-            };
+            let validate = Call::validate(READ_MODE, handle);
             assert_eq!(bench.reply(validate), Reply::DONE);
             assert_eq!(bench.number(reduce(WRITE_MODE)), 9);
             assert_eq!(bench, before);
@@ -222,16 +227,9 @@ fn other_calls_give_what_they_gave() {
         let writes = write(reads.selector.subselectors);
         assert_eq!(bench.read(5, reads), Err(11));
         assert_eq!(bench.write(5, b"efgh", writes), 11);
-        let delete = Call::DeleteCluster {
-            node: 0,
-            handle: writes.into(),
-        };
+        let delete = Call::delete_cluster(0, writes);
         assert_eq!(bench.number(delete), 10);
-        let renew = Call::NewPassword {
-            mode: READ_MODE,
-            handle: reads.into(),
-            password: [0x33; 16],
-        };
+        let renew = Call::new_password(READ_MODE, reads, [0x33; 16]);
         assert_eq!(bench.number(renew), 10);
     }
 }

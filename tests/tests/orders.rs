@@ -3,10 +3,6 @@
 
 mod support;
 
-use model::call::{Call, Part, Reply};
-use model::handle::{Handle, Selector, Width};
-use model::sizes::{MEMORY_BYTES, NODE_BYTES};
-use model::store::{Cluster, Segment};
 use support::faults::{self, Faulty, Kind, BASE, LENGTH, LOCAL, NODE};
 use support::*;
 
@@ -115,7 +111,7 @@ fn numbers_of_weakening_in_their_order() {
             ];
             let first = numbers.iter().find(|(applies, _)| *applies);
             let mut state = Bench::starting();
-            state.memory.clear();
+            make_unsound(&mut state.store);
             let reply = state.reply(Call::Weaken { mask, handle });
             match first {
                 Some((_, number)) => assert_eq!(reply, Reply::refused(*number), "{set}"),

@@ -3,9 +3,6 @@
 
 mod support;
 
-use model::call::{Call, Reply};
-use model::handle::{Handle, Password, Width};
-use model::sizes::MEMORY_BYTES;
 use support::renewed::{self, LOCAL, NODE};
 use support::*;
 
@@ -50,10 +47,7 @@ fn neighbours(password: Password) -> impl Iterator<Item = Password> {
 }
 
 fn validates(state: &mut Bench, mode: u32, handle: Handle) -> bool {
-    let number = state.number(Call::Validate {
-        mode,
-        handle: handle.into(),
-    });
+    let number = state.number(Call::validate(mode, handle));
     assert!(number == 0 || number == 9);
     number == 0
 }
@@ -69,10 +63,7 @@ fn family(state: &mut Bench, mode: u32, primary: Handle) -> Vec<Handle> {
     let two = 0b11 << own(primary.width());
     let once = primary.weaken(!1).unwrap();
     let twice = once.weaken(two).unwrap();
-    let reduce = Call::Reduce {
-        mode,
-        handle: twice.into(),
-    };
+    let reduce = Call::reduce(mode, twice);
     let joined = join(mode, twice, primary.weaken(0b1000).unwrap());
     let made = [reduce, joined].map(|call| given(&state.reply(call)));
     let parts = made.map(|handle| handle.selector.subselectors[0]);
@@ -109,25 +100,6 @@ fn by_the_mode_s_own_password_alone() {
         }
     }
     assert_eq!(refused, 6);
-}
-
-/// Where the two are equal, that one password is 12 in either mode, and any other is taken.
-#[test]
-fn by_the_one_password_of_both_modes() {
-    for made in made() {
-        let (start, both) = equal(made);
-        assert!(start.store.clusters[0][2].has_equal_passwords());
-        for mode in [READ_MODE, WRITE_MODE] {
-            let mut state = start.clone();
-            let reply = state.reply(renew(mode, both, both.password));
-            assert_eq!(reply, Reply::refused(12));
-            assert_eq!(state, start);
-            for password in [[0; 16], [0x33; 16]] {
-                let renewed = Reply::with_handle(&Handle { password, ..both });
-                assert_eq!(start.clone().reply(renew(mode, both, password)), renewed);
-            }
-        }
-    }
 }
 
 /// Every set of faults: alone each gives its number, and of several the first is given.
@@ -175,10 +147,7 @@ fn call_1_still_refuses_twins() {
             assert_eq!(twins, Reply::refused(7));
         }
         assert_eq!(state.number(new_cluster(3, [0x44; 16])), 0);
-        let delete = Call::DeleteCluster {
-            node: 0,
-            handle: both.into(),
-        };
+        let delete = Call::delete_cluster(0, both);
         assert_eq!(state.number(delete), 0);
         assert_eq!(state.number(new_cluster(2, both.password)), 7);
     }
@@ -251,20 +220,13 @@ fn it_does_all_that_a_write_primary_handle_does() {
         for call in calls {
             assert_eq!(state.number(&call), 0, "{call:?}");
         }
-        let delete = Call::DeleteCluster {
-            node,
-            handle: handle.into(),
-        };
+        let delete = Call::delete_cluster(node, handle);
         assert_eq!(state.number(delete), 22);
         let weaker = handle.weaken(1 << present).unwrap();
         let by_the_old = freeze_of(handle.width(), present);
         let number = u8::from(made.1 == WRITE_MODE) * 9;
         assert_eq!(state.number(by_the_old), number);
-        let by_the_weaker = Call::DeleteSegment {
-            node,
-            segment: present,
-            handle: weaker.into(),
-        };
+        let by_the_weaker = Call::delete_segment(node, present, weaker);
         assert_eq!(state.number(by_the_weaker), 10);
     }
 }

@@ -32,10 +32,7 @@ fn weakened(selector: u32, mask: u16) -> (u32, u32) {
 /// What call 7 replies.
 fn reply(selector: u32, mask: u16) -> Reply {
     let handle = handle(selector);
-    Bench::starting().reply(Call::Weaken {
-        mask,
-        handle: handle.into(),
-    })
+    Bench::starting().reply(Call::weaken(mask, handle))
 }
 
 #[test]
@@ -116,26 +113,4 @@ fn conversions_go_up_from_subselector_0() {
         .fold(PASSWORD, |password, &c| convert(&password, c));
     assert_eq!(derive(&PASSWORD, &selector), up);
     assert_ne!(derive(&PASSWORD, &selector), down);
-}
-
-#[test]
-fn each_weakening_validates() {
-    let mut handle = Handle::primary(Width::Eight, 3, 7, PASSWORD);
-    for (mask, count) in [(0x7f, 7), (0x3f, 6), (0x0f, 4), (0x03, 2)] {
-        handle = handle.weaken(mask).unwrap();
-        assert_eq!(handle.selector.count(), count);
-        assert!(handle.is_made_from(&PASSWORD));
-        assert!(!handle.is_made_from(&[0; 16]));
-    }
-    assert_eq!(handle.weaken(1), None);
-}
-
-#[test]
-fn twenty_three_bytes_read_back() {
-    let bytes: [u8; 23] = std::array::from_fn(|at| at as u8 + 1);
-    let handle = Handle::from_bytes(&bytes).unwrap();
-    assert_eq!((handle.node, handle.local), (0x0102, 3));
-    assert_eq!((handle.password[0], handle.password[15]), (4, 19));
-    assert_eq!(handle.selector, eight([20, 21, 22, 23]));
-    assert_eq!(handle.to_bytes(), bytes);
 }

@@ -1,26 +1,12 @@
 //! What makes a store unsound, one thing at a time, and what looks odd and is sound.
 
-use model::call::Call;
-use model::handle::{Handle, Width};
-use model::model::run;
-use model::sizes::{CLUSTERS, MEMORY_BYTES, NODE_BYTES, SEGMENTS};
-use model::store::{Place, Segment, Store};
-const READ: [u8; 16] = [0x11; 16];
-const WRITE: [u8; 16] = [0x22; 16];
+mod support;
 
-/// A store with one active cluster that has one segment.
+use model::model::run;
+use support::*;
+
 fn store() -> Store {
     store_of(Width::Eight)
-}
-
-fn store_of(width: Width) -> Store {
-    let mut store = Store::starting();
-    let cluster = &mut store.clusters[1][3];
-    (cluster.active, cluster.width) = (true, width.number());
-    cluster.read = READ;
-    cluster.write = WRITE;
-    cluster.segments[0] = Segment::present(10, 20);
-    store
 }
 
 fn with_segment(base: u16, length: u16) -> Store {
@@ -36,7 +22,7 @@ fn odd_and_sound() {
     assert!(with_segment(30, 4066).is_sound(MEMORY_BYTES));
     assert!(with_segment(4095, 1).is_sound(MEMORY_BYTES));
     let mut twins = store();
-    twins.clusters[1][3].read = WRITE;
+    twins.clusters[1][3].read = WRITE_SECRET;
     assert!(twins.is_sound(MEMORY_BYTES));
     let mut zero = store();
     zero.clusters[1][3].write = [0; 16];
@@ -200,7 +186,7 @@ fn what_calls_leave() {
             assert_eq!(reply.number, 0, "{call:?}");
             assert!(store.is_sound(MEMORY_BYTES));
         };
-        let (read, write, node) = (READ, WRITE, 1);
+        let (read, write, node) = (READ_SECRET, WRITE_SECRET, 1);
         let (local, segments) = (3, width.segments());
         ask(Call::NewCluster {
             node,
@@ -209,19 +195,11 @@ fn what_calls_leave() {
             read,
             write,
         });
-        let handle = || Handle::primary(width, 1, 3, WRITE).into();
+        let handle = || Handle::primary(width, 1, 3, WRITE_SECRET);
         for segment in 0..segments as u32 {
-            ask(Call::NewSegment {
-                node,
-                segment,
-                size: 9,
-                handle: handle(),
-            });
+            ask(Call::new_segment(node, segment, 9, handle()));
         }
-        ask(Call::DeleteCluster {
-            node,
-            handle: handle(),
-        });
+        ask(Call::delete_cluster(node, handle()));
         assert_eq!(store, Store::starting());
     }
 }

@@ -3,15 +3,10 @@
 
 mod support;
 
-use model::call::{Call, Reply};
 use model::frozen::Watch;
-use model::handle::{Handle, Width};
 use model::list::{
     output, Record, CODE_AT, HANDLE_AT, HANDLE_BYTES, NODE_AT, RECORD_BYTES, SEGMENT_AT,
 };
-use model::random::Random;
-use model::sizes::MEMORY_BYTES;
-use model::store::Segment;
 use std::collections::BTreeMap;
 use support::valid::valid_call;
 use support::*;
@@ -68,10 +63,7 @@ fn a_freeze_between_all_other_calls() {
     let mut bench = Bench::with_segment();
     assert_eq!(bench.reply(freeze(5)), Reply::DONE);
     let before = bench.clone();
-    let delete = Call::DeleteCluster {
-        node: 0,
-        handle: writer().into(),
-    };
+    let delete = Call::delete_cluster(0, writer());
     for call in [
         delete,
         delete_segment(5),

@@ -3,11 +3,7 @@
 
 mod support;
 
-use model::call::Call;
-use model::handle::{Handle, Password, Selector, Width};
 use model::list::{output, Record, RECORD_BYTES};
-use model::random::Random;
-use model::store::Mode;
 use std::collections::BTreeMap;
 use support::naive::sets;
 use support::*;

@@ -181,14 +181,7 @@ fn numbers_are_those_of_calls() {
             }
             (_, _, Some(handle), Some(other)) => {
                 let cluster = cluster(&values, &handle);
-                number(
-                    cluster,
-                    Call::Join {
-                        mode,
-                        handle,
-                        other,
-                    },
-                )
+                number(cluster, Call::join(mode, handle, other))
             }
             _ => panic!("{line}"),
         };

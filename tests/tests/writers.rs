@@ -4,42 +4,16 @@
 
 mod support;
 
-use model::call::Call;
-use model::handle::{derive, Handle, Width};
-use model::random::Random;
-use model::store::{Cluster, Mode, Segment};
 use std::collections::BTreeMap;
-use support::valid::{answer, any_width, parts, valid_call};
+use support::valid::*;
 use support::*;
 
 const LISTS: usize = 400;
 const LIST_CALLS: usize = 60;
-/// As long as any segment.
-const BUFFER_BYTES: usize = 40;
-/// The cluster set apart, and one beside it, both of node 0.
-const APART: usize = 0;
-const BESIDE: usize = 1;
 
-/// Each cluster has a width by chance and two segments, the first and the last; between them is memory of none.
+/// Between the segments is memory of none.
 fn pair(random: &mut Random) -> [Bench; 2] {
-    let mut start = Bench::starting();
-    start.memory.fill_with(|| random.byte());
-    for local in [APART, BESIDE] {
-        let width = any_width(random);
-        let mut cluster = Cluster {
-            active: true,
-            width: width.number(),
-            read: random.bytes(),
-            write: random.bytes(),
-            ..Cluster::INACTIVE
-        };
-        for (at, segment) in [0, width.segments() - 1].into_iter().enumerate() {
-            let base = (2 * at + local) * BUFFER_BYTES;
-            let length = 1 + random.below(BUFFER_BYTES as u64);
-            cluster.segments[segment] = Segment::present(base as u16, length as u16);
-        }
-        start.store.clusters[0][local] = cluster;
-    }
+    let start = two_clusters(random, false);
     let mut other = start.clone();
     other.store.clusters[0][APART].read = random.bytes();
     other.memory.fill_with(|| random.byte());
@@ -53,10 +27,7 @@ fn pair(random: &mut Random) -> [Bench; 2] {
 fn is_free(states: &[Bench; 2], call: &Call) -> bool {
     let reads = |handle: Handle| {
         let mode = READ_MODE;
-        let validation = Call::Validate {
-            mode,
-            handle: handle.into(),
-        };
+        let validation = Call::validate(mode, handle);
         let mut states = states.iter();
         states.any(|state| state.clone().number(&validation) == 0)
     };

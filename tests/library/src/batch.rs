@@ -17,7 +17,7 @@ use model::store::{Mode, Store};
 
 /// Something that validates many handles, given the mode and the width; [`guard::validate_all`] is the one to be
 /// compared.
-pub type BatchGuard = fn(&mut Held, usize, usize, &[u8], &mut [u8]) -> usize;
+pub type BatchGuard<'a> = &'a dyn Fn(&mut Held, usize, usize, &[u8], &mut [u8]) -> usize;
 
 const MOST_HANDLES: usize = 40;
 
@@ -127,15 +127,12 @@ fn one(guard: BatchGuard, batch: &Batch, tally: &mut Tally) -> Result<(), String
 
 /// The number on which the library's single validation and the model agree.
 fn validated_alone(batch: &Batch, bytes: &[u8], tally: &mut Tally) -> Result<u8, String> {
-    let call = Call::Validate {
-        mode: narrow(batch.mode),
-        handle: bytes.to_vec(),
-    };
+    let call = Call::validate(narrow(batch.mode), bytes.to_vec());
     let question = Question {
         beyond: batch.mode,
         ..Question::of(call)
     };
-    let answer = ask(guard::ask, &mut Sides::both(batch.held.clone()), &question)?;
+    let answer = ask(&guard::ask, &mut Sides::both(batch.held.clone()), &question)?;
     tally.note_widths(BATCH, &batch.held, &question, &answer);
     Ok(answer.reply.number)
 }

@@ -8,7 +8,7 @@ use model::store::Store;
 use model::table::{refusal_above, Found, UNSOUND};
 
 /// Something that answers questions; [`crate::guard::ask`] is the one to be compared.
-pub type Guard = fn(&mut Held, &Question) -> Answer;
+pub type Guard<'a> = &'a dyn Fn(&mut Held, &Question) -> Answer;
 
 /// What the guard and the model work on, each on its own.
 #[derive(Clone)]

@@ -51,14 +51,14 @@ fn one(guard: Guard, random: &mut Random) -> Result<bool, String> {
 }
 
 /// A join, and what it is put to.
-struct Join {
-    guard: Guard,
+struct Join<'a> {
+    guard: Guard<'a>,
     held: Held,
     question: Question,
     mode: u32,
 }
 
-impl Join {
+impl Join<'_> {
     /// What the library replies to a call with the numbers of this one; it works on its own copy.
     fn call(&self, call: Call) -> Answer {
         let mut question = self.question.clone();
@@ -67,11 +67,7 @@ impl Join {
     }
 
     fn asked(&self, handle: &HandleBytes, other: &HandleBytes) -> Answer {
-        self.call(Call::Join {
-            mode: self.mode,
-            handle: handle.clone(),
-            other: other.clone(),
-        })
+        self.call(Call::join(self.mode, handle.clone(), other.clone()))
     }
 
     fn reduced(&self, handle: &HandleBytes) -> Reply {

@@ -7,7 +7,6 @@ use crate::question::{Answer, Held, Question};
 use model::call::Call;
 use model::handle::Handle;
 use model::random::Random;
-use model::sizes::MEMORY_BYTES;
 use model::store::{Mode, Segment, Store};
 use model::table::{refusal, Found};
 use std::ops::Range;
@@ -59,11 +58,7 @@ pub fn parts_of(store: &Store, (node, local): (usize, usize)) -> Vec<Range<usize
 
 /// Whether the store does the call, as the model judges; it has a buffer of so many bytes.
 pub fn does(store: &Store, call: &Call, buffer_bytes: usize) -> bool {
-    let found = Found {
-        store,
-        memory_bytes: MEMORY_BYTES,
-        buffer_bytes,
-    };
+    let found = Found::whole(store, buffer_bytes);
     refusal(call, &found).is_none()
 }
 

@@ -98,10 +98,7 @@ impl<'a> Line<'a> {
             count: self.number("count")?.into(),
             ..giving(&new)
         };
-        let call = Call::Weaken {
-            mask: self.bits("mask")?,
-            handle: old.clone(),
-        };
+        let call = Call::weaken(self.bits("mask")?, old.clone());
         Some(
             ask(&mut held(&Store::starting()), call) == expected
                 && self.validates(&old)? == DONE
@@ -111,10 +108,7 @@ impl<'a> Line<'a> {
 
     fn reduced(&self) -> Option<bool> {
         let (old, new) = (self.handle("old")?, self.handle("new")?);
-        let call = Call::Reduce {
-            mode: self.mode()?,
-            handle: old.clone(),
-        };
+        let call = Call::reduce(self.mode()?, old.clone());
         Some(
             ask(&mut held(&self.store(&[&old])?), call) == giving(&new)
                 && self.counts(&new)?
@@ -145,11 +139,7 @@ impl<'a> Line<'a> {
         let (mode, one, two) = (self.mode()?, self.handle("one")?, self.handle("two")?);
         let store = self.store(&[&one, &two])?;
         let join = |handle: &HandleBytes, other: &HandleBytes| {
-            let call = Call::Join {
-                mode,
-                handle: handle.clone(),
-                other: other.clone(),
-            };
+            let call = Call::join(mode, handle.clone(), other.clone());
             ask(&mut held(&store), call)
         };
         Some(join(&one, &two) == reply && join(&two, &one) == reply)
@@ -162,10 +152,7 @@ impl<'a> Line<'a> {
 
     /// A weakening that is refused, with the number that goes with the line's kind.
     fn refused(&self, number: u8) -> Option<bool> {
-        let call = Call::Weaken {
-            mask: self.bits("mask")?,
-            handle: self.handle("old")?,
-        };
+        let call = Call::weaken(self.bits("mask")?, self.handle("old")?);
         let reply = ask(&mut held(&Store::starting()), call);
         Some(reply == Reply::refused(number) && self.number("number")? == number)
     }
@@ -176,20 +163,14 @@ impl<'a> Line<'a> {
 
     /// The number that validating in the line's mode gives.
     fn validates(&self, handle: &HandleBytes) -> Option<u8> {
-        let call = Call::Validate {
-            mode: self.mode()?,
-            handle: handle.clone(),
-        };
+        let call = Call::validate(self.mode()?, handle.clone());
         Some(ask(&mut held(&self.store(&[handle])?), call).number)
     }
 
     /// Whether the handle references as many segments as the line says: a mask that excludes
     /// nothing makes weakening tell it.
     fn counts(&self, handle: &HandleBytes) -> Option<bool> {
-        let call = Call::Weaken {
-            mask: u16::MAX,
-            handle: handle.clone(),
-        };
+        let call = Call::weaken(u16::MAX, handle.clone());
         let reply = ask(&mut held(&Store::starting()), call);
         let unchanged = reply.number == DONE && reply.first == *handle;
         Some(unchanged && reply.count == self.number("count")?.into())
@@ -219,13 +200,7 @@ impl<'a> Line<'a> {
             true => Width::of_segments(self.number("width")?.into())?,
             false => Width::of_handle_bytes(handle.len())?,
         };
-        Some(Cluster {
-            active: true,
-            width: width.number(),
-            read,
-            write,
-            ..Cluster::INACTIVE
-        })
+        Some(Cluster::new(width, read, write))
     }
 
     fn mode(&self) -> Option<u32> {

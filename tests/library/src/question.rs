@@ -94,33 +94,12 @@ impl Question {
 
     /// The bytes of the handle that the call presents; of the first, where it presents two.
     pub fn handle_mut(&mut self) -> Option<&mut HandleBytes> {
-        match &mut self.call {
-            Call::NewCluster { .. } => None,
-            Call::DeleteCluster { handle, .. }
-            | Call::NewSegment { handle, .. }
-            | Call::DeleteSegment { handle, .. }
-            | Call::Read { handle, .. }
-            | Call::Write { handle, .. }
-            | Call::Weaken { handle, .. }
-            | Call::Reduce { handle, .. }
-            | Call::NewPassword { handle, .. }
-            | Call::Freeze { handle, .. }
-            | Call::Join { handle, .. }
-            | Call::Look { handle, .. }
-            | Call::Validate { handle, .. } => Some(handle),
-        }
+        self.presented_mut().into_iter().next()
     }
 
     /// The bytes of every handle that the call presents.
     pub fn presented_mut(&mut self) -> Vec<&mut HandleBytes> {
-        match self.call {
-            Call::Join {
-                ref mut handle,
-                ref mut other,
-                ..
-            } => vec![handle, other],
-            _ => self.handle_mut().into_iter().collect(),
-        }
+        self.call.presented_mut()
     }
 
     /// The same with every handle changed that the call presents.

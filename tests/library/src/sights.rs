@@ -202,11 +202,7 @@ fn both(held: &Held, question: &Question, number: u8) -> Option<Sight> {
         due.0 == code && matches!(due.1, Sight::Both(given, _) if given == number)
     };
     let store = decode(&held.image).filter(|_| due().any(is_due))?;
-    let found = Found {
-        store: &store,
-        memory_bytes: held.memory.len(),
-        buffer_bytes: question.buffer.len(),
-    };
+    let found = Found::whole(&store, question.buffer.len());
     let next = refusal_below(number, &question.call, &found)?;
     Some(Sight::Both(number, next))
 }

@@ -135,11 +135,7 @@ impl Tally {
         let Some(store) = decode(&held.image) else {
             return;
         };
-        let found = Found {
-            store: &store,
-            memory_bytes: held.memory.len(),
-            buffer_bytes: question.buffer.len(),
-        };
+        let found = Found::whole(&store, question.buffer.len());
         if let Some(case) = Case::of(&found, &question.call, answer.reply.number) {
             *self.cases.entry(case).or_default() += 1;
         }

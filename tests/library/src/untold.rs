@@ -72,11 +72,7 @@ fn one(guard: Guard, random: &mut Random, count: &mut Count) -> Result<(), Strin
     let handle = pair.handle(random, &store);
     let [first, second] = pair.others;
     for password in [pair.own, first, second, password(random)] {
-        let call = Call::NewPassword {
-            mode: pair.mode.number(),
-            handle: handle.clone(),
-            password,
-        };
+        let call = Call::new_password(pair.mode.number(), handle.clone(), password);
         let number = pair.asked(guard, &Question::of(call))?;
         count.note(&pair, &password, number);
     }

@@ -190,11 +190,7 @@ fn sights(held: &Held, question: &Question, number: u8) -> Vec<Sight> {
         let first = number == LENGTH && !known;
         return first.then_some(Sight::OnDamaged).into_iter().collect();
     };
-    let found = Found {
-        store: &store,
-        memory_bytes: held.memory.len(),
-        buffer_bytes: question.buffer.len(),
-    };
+    let found = Found::whole(&store, question.buffer.len());
     let seen = Seen::of(&found, call, number).into_iter().map(Sight::Seen);
     let more = match known {
         false => first_place(call, &found),

@@ -5,6 +5,7 @@ mod rows;
 
 use crate::call::Call;
 use crate::handle::Handle;
+use crate::sizes::MEMORY_BYTES;
 use crate::store::{Cluster, Extent, Segment, Store};
 
 pub const DONE: u8 = 0;
@@ -76,6 +77,15 @@ pub struct Found<'a> {
 }
 
 impl Found<'_> {
+    /// With a memory that is as long as it should be.
+    pub fn whole(store: &Store, buffer_bytes: usize) -> Found<'_> {
+        Found {
+            store,
+            memory_bytes: MEMORY_BYTES,
+            buffer_bytes,
+        }
+    }
+
     /// The cluster that a handle names, if there is such a place.
     fn cluster_of(&self, handle: &Handle) -> Option<&Cluster> {
         self.store

@@ -1,9 +1,7 @@
 //! Every call that presents a handle, looks and validation.
 #![allow(dead_code)] // each test file uses its own part
 
-use super::{READ_MODE, WRITE_MODE};
-use model::call::Call;
-use model::handle::HandleBytes;
+use super::*;
 
 /// What the calls are asked with beside the handle.
 #[derive(Clone, Copy)]

@@ -2,10 +2,7 @@
 //! from the set alone.
 #![allow(dead_code)] // each test file uses its own part
 
-use super::{cut, make_unsound, others};
-use model::call::Call;
-use model::handle::{Handle, HandleBytes, Password, Selector, Width};
-use model::store::{Cluster, Segment, Store};
+use super::*;
 
 const READ: Password = [0x11; 16];
 const WRITE: Password = [0x22; 16];
@@ -119,13 +116,7 @@ pub fn of(kind: Kind, width: Width) -> impl Iterator<Item = Faulty> {
 fn store(kind: Kind, width: Width, low: usize, frozen: bool) -> Store {
     let mut store = Store::starting();
     for cluster in &mut store.clusters[NODE][LOCAL..=LOCAL + 1] {
-        *cluster = Cluster {
-            active: true,
-            width: width.number(),
-            read: READ,
-            write: WRITE,
-            ..Cluster::INACTIVE
-        };
+        *cluster = Cluster::new(width, READ, WRITE);
     }
     let other = |at: usize| {
         let base = BASE + LENGTH + at * OTHER_LENGTH;

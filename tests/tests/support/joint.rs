@@ -2,10 +2,7 @@
 //! what each has to be refused with is known from the set alone.
 #![allow(dead_code)] // each test file uses its own part
 
-use super::{cut, make_unsound, others};
-use model::call::Call;
-use model::handle::{Handle, HandleBytes, Password, Selector, Width};
-use model::store::{Cluster, Mode, Segment, Store};
+use super::*;
 
 /// The cluster that the first handle names, where that is a place.
 pub const NODE: u16 = 2;
@@ -136,11 +133,7 @@ fn with(choices: [usize; 10], width: Width) -> Joint {
             .filter(|(fault, _)| *fault != 0)
             .map(|(_, number)| *number)
             .collect(),
-        call: Call::Join {
-            mode: [1, 2, 0, 3][2 * field + write],
-            handle: handle(0),
-            other: handle(1),
-        },
+        call: Call::join([1, 2, 0, 3][2 * field + write], handle(0), handle(1)),
         width,
         primary: [READ, WRITE][write],
         store: put_to,
@@ -164,11 +157,5 @@ fn store(places: [(u16, u8); 2], width: Width, inactive: usize) -> Store {
 }
 
 fn active(width: Width) -> Cluster {
-    Cluster {
-        active: true,
-        width: width.number(),
-        read: READ,
-        write: WRITE,
-        ..Cluster::INACTIVE
-    }
+    Cluster::new(width, READ, WRITE)
 }

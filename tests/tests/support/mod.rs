@@ -1,11 +1,16 @@
 //! A store, a memory and shorthands for asking it things.
-#![allow(dead_code)] // each test file uses its own part
+#![allow(dead_code, unused_imports)] // each test file uses its own part
 
-use model::call::{Call, Reply};
-use model::handle::{Handle, HandleBytes, Password, Selector, Width};
+pub use model::call::{Call, Part, Reply};
+pub use model::handle::{convert, derive, Handle, HandleBytes, Password, Selector, Width};
+pub use model::random::Random;
+pub use model::sizes::{CLUSTERS, MEMORY_BYTES, NODES, NODE_BYTES, SEGMENTS};
+pub use model::store::{Cluster, Extent, Mode, Place, Segment, Store};
+
+#[cfg(of_the_library)]
+use library::guard::run;
+#[cfg(not(of_the_library))]
 use model::model::run;
-use model::sizes::{MEMORY_BYTES, NODE_BYTES};
-use model::store::Store;
 use std::borrow::Borrow;
 use std::ops::Range;
 
@@ -74,26 +79,14 @@ impl Bench {
     }
 
     pub fn write(&mut self, segment: u32, data: &[u8], handle: impl Into<HandleBytes>) -> u8 {
-        self.ask(
-            Call::Write {
-                segment,
-                handle: handle.into(),
-            },
-            &mut data.to_vec(),
-        )
-        .number
+        self.ask(Call::write(segment, handle), &mut data.to_vec())
+            .number
     }
 
     /// The bytes of a segment, or the number of the refusal.
     pub fn read(&mut self, segment: u32, handle: impl Into<HandleBytes>) -> Result<Vec<u8>, u8> {
         let mut buffer = vec![0xee; NODE_BYTES];
-        let reply = self.ask(
-            Call::Read {
-                segment,
-                handle: handle.into(),
-            },
-            &mut buffer,
-        );
+        let reply = self.ask(Call::read(segment, handle), &mut buffer);
         let (told, rest) = buffer.split_at(reply.length as usize);
         assert!(rest.iter().all(|&byte| byte == 0xee));
         match reply.number {
@@ -111,11 +104,7 @@ impl Bench {
         handle: impl Into<HandleBytes>,
     ) -> Result<Vec<u8>, u8> {
         let (before, mut buffer) = (self.clone(), [0xee; 3]);
-        let call = Call::Look {
-            node,
-            segment,
-            handle: handle.into(),
-        };
+        let call = Call::look(node, segment, handle);
         let reply = self.ask(&call, &mut buffer);
         assert!(*self == before && buffer == [0xee; 3], "{call:?}");
         let shown = reply.shown;
@@ -137,6 +126,15 @@ impl Bench {
             }
         }
     }
+}
+
+/// A store with cluster 3 of node 1, which has one segment.
+pub fn store_of(width: Width) -> Store {
+    let mut store = Store::starting();
+    let cluster = &mut store.clusters[1][3];
+    *cluster = Cluster::new(width, READ_SECRET, WRITE_SECRET);
+    cluster.segments[0] = Segment::present(10, 20);
+    store
 }
 
 /// Makes a store unsound where no call of these tests is about: an inactive cluster has a width.
@@ -214,12 +212,7 @@ pub fn new_segment(segment: u32, size: u32) -> Call {
 }
 
 pub fn new_segment_of(width: Width, segment: u32, size: u32) -> Call {
-    Call::NewSegment {
-        node: 0,
-        segment,
-        size,
-        handle: writer_of(width).into(),
-    }
+    Call::new_segment(0, segment, size, writer_of(width))
 }
 
 pub fn delete_segment(segment: u32) -> Call {
@@ -227,11 +220,7 @@ pub fn delete_segment(segment: u32) -> Call {
 }
 
 pub fn delete_segment_of(width: Width, segment: u32) -> Call {
-    Call::DeleteSegment {
-        node: 0,
-        segment,
-        handle: writer_of(width).into(),
-    }
+    Call::delete_segment(0, segment, writer_of(width))
 }
 
 pub fn freeze(segment: u32) -> Call {
@@ -239,25 +228,13 @@ pub fn freeze(segment: u32) -> Call {
 }
 
 pub fn freeze_of(width: Width, segment: u32) -> Call {
-    Call::Freeze {
-        node: 0,
-        segment,
-        handle: writer_of(width).into(),
-    }
+    Call::freeze(0, segment, writer_of(width))
 }
 
 pub fn renew(mode: u32, handle: impl Into<HandleBytes>, password: Password) -> Call {
-    Call::NewPassword {
-        mode,
-        handle: handle.into(),
-        password,
-    }
+    Call::new_password(mode, handle, password)
 }
 
 pub fn join(mode: u32, handle: impl Into<HandleBytes>, other: impl Into<HandleBytes>) -> Call {
-    Call::Join {
-        mode,
-        handle: handle.into(),
-        other: other.into(),
-    }
+    Call::join(mode, handle, other)
 }

@@ -1,8 +1,7 @@
 //! What weakening has to come to, counted segment by segment and without sets of bits.
 #![allow(dead_code)] // each test file uses its own part
 
-use model::handle::Width;
-use model::random::Random;
+use super::*;
 
 /// Whether bit `segment` of `number` is set, by halving.
 pub fn has(number: u16, segment: u32) -> bool {

@@ -2,10 +2,7 @@
 //! and where they are equal: what each has to be refused with is known from the set alone.
 #![allow(dead_code)] // each test file uses its own part
 
-use super::{cut, make_unsound, others};
-use model::call::Call;
-use model::handle::{Handle, Password, Selector, Width};
-use model::store::{Cluster, Mode, Segment, Store};
+use super::*;
 
 /// The cluster whose password is replaced where nothing is wrong.
 pub const NODE: u16 = 2;
@@ -105,11 +102,7 @@ fn with(choices: [usize; 13]) -> Renewed {
             .map(|(_, number)| *number)
             .collect(),
         store,
-        call: Call::NewPassword {
-            mode: [1, 2, 0, 3][2 * field + write],
-            handle,
-            password,
-        },
+        call: Call::new_password([1, 2, 0, 3][2 * field + write], handle, password),
         mode,
         width,
         password,

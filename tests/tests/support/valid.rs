@@ -1,12 +1,33 @@
 //! Calls by handles that open the cluster they name, and what comes of them.
 #![allow(dead_code)] // each test file uses its own part
 
-use super::{renew, Bench, READ_MODE, WRITE_MODE};
-use model::call::{Call, Reply};
-use model::handle::{Handle, Password, Width};
-use model::random::Random;
-use model::store::{Mode, Segment};
+use super::*;
 use std::ops::Range;
+
+/// As long as any segment.
+pub const BUFFER_BYTES: usize = 40;
+/// A cluster that is set apart, and one beside it, both of node 0.
+pub const APART: usize = 0;
+pub const BESIDE: usize = 1;
+
+/// The two, each of a width by chance and with two segments, the first and the last, in a memory of bytes by chance;
+/// some are frozen, if they may be.
+pub fn two_clusters(random: &mut Random, frozen: bool) -> Bench {
+    let mut start = Bench::starting();
+    start.memory.fill_with(|| random.byte());
+    for local in [APART, BESIDE] {
+        let width = any_width(random);
+        let mut cluster = Cluster::new(width, random.bytes(), random.bytes());
+        for (at, segment) in [0, width.segments() - 1].into_iter().enumerate() {
+            let base = (2 * at + local) * BUFFER_BYTES;
+            let length = 1 + random.below(BUFFER_BYTES as u64);
+            cluster.segments[segment] = Segment::present(base as u16, length as u16);
+            cluster.segments[segment].frozen = frozen && random.one_in(3);
+        }
+        start.store.clusters[0][local] = cluster;
+    }
+    start
+}
 
 /// One of the three.
 pub fn any_width(random: &mut Random) -> Width {

@@ -50,11 +50,11 @@ fn named(what: &'static str) -> impl Fn(String) -> String {
 /// the tally tells.
 fn compare(task: &Task, tally: &mut Tally) -> Result<Vec<String>, String> {
     let Task { seed, calls } = *task;
-    single::compare(guard::ask, seed, calls, tally).map_err(named("single calls"))?;
+    single::compare(&guard::ask, seed, calls, tally).map_err(named("single calls"))?;
     println!("single calls: {calls}, each with a soundness and a conversion");
 
     let count = calls.div_ceil(RUN_CALLS);
-    runs::compare(guard::ask, seed, count, tally).map_err(named("long rows"))?;
+    runs::compare(&guard::ask, seed, count, tally).map_err(named("long rows"))?;
     let in_rows = count * RUN_CALLS;
     println!("long rows: {count}, with {in_rows} calls");
     let not_frozen = what_is_frozen(task)?;
@@ -62,13 +62,13 @@ fn compare(task: &Task, tally: &mut Tally) -> Result<Vec<String>, String> {
     edges(seed)?;
 
     let joins = calls.div_ceil(CALLS_PER_JOIN);
-    let done = laws::compare(guard::ask, seed, joins).map_err(named("laws of joins"))?;
+    let done = laws::compare(&guard::ask, seed, joins).map_err(named("laws of joins"))?;
     println!("laws of joins: {joins} joins, {done} of them done");
     let not_told = new_passwords(task)?;
 
     let count = calls.div_ceil(CALLS_PER_BATCH);
     let validations =
-        batch::compare(guard::validate_all, seed, count, tally).map_err(named("batches"))?;
+        batch::compare(&guard::validate_all, seed, count, tally).map_err(named("batches"))?;
     println!("batches: {count}, with {validations} validations");
 
     let not_copied = two_copies(task)?;
@@ -82,7 +82,7 @@ fn compare(task: &Task, tally: &mut Tally) -> Result<Vec<String>, String> {
 fn what_is_frozen(task: &Task) -> Result<Vec<String>, String> {
     let rows = task.calls.div_ceil(RUN_CALLS);
     let count =
-        stays::compare(guard::ask, task.seed, rows).map_err(named("what is frozen stays"))?;
+        stays::compare(&guard::ask, task.seed, rows).map_err(named("what is frozen stays"))?;
     println!(
         "what is frozen stays: {rows} rows, with {} frozen segments, {} calls done, {} refused with 22",
         count.frozen, count.done, count.refused
@@ -92,7 +92,7 @@ fn what_is_frozen(task: &Task) -> Result<Vec<String>, String> {
 
 fn new_passwords(task: &Task) -> Result<Vec<String>, String> {
     let pairs = task.calls.div_ceil(CALLS_PER_IMAGES);
-    let count = untold::compare(guard::ask, task.seed, pairs)
+    let count = untold::compare(&guard::ask, task.seed, pairs)
         .map_err(named("new passwords in two images"))?;
     println!(
         "new passwords in two images: {pairs} pairs, with {} calls, {} of them done, {} refused with 12",
@@ -110,44 +110,44 @@ fn new_passwords(task: &Task) -> Result<Vec<String>, String> {
 }
 
 fn edges(seed: u64) -> Result<(), String> {
-    let images = edges::every_byte(guard::is_sound, seed).map_err(named("every byte"))?;
+    let images = edges::every_byte(&guard::is_sound, seed).map_err(named("every byte"))?;
     println!("images with one byte changed: {images}");
     let (images, sound) =
-        edges::pairs_at_words(guard::is_sound, seed).map_err(named("pairs at words"))?;
+        edges::pairs_at_words(&guard::is_sound, seed).map_err(named("pairs at words"))?;
     println!(
         "images with two segments about the borders of words: {images}, {sound} of them sound"
     );
-    let (looks, done) = edges::looks(guard::ask, seed).map_err(named("edges of looks"))?;
+    let (looks, done) = edges::looks(&guard::ask, seed).map_err(named("edges of looks"))?;
     println!("looks at the edges: {looks}, {done} of them done");
-    let (freezes, done) = edges::freezes(guard::ask, seed).map_err(named("edges of freezes"))?;
+    let (freezes, done) = edges::freezes(&guard::ask, seed).map_err(named("edges of freezes"))?;
     println!("freezes at the edges: {freezes}, {done} of them done");
-    let (joins, done) = edges::joins(guard::ask, seed).map_err(named("edges of joins"))?;
+    let (joins, done) = edges::joins(&guard::ask, seed).map_err(named("edges of joins"))?;
     println!("joins at the edges: {joins}, {done} of them done");
     edges_of_widths(seed)
 }
 
 fn edges_of_widths(seed: u64) -> Result<(), String> {
-    let (calls, done) = edges::lengths(guard::ask, seed).map_err(named("lengths of handles"))?;
+    let (calls, done) = edges::lengths(&guard::ask, seed).map_err(named("lengths of handles"))?;
     println!("calls with handles of every length: {calls}, {done} of them done");
     let (lengths, made) =
-        edges::handles(guard::handle_of, seed).map_err(named("handles from bytes"))?;
+        edges::handles(&guard::handle_of, seed).map_err(named("handles from bytes"))?;
     println!("handles from bytes of every length: {lengths}, {made} of them handles'");
-    let (calls, done) = edges::segments(guard::ask, seed).map_err(named("segments by width"))?;
+    let (calls, done) = edges::segments(&guard::ask, seed).map_err(named("segments by width"))?;
     println!("calls by handles of every width, about every segment: {calls}, {done} of them done");
-    let (calls, done) = edges::masks(guard::ask, seed).map_err(named("masks"))?;
+    let (calls, done) = edges::masks(&guard::ask, seed).map_err(named("masks"))?;
     println!("weakenings by every mask: {calls}, {done} of them done");
     let (calls, done) =
-        edges::new_clusters(guard::ask, seed).map_err(named("widths of new clusters"))?;
+        edges::new_clusters(&guard::ask, seed).map_err(named("widths of new clusters"))?;
     println!("new clusters of every width: {calls}, {done} of them done");
     let batches =
-        batch::every_width(guard::validate_all, seed).map_err(named("widths of batches"))?;
+        batch::every_width(&guard::validate_all, seed).map_err(named("widths of batches"))?;
     println!("batches of every width: {batches}");
     Ok(())
 }
 
 fn two_copies(task: &Task) -> Result<Vec<String>, String> {
     let pairs = task.calls.div_ceil(CALLS_PER_PAIR);
-    let count = copies::compare(guard::ask, task.seed, pairs).map_err(named("two copies"))?;
+    let count = copies::compare(&guard::ask, task.seed, pairs).map_err(named("two copies"))?;
     println!(
         "two copies: {pairs} pairs, with {} calls, {} of them done, {} naming the cluster set apart",
         count.calls, count.done, count.naming
@@ -184,7 +184,7 @@ fn two_copies(task: &Task) -> Result<Vec<String>, String> {
 
 fn writers(task: &Task) -> Result<Vec<String>, String> {
     let pairs = task.calls.div_ceil(CALLS_PER_WRITERS);
-    let count = writers::compare(guard::ask, task.seed, pairs).map_err(named("writers"))?;
+    let count = writers::compare(&guard::ask, task.seed, pairs).map_err(named("writers"))?;
     println!(
         "writers: {pairs} pairs, with {} calls, {} of them done, {} by handles that open the cluster for writing",
         count.calls, count.done, count.by_writers

@@ -55,20 +55,12 @@ impl Fault {
 impl Maker<'_> {
     pub(super) fn look(&mut self) -> Call {
         let aimed = self.aimed(Mode::Read);
-        Call::Look {
-            node: aimed.node,
-            segment: aimed.segment,
-            handle: aimed.bytes(self.random),
-        }
+        Call::look(aimed.node, aimed.segment, aimed.bytes(self.random))
     }
 
     pub(super) fn freeze(&mut self) -> Call {
         let aimed = self.aimed(Mode::Write);
-        Call::Freeze {
-            node: aimed.node,
-            segment: aimed.segment,
-            handle: aimed.bytes(self.random),
-        }
+        Call::freeze(aimed.node, aimed.segment, aimed.bytes(self.random))
     }
 
     /// What needs a write handle needs a primary one.

@@ -23,11 +23,7 @@ impl Maker<'_> {
             true => right,
             false => no_mode(self.random, right),
         };
-        Call::Join {
-            mode,
-            handle,
-            other,
-        }
+        Call::join(mode, handle, other)
     }
 
     /// The second handle is mostly one that was given for the cluster of the first.
@@ -42,11 +38,7 @@ impl Maker<'_> {
             Some(other) => *other,
             None => self.handle(mode, false, true),
         };
-        Call::Join {
-            mode: number,
-            handle: self.presented(&handle),
-            other: self.presented(&other),
-        }
+        Call::join(number, self.presented(&handle), self.presented(&other))
     }
 }
 

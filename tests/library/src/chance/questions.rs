@@ -196,78 +196,60 @@ impl Maker<'_> {
     fn delete_cluster(&mut self) -> Call {
         let segments = self.random.one_in(2);
         let handle = self.handle(Mode::Write, true, segments);
-        Call::DeleteCluster {
-            node: self.current_node(&handle),
-            handle: self.presented(&handle),
-        }
+        Call::delete_cluster(self.current_node(&handle), self.presented(&handle))
     }
 
     fn new_segment(&mut self) -> Call {
         let segments = self.random.one_in(2);
         let handle = self.handle(Mode::Write, true, segments);
         let present = self.random.one_in(10);
-        Call::NewSegment {
-            node: self.current_node(&handle),
-            segment: self.segment(&handle, present),
-            size: self.size(&handle),
-            handle: self.presented(&handle),
-        }
+        Call::new_segment(
+            self.current_node(&handle),
+            self.segment(&handle, present),
+            self.size(&handle),
+            self.presented(&handle),
+        )
     }
 
     fn delete_segment(&mut self) -> Call {
         let handle = self.handle(Mode::Write, true, true);
         let present = !self.random.one_in(8);
-        Call::DeleteSegment {
-            node: self.current_node(&handle),
-            segment: self.segment(&handle, present),
-            handle: self.presented(&handle),
-        }
+        Call::delete_segment(
+            self.current_node(&handle),
+            self.segment(&handle, present),
+            self.presented(&handle),
+        )
     }
 
     fn read(&mut self) -> Call {
         let handle = self.handle(Mode::Read, false, true);
         let present = !self.random.one_in(8);
-        Call::Read {
-            segment: self.segment(&handle, present),
-            handle: self.presented(&handle),
-        }
+        Call::read(self.segment(&handle, present), self.presented(&handle))
     }
 
     fn write(&mut self) -> Call {
         let handle = self.handle(Mode::Write, false, true);
         let present = !self.random.one_in(8);
-        Call::Write {
-            segment: self.segment(&handle, present),
-            handle: self.presented(&handle),
-        }
+        Call::write(self.segment(&handle, present), self.presented(&handle))
     }
 
     fn reduce(&mut self) -> Call {
         let (mode, number) = self.mode();
         let handle = self.handle(mode, false, true);
-        Call::Reduce {
-            mode: number,
-            handle: self.presented(&handle),
-        }
+        Call::reduce(number, self.presented(&handle))
     }
 
     fn validate(&mut self) -> Call {
         let (mode, number) = self.mode();
         let handle = self.handle(mode, false, true);
-        Call::Validate {
-            mode: number,
-            handle: self.presented(&handle),
-        }
+        Call::validate(number, self.presented(&handle))
     }
 
     fn new_password(&mut self) -> Call {
         let (mode, number) = self.mode();
         let handle = self.handle(mode, true, true);
-        Call::NewPassword {
-            mode: number,
-            password: self.next_password(&handle),
-            handle: self.presented(&handle),
-        }
+        let password = self.next_password(&handle);
+        Call::new_password(number, self.presented(&handle), password)
     }
 
     /// Often one of those that the handle's cluster has already, or one bit off.

@@ -166,13 +166,7 @@ pub fn active(random: &mut Random) -> Cluster {
 
 pub fn active_of(random: &mut Random, width: Width) -> Cluster {
     let (read, write) = passwords(random);
-    Cluster {
-        active: true,
-        width: width.number(),
-        read,
-        write,
-        ..Cluster::INACTIVE
-    }
+    Cluster::new(width, read, write)
 }
 
 /// The active clusters' segments, as local number and segment, in any order.

@@ -5,7 +5,6 @@ use crate::question::{Answer, Question};
 use model::call::Call;
 use model::handle::{Handle, Width};
 use model::renewals::Renewal;
-use model::sizes::MEMORY_BYTES;
 use model::store::{Mode, Store};
 use model::table::{Found, FROZEN, LENGTH};
 
@@ -133,11 +132,7 @@ impl Count {
     /// What is met in the two copies differs where the cluster set apart is concerned, and there alone.
     fn note_passwords(&mut self, stores: &[Store; 2], question: &Question, answer: &Answer) {
         let [first, second] = stores.each_ref().map(|store| {
-            let found = Found {
-                store,
-                memory_bytes: MEMORY_BYTES,
-                buffer_bytes: question.buffer.len(),
-            };
+            let found = Found::whole(store, question.buffer.len());
             Renewal::of(&found, &question.call, answer.reply.number)
         });
         self.guessed += u64::from(first != second);

@@ -7,7 +7,7 @@ use model::handle::Width;
 use model::table::{DONE, LENGTH};
 
 /// Something that makes a handle of bytes; [`crate::guard::handle_of`] is the one to be compared.
-pub type Maker = fn(&[u8]) -> (u8, gelmuszta_handle);
+pub type Maker<'a> = &'a dyn Fn(&[u8]) -> (u8, gelmuszta_handle);
 
 /// Lengths are tried up to so many, where one more byte is begun twice over.
 const MOST_BYTES: usize = 600;

@@ -62,11 +62,7 @@ impl Arguments {
         let [handle, other] = self.handles.map(|handle| handle.to_bytes());
         Question {
             beyond: self.mode,
-            ..Question::of(Call::Join {
-                mode: narrow(self.mode),
-                handle,
-                other,
-            })
+            ..Question::of(Call::join(narrow(self.mode), handle, other))
         }
     }
 }

@@ -24,7 +24,7 @@ pub use widths::{lengths, masks, new_clusters, segments};
 
 /// Something that tells whether an image holds a sound store; [`crate::guard::is_sound`] is the one
 /// to be compared.
-pub type Judge = fn(&mut Image) -> bool;
+pub type Judge<'a> = &'a dyn Fn(&mut Image) -> bool;
 
 /// The first words of a node, those in its middle, and its last; 64 begins behind it.
 const WORDS: [usize; 10] = [0, 1, 2, 3, 31, 32, 33, 62, 63, 64];
@@ -239,21 +239,13 @@ fn around(right: usize, bound: usize) -> impl Iterator<Item = usize> {
 
 fn look(current: usize, segment: usize, handle: &Handle) -> Question {
     let (node, number) = (narrow(current), narrow(segment));
-    let call = Call::Look {
-        node,
-        segment: number,
-        handle: handle.to_bytes(),
-    };
+    let call = Call::look(node, number, handle.to_bytes());
     wide(call, current, segment)
 }
 
 fn freeze(current: usize, segment: usize, handle: &Handle) -> Question {
     let (node, number) = (narrow(current), narrow(segment));
-    let call = Call::Freeze {
-        node,
-        segment: number,
-        handle: handle.to_bytes(),
-    };
+    let call = Call::freeze(node, number, handle.to_bytes());
     wide(call, current, segment)
 }
 

@@ -11,13 +11,14 @@ mod calls;
 pub mod handles;
 
 use crate::ffi::{self, gelmuszta_handle, gelmuszta_image, gelmuszta_memory, gelmuszta_password};
-use crate::image::Image;
+use crate::image::{decode, encode, Image};
 use crate::question::{Answer, Held, Memory, Question, BEYOND};
 use calls::weaken;
 use handles::Presented;
 use model::call::{Call, Reply};
 use model::handle::Password;
 use model::sizes::PASSWORD_BYTES;
+use model::store::Store;
 use std::ptr::{from_mut, from_ref};
 
 /// What outputs hold before the call, so that one that is not written is seen.
@@ -103,6 +104,30 @@ pub fn ask(held: &mut Held, question: &Question) -> Answer {
     let presented = Presented::of(&question.call, &question.behind);
     let reply = lent.run(&question.call, &presented, question.beyond);
     Answer { reply, buffer }
+}
+
+/// Runs a call as the model does: on a store, a memory and a buffer, which hold afterwards what the library leaves. A
+/// memory of another length cannot be lent, nor a handle whose length is no byte: the model answers then.
+pub fn run(store: &mut Store, memory: &mut [u8], buffer: &mut [u8], call: &Call) -> Reply {
+    let mut lengths = call.presented_bytes().map(<[u8]>::len);
+    let (true, Ok(lent)) = (
+        lengths.all(|length| u8::try_from(length).is_ok()),
+        Memory::try_from(&*memory),
+    ) else {
+        return model::model::run(store, memory, buffer, call);
+    };
+    let mut held = Held {
+        image: encode(store),
+        memory: lent,
+    };
+    let mut question = Question::of(call.clone());
+    question.buffer = buffer.to_vec();
+    let answer = ask(&mut held, &question);
+    *store = decode(&held.image).expect("the library leaves a store");
+    assert_eq!(encode(store), held.image);
+    memory.copy_from_slice(&held.memory);
+    buffer.copy_from_slice(&answer.buffer);
+    answer.reply
 }
 
 /// What one call gets: image, memory, and a read's buffer or a write's data.

@@ -1,251 +1,153 @@
-//! That the comparison can fail: guards that are wrong in one way each, all of them found out.
-//! Each wraps the library, and changes either what the library is asked or what it answers.
+//! Document 01: wrong answers, wrong bytes left, arguments that are cut, batches, two copies, published handles.
 
-use library::compare::Guard;
-use library::image::{
-    record_at, IMAGE_BYTES, LENGTH_AT, MARK_AT, READ_AT, RECORD_BYTES, SEGMENTS_AT, SEGMENT_BYTES,
-};
-use library::question::Question;
-use library::tally::Tally;
-use library::{guard, runs, single};
-use model::call::Call;
-use model::sizes::MEMORY_BYTES;
-use model::table::{ABSENT, SHORT, VIOLATED_PROTECTION};
-
-const SEED: u64 = 7;
-const CALLS: u64 = 20_000;
-const RUNS: u64 = 20;
-
-/// What comparing single calls and long rows says of a guard.
-fn compared(guard: Guard) -> Result<(), String> {
-    let mut tally = Tally::default();
-    single::compare(guard, SEED, CALLS, &mut tally)?;
-    runs::compare(guard, SEED, RUNS, &mut tally)
-}
-
-fn found_out(guard: Guard, what: &str) {
-    let told = compared(guard).expect_err(what);
-    assert!(told.starts_with("case "), "{told}");
-    assert!(told.contains(what), "{told}");
-}
+use crate::words::*;
+use library::published;
 
 #[test]
 fn the_library_is_not_found_out() {
-    assert_eq!(compared(guard::ask), Ok(()));
+    run("the library", &right(), &not_by([By::Single, By::Runs]));
 }
 
-// Wrong answers.
+table! {
+    another_number: at(14, |it| it.reply.number = 9) => told([REPLIES]);
+    another_count: after(|it| it.reply.count = it.reply.count.min(7)) => told([REPLIES]);
+    a_refusal_that_gives_a_handle: at(9, |it| it.reply.first = vec![0; 23]) => told([MORE]);
+    a_buffer_cleared_behind_the_segment: on(READ, 0, |it| it.buffer[it.reply.length as usize..].fill(0))
+        => told([BUFFERS]);
+    bytes_read_before_the_refusal: on(READ, 15, |it| it.buffer.fill(0)) => told([REFUSAL_CHANGES, BUFFERS]);
+    a_new_segment_with_the_former_bytes: on(NEW_SEGMENT, 0, |it| it.held.memory = it.before.memory.clone())
+        => told([MEMORIES]);
+    a_write_of_one_byte_too_many: on(WRITE, 0, |it| it.held.memory[MEMORY_BYTES - 1] ^= 1) => told([MEMORIES]);
+    a_deleted_cluster_that_keeps_a_password: on(DELETE_CLUSTER, 0, |it| {
+        let read = it.record().start + READ_AT;
+        it.held.image[read] = it.before.image[read];
+    }) => told([IMAGES]);
+    a_refusal_that_changes_the_image: at(9, |it| it.held.image[IMAGE_BYTES - 1] ^= 1)
+        => told([REFUSAL_CHANGES, IMAGES]);
+    a_buffer_that_just_fits_taken_for_short: asked(|held, question| {
+        let mut smaller = question.clone();
+        smaller.buffer.pop();
+        let mut answer = guard::ask(held, &smaller);
+        answer.buffer.extend(question.buffer.last());
+        answer
+    }) => told([REPLIES]);
+}
 
-#[test]
-fn another_number() {
-    found_out(
-        |held, question| {
-            let mut answer = guard::ask(held, question);
-            if answer.reply.number == ABSENT {
-                answer.reply.number = VIOLATED_PROTECTION;
+/// Takes an image for another, and leaves it so.
+fn imaging(change: fn(&mut Image)) -> Wrong {
+    asked(move |held, question| {
+        change(&mut held.image);
+        guard::ask(held, question)
+    })
+}
+
+fn active_bytes_mended(image: &mut Image) {
+    for record in image.chunks_exact_mut(RECORD_BYTES) {
+        record[0] = record[0].min(1);
+    }
+}
+
+fn bases_of_absent_segments_cleared(image: &mut Image) {
+    for record in image.chunks_exact_mut(RECORD_BYTES) {
+        for place in record[SEGMENTS_AT..].chunks_exact_mut(SEGMENT_BYTES) {
+            if place[LENGTH_AT..MARK_AT] == [0, 0] {
+                place[..LENGTH_AT].fill(0);
             }
-            answer
-        },
-        "the replies differ",
-    );
+        }
+    }
 }
 
-#[test]
-fn another_count() {
-    found_out(
-        |held, question| {
-            let mut answer = guard::ask(held, question);
-            answer.reply.count = answer.reply.count.min(7);
-            answer
-        },
-        "the replies differ",
-    );
+// Damage that is overlooked, and arguments that are cut.
+table! {
+    any_active_byte_taken_for_active: imaging(active_bytes_mended) => by(By::Single, [Says("differ")]);
+    bases_of_absent_segments_overlooked: imaging(bases_of_absent_segments_cleared) => by(By::Single, [Says("differ")]);
+    numbers_cut_to_four_bytes: cut_to(4) => told([REPLIES]);
+    numbers_cut_to_six_bytes: cut_to(6) => told([REPLIES]);
+    segments_cut_to_one_byte: asking(|question| {
+        if let Call::Read { segment, .. } | Call::Write { segment, .. } = &mut question.call {
+            *segment &= 0xff;
+        }
+    }) => told([REPLIES]);
 }
 
-#[test]
-fn a_refusal_that_gives_a_handle() {
-    found_out(
-        |held, question| {
-            let mut answer = guard::ask(held, question);
-            if answer.reply.number == VIOLATED_PROTECTION {
-                answer.reply.first = vec![0; 23];
-            }
-            answer
-        },
-        "a refusal gives more than its number",
-    );
-}
+/// Modes of one call that are cut: to one byte, and to four where no four bytes hold them.
+mod modes {
+    use super::*;
 
-#[test]
-fn a_buffer_cleared_behind_the_segment() {
-    found_out(
-        |held, question| {
-            let mut answer = guard::ask(held, question);
-            if let (Call::Read { .. }, true) = (&question.call, answer.reply.is_done()) {
-                answer.buffer[answer.reply.length as usize..].fill(0);
-            }
-            answer
-        },
-        "the buffers differ",
-    );
-}
-
-#[test]
-fn bytes_read_before_the_refusal() {
-    found_out(
-        |held, question| {
-            let mut answer = guard::ask(held, question);
-            if let (Call::Read { .. }, SHORT) = (&question.call, answer.reply.number) {
-                answer.buffer.fill(0);
-            }
-            answer
-        },
-        "a refusal changes something: the buffers differ",
-    );
-}
-
-// Wrong memory and wrong records.
-
-#[test]
-fn a_new_segment_with_the_former_bytes() {
-    found_out(
-        |held, question| {
-            let before = held.memory.clone();
-            let answer = guard::ask(held, question);
-            if let Call::NewSegment { .. } = question.call {
-                held.memory = before;
-            }
-            answer
-        },
-        "the memories differ",
-    );
-}
-
-#[test]
-fn a_write_of_one_byte_too_many() {
-    found_out(
-        |held, question| {
-            let answer = guard::ask(held, question);
-            if let (Call::Write { .. }, true) = (&question.call, answer.reply.is_done()) {
-                held.memory[MEMORY_BYTES - 1] ^= 1;
-            }
-            answer
-        },
-        "the memories differ",
-    );
-}
-
-#[test]
-fn a_deleted_cluster_that_keeps_a_password() {
-    found_out(
-        |held, question| {
-            let before = held.image;
-            let answer = guard::ask(held, question);
-            let handle = question.call.handle();
-            if let (Call::DeleteCluster { .. }, Some(handle), true) =
-                (&question.call, handle, answer.reply.is_done())
-            {
-                let read = record_at(handle.node.into(), handle.local.into()).start + READ_AT;
-                held.image[read] = before[read];
-            }
-            answer
-        },
-        "the images differ",
-    );
-}
-
-#[test]
-fn a_refusal_that_changes_the_image() {
-    found_out(
-        |held, question| {
-            let answer = guard::ask(held, question);
-            if answer.reply.number == VIOLATED_PROTECTION {
-                held.image[IMAGE_BYTES - 1] ^= 1;
-            }
-            answer
-        },
-        "a refusal changes something: the images differ",
-    );
-}
-
-// Damage that is overlooked and arguments that are cut.
-
-fn cut_below(question: &Question, bytes: usize) -> Question {
-    let mut cut = question.clone();
-    cut.beyond &= (1 << (8 * bytes)) - 1;
-    cut
-}
-
-#[test]
-fn numbers_cut_to_four_bytes() {
-    found_out(
-        |held, question| guard::ask(held, &cut_below(question, 4)),
-        "the replies differ",
-    );
-}
-
-#[test]
-fn numbers_cut_to_six_bytes() {
-    found_out(
-        |held, question| guard::ask(held, &cut_below(question, 6)),
-        "the replies differ",
-    );
-}
-
-#[test]
-fn segments_cut_to_one_byte() {
-    found_out(
-        |held, question| {
-            let mut cut = question.clone();
-            if let Call::Read { segment, .. } | Call::Write { segment, .. } = &mut cut.call {
-                *segment &= 0xff;
-            }
-            guard::ask(held, &cut)
-        },
-        "the replies differ",
-    );
-}
-
-#[test]
-fn any_active_byte_taken_for_active() {
-    found_out(
-        |held, question| {
-            for record in held.image.chunks_exact_mut(RECORD_BYTES) {
-                record[0] = record[0].min(1);
-            }
-            guard::ask(held, question)
-        },
-        "differ",
-    );
-}
-
-#[test]
-fn bases_of_absent_segments_overlooked() {
-    found_out(
-        |held, question| {
-            for record in held.image.chunks_exact_mut(RECORD_BYTES) {
-                for place in record[SEGMENTS_AT..].chunks_exact_mut(SEGMENT_BYTES) {
-                    if place[LENGTH_AT..MARK_AT] == [0, 0] {
-                        place[..LENGTH_AT].fill(0);
-                    }
+    fn one_byte(code: u8) -> Wrong {
+        asking(
+            move |question| match (question.code(), &mut question.call) {
+                (own, Call::Reduce { mode, .. } | Call::NewPassword { mode, .. })
+                | (own, Call::Join { mode, .. } | Call::Validate { mode, .. })
+                    if own == code && *mode != BEYOND =>
+                {
+                    *mode &= 0xff;
                 }
+                _ => {}
+            },
+        )
+    }
+
+    fn four_bytes(code: u8) -> Wrong {
+        asking(move |question| {
+            if question.code() == code {
+                question.beyond &= 0xffff_ffff;
             }
-            guard::ask(held, question)
-        },
-        "differ",
-    );
+        })
+    }
+
+    fn batch_mode(mask: usize) -> Wrong {
+        batch(move |held, (mode, width), handles, numbers| {
+            validate_all(held, (mode & mask, width), handles, numbers)
+        })
+    }
+
+    table! {
+        of_a_reduction_in_one_byte: one_byte(REDUCE) => told([REPLIES, Right(3), Asks(REDUCE)]);
+        of_a_reduction_in_four_bytes: four_bytes(REDUCE) => told([REPLIES, Right(3), Asks(REDUCE)]);
+        of_a_new_password_in_one_byte: one_byte(NEW_PASSWORD) => told([REPLIES, Right(3), Asks(NEW_PASSWORD)]);
+        of_a_new_password_in_four_bytes: four_bytes(NEW_PASSWORD) => told([REPLIES, Right(3), Asks(NEW_PASSWORD)]);
+        of_a_join_in_one_byte: one_byte(JOIN) => told([REPLIES, Right(3), Asks(JOIN)]);
+        of_a_join_in_four_bytes: four_bytes(JOIN) => told([REPLIES, Right(3), Asks(JOIN)]);
+        of_a_validation_in_one_byte: one_byte(VALIDATION) => told([REPLIES, Right(3), Asks(VALIDATION)]);
+        of_a_validation_in_four_bytes: four_bytes(VALIDATION) => told([REPLIES, Right(3), Asks(VALIDATION)]);
+        of_a_batch_in_one_byte: batch_mode(0xff) => by(By::Batches, [BATCH]);
+        of_a_batch_in_four_bytes: batch_mode(0xffff_ffff) => by(By::Batches, [BATCH]);
+    }
 }
 
-#[test]
-fn a_buffer_that_just_fits_taken_for_short() {
-    found_out(
-        |held, question| {
-            let mut smaller = question.clone();
-            smaller.buffer.pop();
-            let mut answer = guard::ask(held, &smaller);
-            answer.buffer.extend(question.buffer.last());
-            answer
-        },
-        "the replies differ",
-    );
+/// Two copies, batches and published handles, each for its own reason.
+mod copies {
+    use super::*;
+
+    table! {
+        an_answer_that_tells_a_secret: after(|it| {
+            it.reply.count = it.held.image.iter().map(|&byte| u32::from(byte)).sum();
+        }) => by(By::Copies, [REPLIES]);
+        a_cluster_set_apart_that_is_changed: after(|it| it.held.memory[..NODE_BYTES].fill(0))
+            => by(By::Copies, [Says("segments set apart")]);
+        /// The buffer is cleared, else a read would tell it before the list ends.
+        a_secret_byte_kept_elsewhere: after(|it| {
+            it.held.memory[NODE_BYTES] = it.held.memory[..NODE_BYTES].iter().fold(0, |sum, byte| sum ^ byte);
+            it.buffer.clear();
+        }) => by(By::Copies, [Says("memories of the copies differ")]);
+        a_batch_that_clears_the_other_places: batch(|held, how, handles, numbers| {
+            numbers.fill(0);
+            validate_all(held, how, handles, numbers)
+        }) => by(By::Batches, [BATCH]);
+        a_batch_that_counts_a_handle_cut_short:
+            batch(|held, how, handles, numbers| validate_all(held, how, handles, numbers).max(1))
+            => by(By::Batches, [Says("0 are due")]);
+    }
+
+    #[test]
+    fn a_published_line_with_another_digit() {
+        assert!(published::confirm(published::TEXT).is_ok());
+        for line in published::TEXT.lines().filter(|line| line.contains('=')) {
+            let (rest, last) = line.split_at(line.len() - 1);
+            let other = if last == "0" { "1" } else { "0" };
+            let told = published::confirm(&format!("{rest}{other}"));
+            assert!(told.is_err(), "{line}");
+        }
+    }
 }

@@ -1,240 +1,93 @@
-//! That the comparison finds out handles to nothing: libraries that give them, that refuse too much, or
-//! that look at 21 in another place.
+//! §1, handles to nothing: libraries that give them, that refuse too much, or that look at 21 in another place.
 
-use library::compare::{is_sound, Guard};
-use library::question::{Answer, Held, Question};
-use library::tally::Tally;
-use library::{guard, runs, single};
-use model::call::{Call, Reply};
-use model::handle::Handle;
-use model::table::{DONE, EMPTY, GAPPED, NO_SUCH_PLACE, SPENT, UNSOUND};
+use crate::words::*;
+use library::compare::is_sound;
 
-const SEED: u64 = 7;
-const CALLS: u64 = 20_000;
-const RUNS: u64 = 20;
+/// A weakening, and what it got.
+pub struct Weakened {
+    pub handle: Handle,
+    pub mask: u16,
+    pub reply: Reply,
+}
 
-/// Found out by single calls and by long rows, where the model gives `right` and the library `wrong`.
-fn found_out(guard: Guard, right: u8, wrong: u8) {
-    let mut tally = Tally::default();
-    let single = single::compare(guard, SEED, CALLS, &mut tally);
-    let runs = runs::compare(guard, SEED, RUNS, &mut tally);
-    for told in [single, runs] {
-        names(&told.expect_err("a library is wrong"), right, wrong);
+impl Weakened {
+    /// The mask leaves nothing.
+    fn is_empty(&self) -> bool {
+        self.handle.kept(self.mask) == 0
     }
-}
 
-fn names(told: &str, right: u8, wrong: u8) {
-    assert!(
-        told.contains(&format!("model:   number {right},")),
-        "{told}"
-    );
-    assert!(
-        told.contains(&format!("library: number {wrong},")),
-        "{told}"
-    );
-}
-
-/// The handle and the mask of a weakening.
-fn weakening(question: &Question) -> Option<(Handle, u16)> {
-    match question.call {
-        Call::Weaken { mask, .. } => Some((question.call.handle()?, mask)),
-        _ => None,
+    pub fn excludes_nothing(&self) -> bool {
+        self.handle.excluded(self.mask) == 0
     }
-}
 
-/// The library, if `other` replied where it has something to say about a weakening.
-fn instead(
-    held: &mut Held,
-    question: &Question,
-    other: fn(&Reply, Handle, u16) -> Option<Reply>,
-) -> Answer {
-    let Answer { reply, buffer } = guard::ask(held, question);
-    let replied = weakening(question).and_then(|(handle, mask)| other(&reply, handle, mask));
-    let reply = replied.unwrap_or(reply);
-    Answer { reply, buffer }
-}
-
-fn refused_if(applies: bool, number: u8) -> Option<Reply> {
-    applies.then_some(Reply::refused(number))
-}
-
-/// A handle to nothing, given as weakening gave it when nothing spoke against it.
-fn given_if(applies: bool, handle: Handle) -> Option<Reply> {
-    let first_flat = handle.selector.first_flat();
-    let mut weaker = handle;
-    if let (Some(at), 1..) = (first_flat, handle.selector.referenced()) {
-        let noted = handle.width().flat() - handle.selector.referenced();
-        weaker.selector.subselectors[at] = noted;
-        weaker.password = guard::convert(&handle.password, noted);
+    pub fn is_spent(&self) -> bool {
+        self.handle.selector.first_flat().is_none()
     }
-    applies.then_some(Reply::with_handle(&weaker))
-}
 
-// Handles that are given.
-
-#[test]
-fn nothing_left_and_a_handle_given() {
-    found_out(
-        |held, question| {
-            instead(held, question, |reply, handle, _| {
-                let something = handle.selector.referenced() != 0;
-                given_if(reply.number == EMPTY && something, handle)
-            })
-        },
-        EMPTY,
-        DONE,
-    );
-}
-
-#[test]
-fn nothing_left_looked_for_in_mask_0_alone() {
-    found_out(
-        |held, question| {
-            instead(held, question, |reply, handle, mask| {
-                given_if(reply.number == EMPTY && mask != 0, handle)
-            })
-        },
-        EMPTY,
-        DONE,
-    );
-}
-
-#[test]
-fn nothing_excluded_and_the_handle_given_back() {
-    found_out(
-        |held, question| {
-            instead(held, question, |reply, handle, mask| {
-                given_if(reply.number == EMPTY && handle.excluded(mask) == 0, handle)
-            })
-        },
-        EMPTY,
-        DONE,
-    );
-}
-
-// Another place.
-
-#[test]
-fn spent_first() {
-    found_out(
-        |held, question| {
-            instead(held, question, |reply, handle, mask| {
-                let spent = handle.excluded(mask) != 0 && handle.selector.first_flat().is_none();
-                refused_if(reply.number == EMPTY && spent, SPENT)
-            })
-        },
-        EMPTY,
-        SPENT,
-    );
-}
-
-#[test]
-fn empty_before_gapped() {
-    found_out(
-        |held, question| {
-            instead(held, question, |reply, handle, mask| {
-                refused_if(reply.number == GAPPED && handle.kept(mask) == 0, EMPTY)
-            })
-        },
-        GAPPED,
-        EMPTY,
-    );
-}
-
-#[test]
-fn empty_before_no_such_place() {
-    found_out(
-        |held, question| {
-            instead(held, question, |reply, handle, mask| {
-                let nowhere = reply.number == NO_SUCH_PLACE;
-                refused_if(nowhere && handle.kept(mask) == 0, EMPTY)
-            })
-        },
-        NO_SUCH_PLACE,
-        EMPTY,
-    );
-}
-
-#[test]
-fn a_damaged_store_looked_at_first() {
-    let guard: Guard = |held, question| {
-        let mut answer = guard::ask(held, question);
-        if answer.reply.number == EMPTY && !is_sound(held) {
-            answer.reply.number = UNSOUND;
+    /// A handle to nothing, given as weakening gave it when nothing spoke against it.
+    pub fn to_nothing(&self) -> Reply {
+        let mut weaker = self.handle;
+        let referenced = weaker.selector.referenced();
+        if let (Some(at), 1..) = (weaker.selector.first_flat(), referenced) {
+            let noted = weaker.width().flat() - referenced;
+            weaker.selector.subselectors[at] = noted;
+            weaker.password = guard::convert(&self.handle.password, noted);
         }
-        answer
-    };
-    let told = single::compare(guard, SEED, CALLS, &mut Tally::default());
-    names(&told.expect_err("a library is wrong"), EMPTY, UNSOUND);
+        Reply::with_handle(&weaker)
+    }
 }
 
-// Refusals of too much, and refusals that give something.
-
-#[test]
-fn one_segment_left_taken_for_none() {
-    found_out(
-        |held, question| {
-            instead(held, question, |reply, _, _| {
-                refused_if(reply.number == DONE && reply.count == 1, EMPTY)
-            })
-        },
-        DONE,
-        EMPTY,
-    );
+/// Replies as `other` has it to a weakening about which that has something to say.
+pub fn weakening(other: impl Fn(&Weakened) -> Option<Reply> + 'static) -> Wrong {
+    after(move |it| {
+        if let (Call::Weaken { mask, .. }, Some(handle)) =
+            (&it.question.call, it.question.call.handle())
+        {
+            let (mask, reply) = (*mask, it.reply.clone());
+            let weakened = Weakened {
+                handle,
+                mask,
+                reply,
+            };
+            it.reply = other(&weakened).unwrap_or(weakened.reply);
+        }
+    })
 }
 
-/// Whether it is done by a handle that references nothing.
-fn is_done_to_nothing(question: &Question, answer: &Answer) -> bool {
-    let handle = question.call.handle();
-    answer.reply.is_done() && handle.is_some_and(|handle| handle.selector.count() == 0)
+/// Gives a handle in the place of 21, where this applies.
+fn giving(applies: fn(&Weakened) -> bool) -> Wrong {
+    weakening(move |it| (it.reply.number == 21 && applies(it)).then(|| it.to_nothing()))
 }
 
-#[test]
-fn a_reduction_refused() {
-    found_out(
-        |held, question| {
-            let mut answer = guard::ask(held, question);
-            if matches!(question.call, Call::Reduce { .. }) && is_done_to_nothing(question, &answer)
-            {
-                answer.reply = Reply::refused(EMPTY);
-            }
-            answer
-        },
-        DONE,
-        EMPTY,
-    );
+/// Gives this number in the place of another, where this applies.
+fn refusing(right: u8, wrong: u8, applies: fn(&Weakened) -> bool) -> Wrong {
+    weakening(move |it| refused_if(it.reply.number == right && applies(it), wrong))
 }
 
-#[test]
-fn a_validation_refused() {
-    found_out(
-        |held, question| {
-            let mut answer = guard::ask(held, question);
-            if matches!(question.call, Call::Validate { .. })
-                && is_done_to_nothing(question, &answer)
-            {
-                answer.reply = Reply::refused(EMPTY);
-            }
-            answer
-        },
-        DONE,
-        EMPTY,
-    );
+/// Refuses a call with this code by a handle that references nothing.
+fn refused_to_nothing(code: u8) -> Wrong {
+    on(code, 0, |it| {
+        let handle = it.question.call.handle();
+        if handle.is_some_and(|handle| handle.selector.count() == 0) {
+            it.reply = Reply::refused(21);
+        }
+    })
 }
 
-#[test]
-fn a_refusal_that_gives_the_old_handle() {
-    let guard: Guard = |held, question| {
-        instead(held, question, |reply, handle, _| {
-            let given = Reply::with_handle(&handle);
-            let number = EMPTY;
-            (reply.number == EMPTY).then_some(Reply { number, ..given })
-        })
-    };
-    let told = single::compare(guard, SEED, CALLS, &mut Tally::default());
-    let told = told.expect_err("a handle is given");
-    assert!(
-        told.contains("a refusal gives more than its number"),
-        "{told}"
-    );
+table! {
+    nothing_left_and_a_handle_given: giving(|it| it.handle.selector.referenced() != 0) => numbers(WEAKEN, 21, 0);
+    nothing_left_looked_for_in_mask_0_alone: giving(|it| it.mask != 0) => numbers(WEAKEN, 21, 0);
+    nothing_excluded_and_the_handle_given_back: giving(Weakened::excludes_nothing) => numbers(WEAKEN, 21, 0);
+    spent_first: refusing(21, 17, |it| !it.excludes_nothing() && it.is_spent()) => numbers(WEAKEN, 21, 17);
+    empty_before_gapped: refusing(4, 21, Weakened::is_empty) => numbers(WEAKEN, 4, 21);
+    empty_before_no_such_place: refusing(2, 21, Weakened::is_empty) => numbers(WEAKEN, 2, 21);
+    a_damaged_store_looked_at_first: at(21, |it| it.reply.number -= 20 * u8::from(!is_sound(it.held)))
+        => by(By::Single, [Right(21), Gives(1)]);
+    one_segment_left_taken_for_none: refusing(0, 21, |it| it.reply.count == 1) => numbers(WEAKEN, 0, 21);
+    a_reduction_refused: refused_to_nothing(REDUCE) => numbers(REDUCE, 0, 21);
+    a_validation_refused: refused_to_nothing(VALIDATION) => numbers(VALIDATION, 0, 21);
+    a_refusal_that_gives_the_old_handle: weakening(|it| {
+        let given = Reply::with_handle(&it.handle);
+        (it.reply.number == 21).then_some(Reply { number: 21, ..given })
+    }) => by(By::Single, [MORE]);
 }

@@ -1,54 +1,15 @@
-//! A question as a wrong library sees it, and what the comparison has to tell of that library.
+//! A question as a wrong library sees it.
 
-use library::compare::Guard;
-use library::image::decode;
+use library::guard;
+use library::image::{decode, encode};
 use library::pairs::parts_of;
-use library::question::{Answer, Held, Question};
-use library::tally::Tally;
-use library::{guard, runs, single};
+use library::question::{Held, Question};
 use model::call::{Call, Reply};
 use model::handle::Handle;
 use model::sizes::{CLUSTERS, NODES};
-use model::store::{Cluster, Segment, Store};
+use model::store::{Cluster, Mode, Segment, Store};
 
-pub const SEED: u64 = 7;
-pub const CALLS: u64 = 40_000;
-pub const RUNS: u64 = 120;
-
-/// What single calls and long rows say of a guard.
-pub fn told_twice(guard: Guard) -> [String; 2] {
-    let mut tally = Tally::default();
-    let single = single::compare(guard, SEED, CALLS, &mut tally);
-    let runs = runs::compare(guard, SEED, RUNS, &mut tally);
-    [single, runs].map(|told| told.expect_err("a library is wrong"))
-}
-
-/// Found out by both, by a call of this name, and for this reason.
-pub fn found_out(guard: Guard, call: &str, what: &str) {
-    for told in told_twice(guard) {
-        assert!(told.contains(&format!("asked:   {call}")), "{told}");
-        assert!(told.contains(what), "{told}");
-    }
-}
-
-/// Found out by both, by a call of this name, where the model gives `right` and the library `wrong`.
-pub fn numbers_differ(guard: Guard, call: &str, right: u8, wrong: u8) {
-    for told in told_twice(guard) {
-        names(&told, call, right, wrong);
-    }
-}
-
-pub fn names(told: &str, call: &str, right: u8, wrong: u8) {
-    for what in [
-        format!("asked:   {call} "),
-        format!("model:   number {right},"),
-        format!("library: number {wrong},"),
-    ] {
-        assert!(told.contains(&what), "{told}");
-    }
-}
-
-/// A question about a segment, by a handle of one of the three lengths, and what it is put to.
+/// A question by a handle of one of the three lengths, and what it is put to.
 pub struct Seen {
     pub store: Option<Store>,
     /// The current node, the handle's where the call has none.
@@ -72,10 +33,19 @@ impl Seen {
         })
     }
 
-    /// The cluster that the handle names.
+    /// Node and local number of the cluster that the handle names.
+    fn place(&self) -> (usize, usize) {
+        (self.handle.node.into(), self.handle.local.into())
+    }
+
     pub fn cluster(&self) -> Option<Cluster> {
-        let (node, local) = (self.handle.node.into(), self.handle.local.into());
+        let (node, local) = self.place();
         self.store.as_ref()?.cluster(node, local).copied()
+    }
+
+    /// That cluster, where it is active.
+    pub fn active(&self) -> Option<Cluster> {
+        self.cluster().filter(|cluster| cluster.active)
     }
 
     /// The segment of that cluster.
@@ -92,18 +62,15 @@ impl Seen {
 
     /// Those of all segments of that cluster.
     pub fn in_the_cluster(&self) -> Vec<&[u8]> {
-        let place = (self.handle.node.into(), self.handle.local.into());
         let store = self.store.as_ref().filter(|_| self.cluster().is_some());
-        let parts = store
-            .map(|store| parts_of(store, place))
-            .unwrap_or_default();
-        let bytes = parts.into_iter().map(|part| &self.held.memory[part]);
-        bytes.collect()
+        let parts = store.map(|store| parts_of(store, self.place()));
+        let parts = parts.into_iter().flatten();
+        parts.map(|part| &self.held.memory[part]).collect()
     }
 
     pub fn is_nowhere(&self) -> bool {
-        let handle = self.handle;
-        usize::from(handle.node) >= NODES || usize::from(handle.local) >= CLUSTERS
+        let (node, local) = self.place();
+        node >= NODES || local >= CLUSTERS
     }
 
     pub fn is_no_segment(&self) -> bool {
@@ -116,6 +83,11 @@ impl Seen {
 
     pub fn is_elsewhere(&self) -> bool {
         self.node != u32::from(self.handle.node)
+    }
+
+    /// The handle's place is one, and the current node is none.
+    pub fn is_in_no_node(&self) -> bool {
+        !self.is_nowhere() && self.node as usize >= NODES
     }
 
     pub fn is_not_primary(&self) -> bool {
@@ -142,6 +114,26 @@ impl Seen {
         self.cluster().is_some_and(|cluster| !cluster.active)
     }
 
+    pub fn has_equal_passwords(&self) -> bool {
+        let cluster = self.cluster();
+        cluster.is_some_and(|cluster| cluster.has_equal_passwords())
+    }
+
+    pub fn mode(&self) -> Option<Mode> {
+        self.question.call.needed_mode()
+    }
+
+    /// The handle is not made from the password of the call's mode.
+    pub fn is_forged(&self) -> bool {
+        let needed = self.mode().zip(self.cluster());
+        needed.is_some_and(|(mode, own)| !self.handle.is_made_from(own.primary(mode)))
+    }
+
+    pub fn has_another_width(&self) -> bool {
+        let active = self.active();
+        active.is_some_and(|cluster| !cluster.has_width(self.handle.width()))
+    }
+
     /// What the library replies to the same call in the node of its handle.
     pub fn at_home(&self) -> Reply {
         self.asked(|_, question| {
@@ -149,6 +141,34 @@ impl Seen {
                 *node = self.handle.node.into();
             }
         })
+    }
+
+    pub fn is_violated_at_home(&self) -> bool {
+        self.at_home().number == 9
+    }
+
+    pub fn done_at_home(&self) -> Option<Reply> {
+        Some(self.at_home()).filter(Reply::is_done)
+    }
+
+    /// What it replies where the call is by the primary handle of its mode, if that is done.
+    pub fn done_by_the_primary_handle(&self) -> Option<Reply> {
+        let password = *self.cluster()?.primary(self.mode()?);
+        let (node, local) = self.handle.name();
+        let primary = Handle::primary(self.handle.width(), node, local, password);
+        self.done(|_, question| {
+            if let Some(handle) = question.handle_mut() {
+                *handle = primary.to_bytes();
+            }
+        })
+    }
+
+    /// What it replies where the password of the call's mode is the other's, if that is done.
+    pub fn done_in_the_other_mode(&self) -> Option<Reply> {
+        let (mut store, mode, (node, local)) = (self.store.clone()?, self.mode()?, self.place());
+        let cluster = &mut store.clusters[node][local];
+        *cluster.primary_mut(mode) = *cluster.primary(mode.other());
+        self.done(|held, _| held.image = encode(&store))
     }
 
     /// What the library replies to another call, or to this one on another store, if that is done.
@@ -161,30 +181,4 @@ impl Seen {
         change(&mut held, &mut question);
         guard::ask(&mut held, &question).reply
     }
-}
-
-/// The library, if a call with this code that gets `number` got what `other` has for it; nothing changes then.
-pub fn instead(
-    held: &mut Held,
-    question: &Question,
-    (code, number): (u8, u8),
-    other: fn(&Seen) -> Option<Reply>,
-) -> Answer {
-    let before = held.clone();
-    let answer = guard::ask(held, question);
-    if (question.code(), answer.reply.number) != (code, number) {
-        return answer;
-    }
-    match Seen::of(&before, question).and_then(|seen| other(&seen)) {
-        None => answer,
-        Some(reply) => {
-            *held = before;
-            let buffer = question.buffer.clone();
-            Answer { reply, buffer }
-        }
-    }
-}
-
-pub fn refused_if(applies: bool, number: u8) -> Option<Reply> {
-    applies.then_some(Reply::refused(number))
 }

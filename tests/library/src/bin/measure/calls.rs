@@ -133,12 +133,12 @@ fn new_cluster(store: Store, width: Width) -> Row {
 /// As long as those that a full store has.
 fn new_segment(store: Store, segment: usize) -> Row {
     let width = width_of(&store, PLACE);
-    let call = Call::NewSegment {
-        node: PLACE.0 as u32,
-        segment: segment as u32,
-        size: full_length(width) as u32,
-        handle: primary(&store, PLACE, Mode::Write).to_bytes(),
-    };
+    let call = Call::new_segment(
+        PLACE.0 as u32,
+        segment as u32,
+        full_length(width) as u32,
+        primary(&store, PLACE, Mode::Write).to_bytes(),
+    );
     Row {
         name: match width {
             Width::Four => "3 new segment, 128 bytes",
@@ -199,10 +199,7 @@ fn row(store: &Store, (name, call): (&'static str, Call)) -> Row {
 /// It sees no store.
 pub fn weakening(name: &'static str, width: Width) -> Row {
     let store = typical(width);
-    let call = Call::Weaken {
-        mask: MASK,
-        handle: primary(&store, PLACE, Mode::Read).to_bytes(),
-    };
+    let call = Call::weaken(MASK, primary(&store, PLACE, Mode::Read).to_bytes());
     Row {
         name,
         store,

@@ -125,11 +125,7 @@ fn one_call(row: &Row) {
 /// What the model does for a batch: soundness once, then for every handle the rows of the table
 /// below the first, in their order.
 fn validate_all(store: &Store, mode: u32, width: Width, handles: &[u8], numbers: &mut [u8]) {
-    let found = Found {
-        store,
-        memory_bytes: MEMORY_BYTES,
-        buffer_bytes: 0,
-    };
+    let found = Found::whole(store, 0);
     let sound = store.is_sound(found.memory_bytes);
     let handles = handles.chunks_exact(width.handle_bytes());
     for (number, bytes) in numbers.iter_mut().zip(handles) {

@@ -1,273 +1,182 @@
-//! Joins that give another handle, that give one beside a refusal, or that change something.
+//! Another handle given, one beside a refusal, something changed, and laws that do not hold, found out without the
+//! model.
 
-use super::{by_a_join, compared, found_out, joined, noting, Given, Row, RIGHT, RIGHTLY};
-use crate::seen::{CALLS, SEED};
+use super::{joined, joins, noting, without, Asked, Given, RIGHT, RIGHTLY};
+use crate::words::*;
 use library::chance::handles::at_width;
-use library::compare::Guard;
-use library::question::{Answer, Held, Question};
-use library::tally::Tally;
-use library::{guard, single};
-use model::call::Call;
-use model::handle::{Handle, Width};
-use model::store::Mode;
 
-/// A test for a library that gives another handle where a join is done.
-macro_rules! another_handle {
-    ($name:ident, $given:expr) => {
-        #[test]
-        fn $name() {
-            found_out(
-                |held, question| {
-                    let given: Given = $given;
-                    joined(held, question, &RIGHT, given)
-                },
-                0,
-            );
-        }
-    };
+fn giving(given: Given) -> Wrong {
+    joined(RIGHT.to_vec(), given)
 }
 
-another_handle!(what_both_reference, |asked| {
-    let [one, other] = asked.handles.map(|handle| handle.selector.referenced());
-    noting(asked.handles[0], &asked.primary(0), one & other)
-});
-another_handle!(what_one_alone_references, |asked| {
-    let [one, other] = asked.handles.map(|handle| handle.selector.referenced());
-    noting(asked.handles[0], &asked.primary(0), one ^ other)
-});
-another_handle!(what_the_first_references, |asked| {
-    let segments = asked.handles[0].selector.referenced();
-    noting(asked.handles[0], &asked.primary(0), segments)
-});
-another_handle!(what_the_second_references, |asked| {
-    let segments = asked.handles[1].selector.referenced();
-    noting(asked.handles[0], &asked.primary(0), segments)
-});
-another_handle!(subselector_0_alone_looked_at, |asked| {
-    let [one, other] = asked.handles.map(|handle| handle.selector.subselectors[0]);
-    noting(asked.handles[0], &asked.primary(0), one | other)
-});
-another_handle!(the_second_one_s_subselector_0_alone, |asked| {
-    let [one, other] = asked.handles;
-    let segments = one.selector.referenced() | other.selector.subselectors[0];
-    noting(one, &asked.primary(0), segments)
-});
-another_handle!(each_subselector_with_its_like, |asked| {
-    let [one, other] = asked.handles.map(|handle| handle.selector.subselectors);
-    let segments = (0..4).fold(asked.flat(), |common, at| common & (one[at] | other[at]));
-    noting(asked.handles[0], &asked.primary(0), segments)
-});
-another_handle!(from_the_first_one_s_password, |asked| {
-    let [one, _] = asked.handles;
-    noting(one, &one.password, asked.union())
-});
-another_handle!(from_the_second_one_s_password, |asked| {
-    let [one, other] = asked.handles;
-    noting(one, &other.password, asked.union())
-});
-another_handle!(from_the_other_mode_s_password, |asked| {
-    let mode = match asked.mode {
-        Some(Mode::Read) => Mode::Write,
-        _ => Mode::Read,
-    };
-    let password = asked.cluster(0).map(|cluster| *cluster.primary(mode));
-    noting(
-        asked.handles[0],
-        &password.unwrap_or_default(),
-        asked.union(),
-    )
-});
-another_handle!(always_from_the_read_password, |asked| {
-    let password = asked.cluster(0).map(|cluster| cluster.read);
-    noting(
-        asked.handles[0],
-        &password.unwrap_or_default(),
-        asked.union(),
-    )
-});
-another_handle!(converted_by_what_is_not_referenced, |asked| {
-    let mut given = RIGHTLY(asked);
-    let converted = guard::convert(&asked.primary(0), asked.flat() - asked.union());
-    given[3..19].copy_from_slice(&converted);
+/// Gives this where the union is all segments of the width, too.
+fn for_all(given: Given) -> Wrong {
+    joined(without(&[15]), given)
+}
+
+/// These segments, rightly converted.
+fn segments(it: &Asked, segments: u16) -> HandleBytes {
+    noting(it.handles[0], &it.primary(0), segments)
+}
+
+/// The right segments, converted from another password.
+fn from(it: &Asked, password: Password) -> HandleBytes {
+    noting(it.handles[0], &password, it.union())
+}
+
+/// The right bytes but for the password, which is the primary one converted by this.
+fn converted(it: &Asked, parameter: u16) -> HandleBytes {
+    let mut given = RIGHTLY(it);
+    given[3..19].copy_from_slice(&guard::convert(&it.primary(0), parameter));
     given
-});
-another_handle!(of_eight_always, |asked| {
-    let given = Handle::from_bytes(&RIGHTLY(asked)).expect("it is one");
-    at_width(&given, Width::Eight).to_bytes()
-});
-another_handle!(of_the_next_width, |asked| {
-    let given = Handle::from_bytes(&RIGHTLY(asked)).expect("it is one");
-    let next = match given.width() {
+}
+
+/// The right handle, changed.
+fn changed(it: &Asked, change: impl Fn(Handle) -> Handle) -> HandleBytes {
+    let right = Handle::from_bytes(&RIGHTLY(it)).expect("it is one");
+    change(right).to_bytes()
+}
+
+/// One of the two comes back where it has all.
+fn back(it: &Asked, at: usize) -> HandleBytes {
+    match it.referenced()[at] == it.union() {
+        true => it.handles[at].to_bytes(),
+        false => RIGHTLY(it),
+    }
+}
+
+fn itself(it: &Asked) -> HandleBytes {
+    match it.handles[0] == it.handles[1] {
+        true => it.handles[0].to_bytes(),
+        false => RIGHTLY(it),
+    }
+}
+
+fn subselectors(handle: Handle, subselectors: impl Fn([u16; 4]) -> [u16; 4]) -> Handle {
+    let mut handle = handle;
+    handle.selector.subselectors = subselectors(handle.selector.subselectors);
+    handle
+}
+
+fn each_with_its_like(it: &Asked) -> u16 {
+    let [one, other] = it.handles.map(|handle| handle.selector.subselectors);
+    (0..4).fold(it.flat(), |common, at| common & (one[at] | other[at]))
+}
+
+fn next(width: Width) -> Width {
+    match width {
         Width::Four => Width::Eight,
         _ => Width::Sixteen,
-    };
-    at_width(&given, next).to_bytes()
-});
-another_handle!(converted_by_the_low_byte_alone, |asked| {
-    let mut given = RIGHTLY(asked);
-    let converted = guard::convert(&asked.primary(0), asked.union() & 0x00ff);
-    given[3..19].copy_from_slice(&converted);
-    given
-});
-another_handle!(converted_with_the_low_byte_first, |asked| {
-    let mut given = RIGHTLY(asked);
-    let parameter = match asked.flat() {
-        u16::MAX => asked.union().swap_bytes(),
-        _ => asked.union(),
-    };
-    given[3..19].copy_from_slice(&guard::convert(&asked.primary(0), parameter));
-    given
-});
-another_handle!(not_converted, |asked| {
-    let mut given = RIGHTLY(asked);
-    given[3..19].copy_from_slice(&asked.primary(0));
-    given
-});
-another_handle!(converted_twice, |asked| {
-    let password = guard::convert(&asked.primary(0), asked.union());
-    noting(asked.handles[0], &password, asked.union())
-});
-another_handle!(others_not_flat, |asked| {
-    let mut given = Handle::from_bytes(&RIGHTLY(asked)).expect("it is one");
-    given.selector.subselectors = [asked.union(); 4];
-    given.to_bytes()
-});
-another_handle!(the_last_subselector, |asked| {
-    let mut given = Handle::from_bytes(&RIGHTLY(asked)).expect("it is one");
-    given.selector.subselectors.reverse();
-    given.to_bytes()
-});
-another_handle!(no_name, |asked| {
-    let mut given = RIGHTLY(asked);
-    given[..3].fill(0);
-    given
-});
-another_handle!(the_first_comes_back_where_it_has_all, |asked| {
-    let [one, _] = asked.handles;
-    match one.selector.referenced() == asked.union() {
-        true => one.to_bytes(),
-        false => RIGHTLY(asked),
-    }
-});
-another_handle!(the_second_comes_back_where_it_has_all, |asked| {
-    let [_, other] = asked.handles;
-    match other.selector.referenced() == asked.union() {
-        true => other.to_bytes(),
-        false => RIGHTLY(asked),
-    }
-});
-another_handle!(a_handle_comes_back_from_a_join_with_itself, |asked| {
-    match asked.handles[0] == asked.handles[1] {
-        true => asked.handles[0].to_bytes(),
-        false => RIGHTLY(asked),
-    }
-});
-
-// All segments of the width.
-
-/// The library, if it gave this where the union is all of them.
-pub fn for_all(held: &mut Held, question: &Question, given: Given) -> Answer {
-    let (_, but_the_last): (&Row, &[Row]) = RIGHT.split_last().expect("there are rows");
-    joined(held, question, but_the_last, given)
-}
-
-#[test]
-fn a_primary_handle_for_all() {
-    found_out(
-        |held, question| {
-            for_all(held, question, |asked| {
-                let (node, local) = asked.handles[0].name();
-                let width = asked.handles[0].width();
-                match asked.union() == asked.flat() {
-                    true => Handle::primary(width, node, local, asked.primary(0)).to_bytes(),
-                    false => RIGHTLY(asked),
-                }
-            })
-        },
-        23,
-    );
-}
-
-/// It would open nothing: validation skips flat subselectors.
-#[test]
-fn a_converted_handle_for_all() {
-    found_out(|held, question| for_all(held, question, RIGHTLY), 23);
-}
-
-// Beside a refusal, and what changes.
-
-/// The library, if it left this in the place for the handle where a join is refused with the number.
-fn beside(held: &mut Held, question: &Question, number: u8, left: u8) -> Answer {
-    let mut answer = guard::ask(held, question);
-    if matches!(&question.call, Call::Join { .. }) && answer.reply.number == number {
-        answer.reply.first = vec![left; 23];
-    }
-    answer
-}
-
-#[test]
-fn something_in_the_place_for_the_handle() {
-    let guards: [(Guard, u8); 9] = [
-        (|held, question| beside(held, question, 25, 0x00), 25),
-        (|held, question| beside(held, question, 1, 0x5a), 1),
-        (|held, question| beside(held, question, 2, 0x5a), 2),
-        (|held, question| beside(held, question, 3, 0x5a), 3),
-        (|held, question| beside(held, question, 4, 0x5a), 4),
-        (|held, question| beside(held, question, 8, 0x5a), 8),
-        (|held, question| beside(held, question, 9, 0x5a), 9),
-        (|held, question| beside(held, question, 23, 0xff), 23),
-        (|held, question| beside(held, question, 24, 0xff), 24),
-    ];
-    for (guard, number) in guards {
-        let told = single::compare(guard, SEED, CALLS, &mut Tally::default());
-        let told = told.expect_err("a handle is left");
-        by_a_join(&told, number);
-        assert!(
-            told.contains("a refusal gives more than its number"),
-            "{told}"
-        );
     }
 }
 
-/// The library, if a join changed something.
-fn and_then(held: &mut Held, question: &Question, change: fn(&mut Held, u8)) -> Answer {
-    let answer = guard::ask(held, question);
-    if let Call::Join { .. } = question.call {
-        change(held, answer.reply.number);
+fn primary_for_all(it: &Asked) -> HandleBytes {
+    let (node, local) = it.handles[0].name();
+    match it.is_whole() {
+        true => Handle::primary(it.handles[0].width(), node, local, it.primary(0)).to_bytes(),
+        false => RIGHTLY(it),
     }
-    answer
 }
 
-#[test]
-fn a_join_that_changes_something() {
-    let image: Guard = |held, question| {
-        and_then(held, question, |held, number| {
-            held.image[1] ^= u8::from(number == 0);
-        })
-    };
-    let memory: Guard = |held, question| {
-        and_then(held, question, |held, number| {
-            held.memory[0] ^= u8::from(number == 0);
-        })
-    };
-    let refused: Guard = |held, question| {
-        and_then(held, question, |held, number| {
-            held.image[1] ^= u8::from(number == 23);
-        })
-    };
-    for (guard, right, what) in [
-        (image, 0, "a join changes something: the images differ"),
-        (memory, 0, "a join changes something: the memories differ"),
-        (
-            refused,
-            23,
-            "a refusal changes something: the images differ",
-        ),
-    ] {
-        for told in compared(guard) {
-            let told = told.expect_err("something changes");
-            by_a_join(&told, right);
-            assert!(told.contains(what), "{told}");
-        }
+table! {
+    what_both_reference: giving(|it| segments(it, it.referenced()[0] & it.referenced()[1])) => joins(0);
+    what_one_alone_references: giving(|it| segments(it, it.referenced()[0] ^ it.referenced()[1])) => joins(0);
+    what_the_first_references: giving(|it| segments(it, it.referenced()[0])) => joins(0);
+    what_the_second_references: giving(|it| segments(it, it.referenced()[1])) => joins(0);
+    subselector_0_alone_looked_at: giving(|it| {
+        let [one, other] = it.handles.map(|handle| handle.selector.subselectors[0]);
+        segments(it, one | other)
+    }) => joins(0);
+    the_second_one_s_subselector_0_alone:
+        giving(|it| segments(it, it.referenced()[0] | it.handles[1].selector.subselectors[0])) => joins(0);
+    each_subselector_with_its_like: giving(|it| segments(it, each_with_its_like(it))) => joins(0);
+    from_the_first_one_s_password: giving(|it| from(it, it.handles[0].password)) => joins(0);
+    from_the_second_one_s_password: giving(|it| from(it, it.handles[1].password)) => joins(0);
+    from_the_other_mode_s_password:
+        giving(|it| from(it, it.password(0, it.mode.map_or(Mode::Read, Mode::other)))) => joins(0);
+    always_from_the_read_password: giving(|it| from(it, it.password(0, Mode::Read))) => joins(0);
+    converted_by_what_is_not_referenced: giving(|it| converted(it, it.flat() - it.union())) => joins(0);
+    converted_by_the_low_byte_alone: giving(|it| converted(it, it.union() & 0x00ff)) => joins(0);
+    converted_with_the_low_byte_first: giving(|it| match it.flat() {
+        u16::MAX => converted(it, it.union().swap_bytes()),
+        _ => RIGHTLY(it),
+    }) => joins(0);
+    not_converted: giving(|it| changed(it, |given| Handle { password: it.primary(0), ..given })) => joins(0);
+    converted_twice: giving(|it| from(it, guard::convert(&it.primary(0), it.union()))) => joins(0);
+    of_eight_always: giving(|it| changed(it, |given| at_width(&given, Width::Eight))) => joins(0);
+    of_the_next_width: giving(|it| changed(it, |given| at_width(&given, next(given.width())))) => joins(0);
+    others_not_flat: giving(|it| changed(it, |given| subselectors(given, |_| [it.union(); 4]))) => joins(0);
+    the_last_subselector: giving(|it| changed(it, |given| subselectors(given, |[a, b, c, d]| [d, c, b, a]))) => joins(0);
+    no_name: giving(|it| changed(it, |given| Handle { node: 0, local: 0, ..given })) => joins(0);
+    the_first_comes_back_where_it_has_all: giving(|it| back(it, 0)) => joins(0);
+    the_second_comes_back_where_it_has_all: giving(|it| back(it, 1)) => joins(0);
+    a_handle_comes_back_from_a_join_with_itself: giving(itself) => joins(0);
+    a_primary_handle_for_all: for_all(primary_for_all) => joins(23);
+    /// It would open nothing: validation skips flat subselectors.
+    a_converted_handle_for_all: for_all(RIGHTLY) => joins(23);
+}
+
+/// Leaves this in the place for the handle beside a refusal.
+fn beside(number: u8, left: u8) -> Wrong {
+    on(JOIN, number, move |it| it.reply.first = vec![left; 23])
+}
+
+fn more(number: u8) -> Complaint {
+    by(By::Single, [MORE, Asks(JOIN), Right(number)])
+}
+
+const JOIN_CHANGES: Word = Says("a join changes something");
+
+table! {
+    something_in_the_place_for_the_handle_at_25: beside(25, 0x00) => more(25);
+    something_in_the_place_for_the_handle_at_1: beside(1, 0x5a) => more(1);
+    something_in_the_place_for_the_handle_at_2: beside(2, 0x5a) => more(2);
+    something_in_the_place_for_the_handle_at_3: beside(3, 0x5a) => more(3);
+    something_in_the_place_for_the_handle_at_4: beside(4, 0x5a) => more(4);
+    something_in_the_place_for_the_handle_at_8: beside(8, 0x5a) => more(8);
+    something_in_the_place_for_the_handle_at_9: beside(9, 0x5a) => more(9);
+    something_in_the_place_for_the_handle_at_23: beside(23, 0xff) => more(23);
+    something_in_the_place_for_the_handle_at_24: beside(24, 0xff) => more(24);
+    a_join_that_changes_something_of_the_image: on(JOIN, 0, |it| it.held.image[1] ^= 1)
+        => told([Asks(JOIN), Right(0), JOIN_CHANGES, IMAGES]);
+    a_join_that_changes_something_of_the_memory: on(JOIN, 0, |it| it.held.memory[0] ^= 1)
+        => told([Asks(JOIN), Right(0), JOIN_CHANGES, MEMORIES]);
+    a_join_that_changes_something_and_is_refused: on(JOIN, 23, |it| it.held.image[1] ^= 1)
+        => told([Asks(JOIN), Right(23), REFUSAL_CHANGES, IMAGES]);
+}
+
+fn breaks(law: &'static str) -> Complaint {
+    by(By::Laws, [Says(law), Asks(JOIN)])
+}
+
+/// Two handles that differ lose the least segment.
+fn a_segment_less(it: &Asked) -> HandleBytes {
+    match it.handles[0] == it.handles[1] {
+        true => RIGHTLY(it),
+        false => segments(it, it.union() & it.union().wrapping_sub(1)),
+    }
+}
+
+mod laws {
+    use super::*;
+
+    #[test]
+    fn the_library_keeps_them() {
+        let done = library::laws::compare(&guard::ask, 7, 2_000).expect("they hold");
+        assert!(done > 100, "{done}");
+    }
+
+    table! {
+        one_order_refused: after(|it| match &it.question.call {
+            Call::Join { handle, other, .. } if handle > other => it.reply = Reply::refused(9),
+            _ => {}
+        }) => breaks("a join hangs on which handle comes first");
+        a_handle_comes_back_from_a_join_with_itself: giving(itself)
+            => breaks("a handle with itself does not give its reduction");
+        all_given_and_converted: for_all(RIGHTLY)
+            => breaks("what is given is not valid, or not in the form of a reduced handle");
+        a_segment_less: giving(super::a_segment_less) => breaks("what was joined is not in what is given");
+        what_both_reference: giving(|it| segments(it, it.referenced()[0] & it.referenced()[1]))
+            => breaks("what is given references other segments");
     }
 }

@@ -1,26 +1,15 @@
-//! That the comparison finds out joins that are wrong in one way each. A join is put together from the rows that may
-//! refuse it and from the handle that it gives: a wrong library has a row less, or another, or two in another order, or
-//! gives another handle.
+//! §5, joining. A join is put together from the rows that may refuse it and from the handle that it gives: a wrong
+//! library has a row less, or another, or two in another order, or gives another handle.
 
-mod copies;
-mod edges;
 mod given;
-mod laws;
-mod numbers;
 mod orders;
+mod rows;
 
-use crate::seen::{self, CALLS, RUNS, SEED};
-use library::compare::{is_sound, Guard};
-use library::image::decode;
-use library::question::{Answer, Held, Question};
-use library::tally::Tally;
-use library::{guard, runs, single};
-use model::call::{Call, Reply};
-use model::handle::{Handle, HandleBytes, Password, Selector, Width};
-use model::store::{Cluster, Mode, Store};
+use crate::words::*;
+use library::compare::is_sound;
 
 /// A join, and what it is put to.
-struct Asked {
+pub struct Asked {
     sound: bool,
     store: Store,
     mode: Option<Mode>,
@@ -33,21 +22,17 @@ struct Asked {
 impl Asked {
     /// A damaged image has no store.
     fn of(held: &Held, question: &Question) -> Option<Asked> {
-        let Call::Join {
-            mode,
-            handle,
-            other,
-        } = &question.call
-        else {
+        let Call::Join { mode, .. } = question.call else {
             return None;
         };
-        let read = [handle, other].map(|bytes| Handle::from_bytes(bytes));
+        let mut both = question.call.presented_bytes();
+        let both = [both.next()?, both.next()?];
         Some(Asked {
             sound: is_sound(held),
             store: decode(&held.image)?,
-            mode: Mode::from_number(*mode),
-            known: read.map(|handle| handle.is_some()),
-            handles: [handle, other].map(|bytes| of_eight(bytes)),
+            mode: Mode::from_number(mode),
+            known: both.map(|bytes| Handle::from_bytes(bytes).is_some()),
+            handles: both.map(of_eight),
         })
     }
 
@@ -57,29 +42,66 @@ impl Asked {
         self.store.cluster(handle.node.into(), handle.local.into())
     }
 
-    /// The primary password of that cluster in the mode.
-    fn primary(&self, at: usize) -> Password {
+    /// A primary password of that cluster; of the other mode, too.
+    fn password(&self, at: usize, mode: Mode) -> Password {
         let cluster = self.cluster(at).unwrap_or(&Cluster::INACTIVE);
-        *cluster.primary(self.mode.unwrap_or(Mode::Read))
+        *cluster.primary(mode)
     }
 
-    fn is_made_from(&self, at: usize) -> bool {
-        self.handles[at].is_made_from(&self.primary(at))
+    fn primary(&self, at: usize) -> Password {
+        self.password(at, self.mode.unwrap_or(Mode::Read))
     }
 
-    fn has_the_width(&self, at: usize) -> bool {
+    fn is_nowhere(&self, at: usize) -> bool {
+        self.cluster(at).is_none()
+    }
+
+    fn is_gapped(&self, at: usize) -> bool {
+        self.handles[at].selector.is_gapped()
+    }
+
+    fn is_inactive(&self, at: usize) -> bool {
+        self.cluster(at).is_some_and(|cluster| !cluster.active)
+    }
+
+    fn has_another_width(&self, at: usize) -> bool {
         let width = self.handles[at].width();
-        self.cluster(at)
-            .is_some_and(|cluster| cluster.has_width(width))
+        let cluster = self.cluster(at);
+        !cluster.is_some_and(|cluster| cluster.has_width(width))
+    }
+
+    fn is_violated(&self, at: usize) -> bool {
+        !self.handles[at].is_made_from(&self.primary(at))
+    }
+
+    fn is_primary(&self, at: usize) -> bool {
+        self.handles[at].selector.is_primary()
+    }
+
+    fn are_apart(&self) -> bool {
+        self.handles[0].name() != self.handles[1].name()
     }
 
     fn flat(&self) -> u16 {
         self.handles[0].width().flat()
     }
 
+    /// What each of the two references.
+    fn referenced(&self) -> [u16; 2] {
+        self.handles.map(|handle| handle.selector.referenced())
+    }
+
     fn union(&self) -> u16 {
-        let [one, other] = self.handles.map(|handle| handle.selector.referenced());
+        let [one, other] = self.referenced();
         one | other
+    }
+
+    fn is_whole(&self) -> bool {
+        self.union() == self.flat()
+    }
+
+    fn has_no_mode(&self) -> bool {
+        self.mode.is_none()
     }
 }
 
@@ -93,58 +115,26 @@ fn of_eight(bytes: &[u8]) -> Handle {
 }
 
 /// A number, and when it is given.
-type Row = (u8, fn(&Asked) -> bool);
-
-const NO_LENGTH: [Row; 2] = [(25, |asked| !asked.known[0]), (25, |asked| !asked.known[1])];
-const UNSOUND: Row = (1, |asked| !asked.sound);
-const NOWHERE: [Row; 2] = [
-    (2, |asked| asked.cluster(0).is_none()),
-    (2, |asked| asked.cluster(1).is_none()),
-];
-const NO_MODE: Row = (3, |asked| asked.mode.is_none());
-const GAPPED: [Row; 2] = [
-    (4, |asked| asked.handles[0].selector.is_gapped()),
-    (4, |asked| asked.handles[1].selector.is_gapped()),
-];
-const APART: Row = (24, |asked| {
-    asked.handles[0].name() != asked.handles[1].name()
-});
-const INACTIVE: [Row; 2] = [
-    (8, |asked| {
-        asked.cluster(0).is_some_and(|cluster| !cluster.active)
-    }),
-    (8, |asked| {
-        asked.cluster(1).is_some_and(|cluster| !cluster.active)
-    }),
-];
-const OTHER_WIDTH: [Row; 2] = [
-    (25, |asked| !asked.has_the_width(0)),
-    (25, |asked| !asked.has_the_width(1)),
-];
-const VIOLATED: [Row; 2] = [
-    (9, |asked| !asked.is_made_from(0)),
-    (9, |asked| !asked.is_made_from(1)),
-];
-const WHOLE: Row = (23, |asked| asked.union() == asked.flat());
+pub type Row = (u8, fn(&Asked) -> bool);
 
 /// As the table has them.
 const RIGHT: [Row; 16] = [
-    NO_LENGTH[0],
-    NO_LENGTH[1],
-    UNSOUND,
-    NOWHERE[0],
-    NOWHERE[1],
-    NO_MODE,
-    GAPPED[0],
-    GAPPED[1],
-    APART,
-    INACTIVE[0],
-    INACTIVE[1],
-    OTHER_WIDTH[0],
-    OTHER_WIDTH[1],
-    VIOLATED[0],
-    VIOLATED[1],
-    WHOLE,
+    (25, |it| !it.known[0]),
+    (25, |it| !it.known[1]),
+    (1, |it| !it.sound),
+    (2, |it| it.is_nowhere(0)),
+    (2, |it| it.is_nowhere(1)),
+    (3, Asked::has_no_mode),
+    (4, |it| it.is_gapped(0)),
+    (4, |it| it.is_gapped(1)),
+    (24, Asked::are_apart),
+    (8, |it| it.is_inactive(0)),
+    (8, |it| it.is_inactive(1)),
+    (25, |it| it.has_another_width(0)),
+    (25, |it| it.has_another_width(1)),
+    (9, |it| it.is_violated(0)),
+    (9, |it| it.is_violated(1)),
+    (23, Asked::is_whole),
 ];
 
 /// These segments in subselector 0, converted from this password.
@@ -161,12 +151,12 @@ fn noting(handle: Handle, password: &Password, segments: u16) -> HandleBytes {
 }
 
 /// What a join that is done gives.
-type Given = fn(&Asked) -> HandleBytes;
+pub type Given = fn(&Asked) -> HandleBytes;
 
-const RIGHTLY: Given = |asked| noting(asked.handles[0], &asked.primary(0), asked.union());
+const RIGHTLY: Given = |it| noting(it.handles[0], &it.primary(0), it.union());
 
-/// The library, if it joined by these rows, the first that applies, and gave this.
-fn joined(held: &mut Held, question: &Question, rows: &[Row], given: Given) -> Answer {
+/// What joining by these rows comes to, the first that applies.
+fn by_rows(held: &mut Held, question: &Question, rows: &[Row], given: Given) -> Answer {
     let Some(asked) = Asked::of(held, question) else {
         return guard::ask(held, question);
     };
@@ -182,44 +172,37 @@ fn joined(held: &mut Held, question: &Question, rows: &[Row], given: Given) -> A
     Answer { reply, buffer }
 }
 
-/// What single calls and long rows say.
-fn compared(guard: Guard) -> [Result<(), String>; 2] {
-    let mut tally = Tally::default();
-    let single = single::compare(guard, SEED, CALLS, &mut tally);
-    let runs = runs::compare(guard, SEED, RUNS, &mut tally);
-    [single, runs]
+fn joined(rows: Vec<Row>, given: Given) -> Wrong {
+    asked(move |held, question| by_rows(held, question, &rows, given))
 }
 
-/// Found out by a join to which the model gives `right`.
-fn by_a_join(told: &str, right: u8) {
-    assert!(told.contains("asked:   Join "), "{told}");
-    assert!(
-        told.contains(&format!("model:   number {right},")),
-        "{told}"
-    );
+/// The right rows but these.
+fn without(left_out: &[usize]) -> Vec<Row> {
+    let rows = RIGHT.iter().enumerate();
+    let kept = rows.filter(|(at, _)| !left_out.contains(at));
+    kept.map(|(_, row)| *row).collect()
 }
 
-/// Found out by both.
-fn found_out(guard: Guard, right: u8) {
-    for told in compared(guard) {
-        by_a_join(&told.expect_err("a library is wrong"), right);
-    }
+/// By a join to which the model gives this.
+fn joins(right: u8) -> Complaint {
+    told([Word::Call(JOIN), Word::Right(right)])
 }
 
-/// Found out by both, where the model gives `right` and the library `wrong`.
-fn numbers_differ(guard: Guard, right: u8, wrong: u8) {
-    seen::numbers_differ(guard, "Join", right, wrong);
+fn orders(right: u8, wrong: u8) -> Complaint {
+    numbers(JOIN, right, wrong)
 }
 
-/// Joins that are put together rightly are not found out, be it with a row that nothing hangs on.
+/// Joins that are put together rightly are not found out, be it without a row that nothing hangs on: where 24 does not
+/// apply, the two name one cluster.
 #[test]
 fn the_right_rows_are_not_found_out() {
-    let right: Guard = |held, question| joined(held, question, &RIGHT, RIGHTLY);
-    assert_eq!(compared(right), [Ok(()), Ok(())]);
-    // Where 24 does not apply, the two name one cluster.
-    let one_looked_at: Guard = |held, question| {
-        let rows = [&RIGHT[..10], &RIGHT[11..]].concat();
-        joined(held, question, &rows, RIGHTLY)
-    };
-    assert_eq!(compared(one_looked_at), [Ok(()), Ok(())]);
+    let none = not_by([By::Single, By::Runs, By::Joins]);
+    run("right rows", &joined(RIGHT.to_vec(), RIGHTLY), &none);
+    run("no row 10", &joined(without(&[10]), RIGHTLY), &none);
+}
+
+#[test]
+fn rows_stand_where_they_are_cut() {
+    let numbers = [25, 25, 1, 2, 2, 3, 4, 4, 24, 8, 8, 25, 25, 9, 9, 23];
+    assert_eq!(RIGHT.map(|(number, _)| number), numbers);
 }

@@ -1,211 +1,155 @@
-//! Joins with two numbers in another order, be it for one of the two handles alone, or with one handle judged whole
-//! before the other.
+//! Two numbers in another order, be it for one of the two handles alone, or with one handle judged whole before the
+//! other.
 
-use super::{
-    compared, joined, numbers_differ, Asked, Row, APART, GAPPED, INACTIVE, NOWHERE, NO_LENGTH,
-    NO_MODE, OTHER_WIDTH, RIGHT, RIGHTLY, UNSOUND, VIOLATED, WHOLE,
-};
-use crate::seen::{CALLS, SEED};
-use library::compare::Guard;
-use library::question::{Answer, Held, Question};
-use library::single;
-use library::tally::Tally;
+use super::{by_rows, joined, orders, Asked, Row, RIGHT, RIGHTLY};
+use crate::words::*;
 
-/// The library, if a join that gets `right` got the number of this row where it applies.
-fn before(held: &mut Held, question: &Question, right: u8, row: Row) -> Answer {
-    let given = Asked::of(held, question).and_then(|asked| {
-        let first = RIGHT.iter().find(|(_, applies)| applies(&asked))?;
-        (first.0 == right && row.1(&asked)).then_some(row)
-    });
-    let rows = [given.as_slice(), &RIGHT].concat();
-    joined(held, question, &rows, RIGHTLY)
+/// Looks at this row before the one that gives `right`.
+fn before(right: u8, wrong: u8, applies: fn(&Asked) -> bool) -> Wrong {
+    asked(move |held, question| {
+        let given: Option<Row> = Asked::of(held, question).and_then(|asked| {
+            let first = RIGHT.iter().find(|(_, applies)| applies(&asked))?;
+            (first.0 == right && applies(&asked)).then_some((wrong, applies))
+        });
+        let rows = [given.as_slice(), &RIGHT].concat();
+        by_rows(held, question, &rows, RIGHTLY)
+    })
 }
 
-/// A test for a library that looks at `$row` before the row that gives `$right`.
-macro_rules! before {
-    ($name:ident, $right:expr, $row:expr) => {
-        #[test]
-        fn $name() {
-            let row: Row = $row;
-            numbers_differ(
-                |held, question| before(held, question, $right, $row),
-                $right,
-                row.0,
-            );
-        }
-    };
+/// Where the one handle's length is none and the other's is a handle's.
+fn no_length(it: &Asked, at: usize) -> bool {
+    !it.known[at] && it.known[1 - at]
 }
 
-/// Whether a row applies.
-fn is(asked: &Asked, row: Row) -> bool {
-    row.1(asked)
+fn both_known(it: &Asked) -> bool {
+    it.known == [true; 2]
 }
 
-/// Long rows start from a sound store.
-#[test]
-fn unsound_before_lengths() {
-    let guards: [Guard; 2] = [
-        |held, question| {
-            let row: Row = (1, |asked| is(asked, UNSOUND) && asked.known[0]);
-            before(held, question, 25, row)
-        },
-        |held, question| {
-            let row: Row = (1, |asked| is(asked, UNSOUND) && asked.known[1]);
-            before(held, question, 25, row)
-        },
-    ];
-    for guard in guards {
-        let told = single::compare(guard, SEED, CALLS, &mut Tally::default());
-        let told = told.expect_err("a library is wrong");
-        crate::seen::names(&told, "Join", 25, 1);
-    }
+/// By single calls: long rows start from a sound store.
+fn unsound() -> Complaint {
+    by(By::Single, [Asks(JOIN), Right(25), Gives(1)])
 }
 
-/// Where a length is none, and the other number is not that handle's.
-#[rustfmt::skip]
+table! {
+    unsound_before_lengths_second: before(25, 1, |it| !it.sound && it.known[0]) => unsound();
+    unsound_before_lengths_first: before(25, 1, |it| !it.sound && it.known[1]) => unsound();
+}
+
+// Where a length is none, and the other number is not that handle's.
 mod lengths {
     use super::*;
 
-    before!(second_place_before_the_first, 25, (2, |asked| is(asked, NO_LENGTH[0]) && asked.known[1] && is(asked, NOWHERE[1])));
-    before!(first_place_before_the_second, 25, (2, |asked| is(asked, NO_LENGTH[1]) && asked.known[0] && is(asked, NOWHERE[0])));
-    before!(mode_before_the_first, 25, (3, |asked| is(asked, NO_LENGTH[0]) && asked.known[1] && is(asked, NO_MODE)));
-    before!(mode_before_the_second, 25, (3, |asked| is(asked, NO_LENGTH[1]) && asked.known[0] && is(asked, NO_MODE)));
-    before!(second_gap_before_the_first, 25, (4, |asked| is(asked, NO_LENGTH[0]) && asked.known[1] && is(asked, GAPPED[1])));
-    before!(first_gap_before_the_second, 25, (4, |asked| is(asked, NO_LENGTH[1]) && asked.known[0] && is(asked, GAPPED[0])));
-    before!(second_violated_before_the_first, 25, (9, |asked| is(asked, NO_LENGTH[0]) && asked.known[1] && is(asked, VIOLATED[1])));
-    before!(first_violated_before_the_second, 25, (9, |asked| is(asked, NO_LENGTH[1]) && asked.known[0] && is(asked, VIOLATED[0])));
+    table! {
+        second_place_before_the_first: before(25, 2, |it| no_length(it, 0) && it.is_nowhere(1)) => orders(25, 2);
+        first_place_before_the_second: before(25, 2, |it| no_length(it, 1) && it.is_nowhere(0)) => orders(25, 2);
+        mode_before_the_first: before(25, 3, |it| no_length(it, 0) && it.has_no_mode()) => orders(25, 3);
+        mode_before_the_second: before(25, 3, |it| no_length(it, 1) && it.has_no_mode()) => orders(25, 3);
+        second_gap_before_the_first: before(25, 4, |it| no_length(it, 0) && it.is_gapped(1)) => orders(25, 4);
+        first_gap_before_the_second: before(25, 4, |it| no_length(it, 1) && it.is_gapped(0)) => orders(25, 4);
+        second_violated_before_the_first: before(25, 9, |it| no_length(it, 0) && it.is_violated(1)) => orders(25, 9);
+        first_violated_before_the_second: before(25, 9, |it| no_length(it, 1) && it.is_violated(0)) => orders(25, 9);
+    }
 }
 
-/// Where both lengths are those of handles.
-#[rustfmt::skip]
+// Where both lengths are those of handles.
 mod widths {
     use super::*;
 
-    fn both_known(asked: &Asked) -> bool { asked.known == [true; 2] }
-
-    before!(before_the_mode, 3, (25, |asked| is(asked, OTHER_WIDTH[0]) || is(asked, OTHER_WIDTH[1])));
-    before!(first_before_the_second_gap, 4, (25, |asked| is(asked, OTHER_WIDTH[0]) && !is(asked, GAPPED[0])));
-    before!(second_before_the_first_gap, 4, (25, |asked| is(asked, OTHER_WIDTH[1]) && !is(asked, GAPPED[1])));
-    before!(first_before_apart, 24, (25, |asked| is(asked, OTHER_WIDTH[0]) && !is(asked, INACTIVE[0])));
-    before!(second_before_apart, 24, (25, |asked| is(asked, OTHER_WIDTH[1]) && !is(asked, INACTIVE[1])));
-    before!(before_inactive, 8, OTHER_WIDTH[0]);
-    before!(second_violated_before_the_first, 25, (9, |asked| both_known(asked) && is(asked, VIOLATED[1]) && !is(asked, OTHER_WIDTH[1])));
-    before!(first_violated_before_the_second, 25, (9, |asked| both_known(asked) && is(asked, VIOLATED[0]) && !is(asked, OTHER_WIDTH[0])));
-    before!(violated_before_both, 25, (9, |asked| both_known(asked) && is(asked, VIOLATED[0])));
-    before!(whole_before_the_width, 25, (23, |asked| both_known(asked) && is(asked, WHOLE) && is(asked, OTHER_WIDTH[1])));
+    table! {
+        before_the_mode: before(3, 25, |it| it.has_another_width(0) || it.has_another_width(1)) => orders(3, 25);
+        first_before_the_second_gap: before(4, 25, |it| it.has_another_width(0) && !it.is_gapped(0)) => orders(4, 25);
+        second_before_the_first_gap: before(4, 25, |it| it.has_another_width(1) && !it.is_gapped(1)) => orders(4, 25);
+        first_before_apart: before(24, 25, |it| it.has_another_width(0) && !it.is_inactive(0)) => orders(24, 25);
+        second_before_apart: before(24, 25, |it| it.has_another_width(1) && !it.is_inactive(1)) => orders(24, 25);
+        before_inactive: before(8, 25, |it| it.has_another_width(0)) => orders(8, 25);
+        second_violated_before_the_first:
+            before(25, 9, |it| both_known(it) && it.is_violated(1) && !it.has_another_width(1)) => orders(25, 9);
+        first_violated_before_the_second:
+            before(25, 9, |it| both_known(it) && it.is_violated(0) && !it.has_another_width(0)) => orders(25, 9);
+        violated_before_both: before(25, 9, |it| both_known(it) && it.is_violated(0)) => orders(25, 9);
+        whole_before_the_width:
+            before(25, 23, |it| both_known(it) && it.is_whole() && it.has_another_width(1)) => orders(25, 23);
+    }
 }
 
-#[rustfmt::skip]
 mod places {
     use super::*;
 
-    before!(mode, 2, NO_MODE);
-    before!(mode_before_the_first, 2, (3, |asked| is(asked, NO_MODE) && !is(asked, NOWHERE[1])));
-    before!(mode_before_the_second, 2, (3, |asked| is(asked, NO_MODE) && !is(asked, NOWHERE[0])));
-    before!(first_gap_before_the_second, 2, (4, |asked| is(asked, GAPPED[0]) && !is(asked, NOWHERE[0])));
-    before!(second_gap_before_the_first, 2, (4, |asked| is(asked, GAPPED[1]) && !is(asked, NOWHERE[1])));
-    before!(apart, 2, APART);
-    before!(first_inactive_before_the_second, 2, INACTIVE[0]);
-    before!(second_inactive_before_the_first, 2, INACTIVE[1]);
-    before!(first_violated_before_the_second, 2, (9, |asked| is(asked, VIOLATED[0]) && !is(asked, NOWHERE[0])));
-    before!(second_violated_before_the_first, 2, (9, |asked| is(asked, VIOLATED[1]) && !is(asked, NOWHERE[1])));
-    before!(whole, 2, WHOLE);
+    table! {
+        mode: before(2, 3, Asked::has_no_mode) => orders(2, 3);
+        mode_before_the_first: before(2, 3, |it| it.has_no_mode() && !it.is_nowhere(1)) => orders(2, 3);
+        mode_before_the_second: before(2, 3, |it| it.has_no_mode() && !it.is_nowhere(0)) => orders(2, 3);
+        first_gap_before_the_second: before(2, 4, |it| it.is_gapped(0) && !it.is_nowhere(0)) => orders(2, 4);
+        second_gap_before_the_first: before(2, 4, |it| it.is_gapped(1) && !it.is_nowhere(1)) => orders(2, 4);
+        apart: before(2, 24, Asked::are_apart) => orders(2, 24);
+        first_inactive_before_the_second: before(2, 8, |it| it.is_inactive(0)) => orders(2, 8);
+        second_inactive_before_the_first: before(2, 8, |it| it.is_inactive(1)) => orders(2, 8);
+        first_violated_before_the_second: before(2, 9, |it| it.is_violated(0) && !it.is_nowhere(0)) => orders(2, 9);
+        second_violated_before_the_first: before(2, 9, |it| it.is_violated(1) && !it.is_nowhere(1)) => orders(2, 9);
+        whole: before(2, 23, Asked::is_whole) => orders(2, 23);
+    }
 }
 
-#[rustfmt::skip]
 mod the_mode {
     use super::*;
 
-    before!(first_gap, 3, (4, |asked| is(asked, GAPPED[0]) && !is(asked, GAPPED[1])));
-    before!(second_gap, 3, (4, |asked| is(asked, GAPPED[1]) && !is(asked, GAPPED[0])));
-    before!(apart, 3, APART);
-    before!(inactive, 3, INACTIVE[0]);
-    before!(whole, 3, WHOLE);
+    table! {
+        first_gap: before(3, 4, |it| it.is_gapped(0) && !it.is_gapped(1)) => orders(3, 4);
+        second_gap: before(3, 4, |it| it.is_gapped(1) && !it.is_gapped(0)) => orders(3, 4);
+        apart: before(3, 24, Asked::are_apart) => orders(3, 24);
+        inactive: before(3, 8, |it| it.is_inactive(0)) => orders(3, 8);
+        whole: before(3, 23, Asked::is_whole) => orders(3, 23);
+    }
 }
 
-#[rustfmt::skip]
 mod gaps {
     use super::*;
 
-    before!(apart_before_the_first, 4, (24, |asked| is(asked, APART) && !is(asked, GAPPED[1])));
-    before!(apart_before_the_second, 4, (24, |asked| is(asked, APART) && !is(asked, GAPPED[0])));
-    before!(inactive_before_the_first, 4, (8, |asked| is(asked, INACTIVE[1]) && !is(asked, GAPPED[1])));
-    before!(inactive_before_the_second, 4, (8, |asked| is(asked, INACTIVE[0]) && !is(asked, GAPPED[0])));
-    before!(violated_before_the_first, 4, (9, |asked| is(asked, VIOLATED[1]) && !is(asked, GAPPED[1])));
-    before!(violated_before_the_second, 4, (9, |asked| is(asked, VIOLATED[0]) && !is(asked, GAPPED[0])));
-    before!(whole, 4, WHOLE);
+    table! {
+        apart_before_the_first: before(4, 24, |it| it.are_apart() && !it.is_gapped(1)) => orders(4, 24);
+        apart_before_the_second: before(4, 24, |it| it.are_apart() && !it.is_gapped(0)) => orders(4, 24);
+        inactive_before_the_first: before(4, 8, |it| it.is_inactive(1) && !it.is_gapped(1)) => orders(4, 8);
+        inactive_before_the_second: before(4, 8, |it| it.is_inactive(0) && !it.is_gapped(0)) => orders(4, 8);
+        violated_before_the_first: before(4, 9, |it| it.is_violated(1) && !it.is_gapped(1)) => orders(4, 9);
+        violated_before_the_second: before(4, 9, |it| it.is_violated(0) && !it.is_gapped(0)) => orders(4, 9);
+        whole: before(4, 23, Asked::is_whole) => orders(4, 23);
+    }
 }
 
-#[rustfmt::skip]
 mod names {
     use super::*;
 
-    before!(both_inactive, 24, (8, |asked| is(asked, INACTIVE[0]) && is(asked, INACTIVE[1])));
-    before!(first_inactive, 24, (8, |asked| is(asked, INACTIVE[0]) && !is(asked, INACTIVE[1])));
-    before!(second_inactive, 24, (8, |asked| is(asked, INACTIVE[1]) && !is(asked, INACTIVE[0])));
-    before!(first_violated, 24, (9, |asked| is(asked, VIOLATED[0]) && !is(asked, VIOLATED[1])));
-    before!(second_violated, 24, (9, |asked| is(asked, VIOLATED[1]) && !is(asked, VIOLATED[0])));
-    before!(whole, 24, WHOLE);
+    table! {
+        both_inactive: before(24, 8, |it| it.is_inactive(0) && it.is_inactive(1)) => orders(24, 8);
+        first_inactive: before(24, 8, |it| it.is_inactive(0) && !it.is_inactive(1)) => orders(24, 8);
+        second_inactive: before(24, 8, |it| it.is_inactive(1) && !it.is_inactive(0)) => orders(24, 8);
+        first_violated: before(24, 9, |it| it.is_violated(0) && !it.is_violated(1)) => orders(24, 9);
+        second_violated: before(24, 9, |it| it.is_violated(1) && !it.is_violated(0)) => orders(24, 9);
+        whole: before(24, 23, Asked::is_whole) => orders(24, 23);
+    }
 }
 
-#[rustfmt::skip]
 mod activity_and_passwords {
     use super::*;
 
-    before!(first_violated_before_inactive, 8, (9, |asked| is(asked, VIOLATED[0]) && !is(asked, VIOLATED[1])));
-    before!(second_violated_before_inactive, 8, (9, |asked| is(asked, VIOLATED[1]) && !is(asked, VIOLATED[0])));
-    before!(whole_before_inactive, 8, WHOLE);
-    before!(whole_before_the_first_violated, 9, (23, |asked| is(asked, WHOLE) && !is(asked, VIOLATED[1])));
-    before!(whole_before_the_second_violated, 9, (23, |asked| is(asked, WHOLE) && !is(asked, VIOLATED[0])));
+    table! {
+        first_violated_before_inactive: before(8, 9, |it| it.is_violated(0) && !it.is_violated(1)) => orders(8, 9);
+        second_violated_before_inactive: before(8, 9, |it| it.is_violated(1) && !it.is_violated(0)) => orders(8, 9);
+        whole_before_inactive: before(8, 23, Asked::is_whole) => orders(8, 23);
+        whole_before_the_first_violated: before(9, 23, |it| it.is_whole() && !it.is_violated(1)) => orders(9, 23);
+        whole_before_the_second_violated: before(9, 23, |it| it.is_whole() && !it.is_violated(0)) => orders(9, 23);
+    }
 }
 
-/// One handle judged whole, and then the other, with all that is the call's in its place.
-#[test]
-fn one_handle_after_the_other() {
-    let first: Guard = |held, question| {
-        let rows = [
-            NO_LENGTH[0],
-            UNSOUND,
-            NOWHERE[0],
-            NO_MODE,
-            GAPPED[0],
-            INACTIVE[0],
-            OTHER_WIDTH[0],
-            VIOLATED[0],
-            NO_LENGTH[1],
-            NOWHERE[1],
-            GAPPED[1],
-            APART,
-            INACTIVE[1],
-            OTHER_WIDTH[1],
-            VIOLATED[1],
-            WHOLE,
-        ];
-        joined(held, question, &rows, RIGHTLY)
-    };
-    let second: Guard = |held, question| {
-        let rows = [
-            NO_LENGTH[1],
-            UNSOUND,
-            NOWHERE[1],
-            NO_MODE,
-            GAPPED[1],
-            INACTIVE[1],
-            OTHER_WIDTH[1],
-            VIOLATED[1],
-            NO_LENGTH[0],
-            NOWHERE[0],
-            GAPPED[0],
-            APART,
-            INACTIVE[0],
-            OTHER_WIDTH[0],
-            VIOLATED[0],
-            WHOLE,
-        ];
-        joined(held, question, &rows, RIGHTLY)
-    };
-    for told in [compared(first), compared(second)].concat() {
-        let told = told.expect_err("the handles are judged one after the other");
-        assert!(told.contains("asked:   Join "), "{told}");
-    }
+/// The rows in this order.
+fn in_order(order: [usize; 16]) -> Wrong {
+    joined(order.map(|at| RIGHT[at]).to_vec(), RIGHTLY)
+}
+
+// One handle judged whole, and then the other, with all that is the call's in its place.
+table! {
+    one_handle_after_the_other_first: in_order([0, 2, 3, 5, 6, 9, 11, 13, 1, 4, 7, 8, 10, 12, 14, 15])
+        => told([Asks(JOIN)]);
+    one_handle_after_the_other_second: in_order([1, 2, 4, 5, 7, 10, 12, 14, 0, 3, 6, 8, 9, 11, 13, 15])
+        => told([Asks(JOIN)]);
 }

@@ -1,133 +1,64 @@
-//! Replies to new passwords that tell of the other mode, found out without the model; and what two copies find out of
-//! passwords that are equal in one of them.
+//! Replies that tell of the other mode, found out without the model; and two copies with equal passwords in one of
+//! them.
 
-use super::kept::{
-    both_replaced, both_replaced_where_equal, giving, one_mode_s_replaced_where_equal, passed_on,
-    the_other_replaced,
-};
-use super::numbers::{not_made_equal, old_before_9, unsound_where_equal};
-use super::{compared_with_both, renewed, replaced, rightly, unless, Asked};
-use crate::seen::{instead, refused_if, SEED};
-use library::compare::Guard;
-use library::question::{Answer, Held, Question};
-use library::{copies, guard, untold};
-use model::call::{NEW_PASSWORD, READ, WRITE};
-use model::table::{TWINS, UNSOUND, VIOLATED_PROTECTION};
+use super::*;
 
-const PAIRS: u64 = 200;
-
-fn told_by(guard: Guard, what: &str) {
-    let told = untold::compare(guard, SEED, PAIRS).expect_err("the other mode is told");
-    assert!(told.contains(what), "{told}");
-    assert!(told.contains("asked:  NewPassword "), "{told}");
-}
-
-/// One that is wrong without telling anything is not found out either.
+/// Those that are wrong without telling anything are not found out either.
 #[test]
 fn what_does_not_hang_on_the_other_mode_is_not_found_out() {
-    let right: Guard = |held, question| renewed(held, question, rightly);
-    let never_old: Guard = |held, question| renewed(held, question, replaced);
-    for guard in [guard::ask, right, never_old] {
-        assert!(untold::compare(guard, SEED, PAIRS).is_ok());
+    let never_old = compared(|_| false);
+    for wrong in [crate::wrong::right(), renewed(rightly), never_old] {
+        run("untold", &wrong, &not_by([By::Untold]));
     }
 }
 
-/// The library, if it compared a new password in this way.
-fn compared(held: &mut Held, question: &Question, old: fn(&Asked) -> bool) -> Answer {
-    renewed(held, question, |asked| unless(old(asked), asked))
-}
-
-#[test]
-fn by_the_number() {
-    let guards: [Guard; 6] = [
-        compared_with_both,
-        |held, question| compared(held, question, |asked| asked.password == asked.other()),
-        |held, question| compared(held, question, |asked| asked.password == asked.cluster.read),
-        |held, question| {
-            compared(held, question, |asked| {
-                asked.password == asked.cluster.write
-            })
-        },
-        not_made_equal::<TWINS>,
-        unsound_where_equal,
-    ];
-    for guard in guards {
-        told_by(guard, "the replies differ");
-    }
-}
-
-#[test]
-fn by_the_handle() {
-    told_by(
-        |held, question| giving(held, question, Asked::other),
-        "the replies differ",
-    );
-}
-
-#[test]
-fn by_what_is_left_of_it() {
-    let guards: [Guard; 6] = [
-        both_replaced,
-        both_replaced_where_equal,
-        one_mode_s_replaced_where_equal::<true>,
-        one_mode_s_replaced_where_equal::<false>,
-        the_other_replaced,
-        passed_on,
-    ];
-    for guard in guards {
-        told_by(guard, "the other mode's passwords differ");
-    }
-}
-
-/// The library, if it left something that hangs on the other mode's password elsewhere.
-fn noting(held: &mut Held, question: &Question, note: fn(&mut Held, u8)) -> Answer {
-    let told = Asked::of(held, question).map(|asked| {
-        let all = asked.other();
-        all.iter()
-            .fold(0, |sum: u8, byte| sum.wrapping_mul(31).wrapping_add(*byte))
-    });
-    let answer = guard::ask(held, question);
-    if let Some(told) = told {
-        note(held, told);
-    }
-    answer
-}
-
-#[test]
-fn by_what_is_left_elsewhere() {
-    told_by(
-        |held, question| noting(held, question, |held, told| held.image[0] = told),
-        "the two images differ",
-    );
-    told_by(
-        |held, question| noting(held, question, |held, told| held.memory[0] = told),
-        "the two memories differ",
-    );
-}
-
-// Two copies.
-
-const COPIES: u64 = 100;
-
-fn told_apart(guard: Guard) {
-    let told = copies::compare(guard, SEED, COPIES).expect_err("the cluster set apart is told");
-    assert!(told.contains("the replies differ"), "{told}");
-}
-
-/// The library, if 9 was 1 for calls with this code where the passwords of the handle's cluster are equal.
-fn another_number_where_equal<const CODE: u8>(held: &mut Held, question: &Question) -> Answer {
-    instead(held, question, (CODE, VIOLATED_PROTECTION), |seen| {
-        let equal = seen.cluster().is_some_and(|own| own.has_equal_passwords());
-        refused_if(equal, UNSOUND)
+/// Leaves something that hangs on the other mode's password elsewhere.
+fn noting(note: fn(&mut Held, u8)) -> Wrong {
+    asked(move |held, question| {
+        let asked = Asked::of(held, question);
+        let answer = guard::ask(held, question);
+        if let Some(asked) = asked {
+            let other = asked.other().into_iter();
+            let sum = other.fold(0, |sum: u8, byte| sum.wrapping_mul(31).wrapping_add(byte));
+            note(held, sum);
+        }
+        answer
     })
 }
 
-/// One that tells of the other mode to those who open one is not: no list has a handle of the cluster set apart.
-#[test]
-fn what_two_copies_tell_of_passwords() {
-    told_apart(old_before_9);
-    told_apart(another_number_where_equal::<READ>);
-    told_apart(another_number_where_equal::<WRITE>);
-    told_apart(another_number_where_equal::<NEW_PASSWORD>);
-    assert!(copies::compare(compared_with_both, SEED, COPIES).is_ok());
+/// 9 is 1 for calls with this code where the passwords of the handle's cluster are equal.
+fn another_number_where_equal(code: u8) -> Wrong {
+    instead(code, 9, |seen| refused_if(seen.has_equal_passwords(), 1))
+}
+
+fn untold(word: Word) -> Complaint {
+    by(By::Untold, [word, Asks(NEW_PASSWORD)])
+}
+
+const OTHERS: Word = Says("the other mode's passwords differ");
+
+table! {
+    by_the_number_with_both: compared(is_either) => untold(REPLIES);
+    by_the_number_with_the_other: compared(Asked::is_other) => untold(REPLIES);
+    by_the_number_with_the_read_password: compared(|it| it.password == it.cluster.read) => untold(REPLIES);
+    by_the_number_with_the_write_password: compared(|it| it.password == it.cluster.write) => untold(REPLIES);
+    by_the_number_made_equal: not_made_equal(7) => untold(REPLIES);
+    by_the_number_unsound: unsound_where_equal() => untold(REPLIES);
+    by_the_handle: giving(Asked::other) => untold(REPLIES);
+    by_what_is_left_of_it_both: leaving(both_replaced) => untold(OTHERS);
+    by_what_is_left_of_it_both_where_equal: leaving(both_replaced_where_equal) => untold(OTHERS);
+    by_what_is_left_of_it_read: leaving(read_replaced_where_equal) => untold(OTHERS);
+    by_what_is_left_of_it_write: leaving(write_replaced_where_equal) => untold(OTHERS);
+    by_what_is_left_of_it_the_other: leaving(the_other_replaced) => untold(OTHERS);
+    by_what_is_left_of_it_passed_on: leaving(passed_on) => untold(OTHERS);
+    by_what_is_left_elsewhere_image: noting(|held, told| held.image[0] = told)
+        => untold(Says("the two images differ"));
+    by_what_is_left_elsewhere_memory: noting(|held, told| held.memory[0] = told)
+        => untold(Says("the two memories differ"));
+    what_two_copies_tell_of_passwords_old: old_before(9) => by(By::Copies, [REPLIES]);
+    what_two_copies_tell_of_passwords_read: another_number_where_equal(READ) => by(By::Copies, [REPLIES]);
+    what_two_copies_tell_of_passwords_write: another_number_where_equal(WRITE) => by(By::Copies, [REPLIES]);
+    what_two_copies_tell_of_passwords_new: another_number_where_equal(NEW_PASSWORD) => by(By::Copies, [REPLIES]);
+    /// It tells of the other mode to those who open one: no list has such a handle of the cluster set apart.
+    what_two_copies_tell_of_passwords_open: compared(is_either) => not_by([By::FewCopies]);
 }

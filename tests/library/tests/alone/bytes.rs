@@ -1,37 +1,25 @@
-//! Widths, asked of the library itself: the bytes of a handle of each, handles of another width than their cluster's,
-//! segments and masks by the handle's width, the width in a record, and batches of one width. What is expected is told
-//! without the model.
+//! Bytes of handles and of records as the library takes and leaves them. What is expected is told without the model.
 
 use crate::support::every::every;
-use crate::wide::{asked, held, local, primary, refused, READ, REST, THERE, WRITE};
-use library::chance::handles::at_width;
-use library::image::{record_at, segment_at, WIDTH_AT};
-use library::question::{Held, READ_MODE};
-use library::{batch, copies, edges, guard, writers};
+use crate::support::faults::{self, Kind, LOCAL, NODE};
+use crate::wide::{asked, held, local, primary, refused, READ, REST, WRITE};
+use library::chance::damage::{inflict, Damage, LAST_PLACE};
+use library::chance::stores;
+use library::ffi::gelmuszta_handle;
+use library::guard;
+use library::image::{encode, record_at, segment_at, MARK_AT, WIDTH_AT};
+use library::question::{Held, READ_MODE, WRITE_MODE};
 use model::call::{Call, Reply};
 use model::handle::{Handle, HandleBytes, Width};
 use model::hexadecimal;
+use model::random::Random;
+use model::sizes::SEGMENTS;
+use model::store::Store;
 
 fn given(held: &Held, call: Call) -> HandleBytes {
     let (reply, _) = asked(held, &call);
     assert_eq!(reply.number, 0, "{call:?}");
     reply.first
-}
-
-/// Every call by handles that open the cluster: where it reads by the read handle, else by the write handle, which for
-/// a reduction and a join is a weaker one.
-fn right(width: Width, reader: &Handle, writer: &Handle) -> Vec<Call> {
-    let [one, other] = [0b0100, 0b0110].map(|mask| writer.weaken(mask).expect("all are flat"));
-    let by = |handle: &Handle| every(&handle.to_bytes(), &other.to_bytes(), REST);
-    let [by_writer, by_weaker, by_reader] = [writer, &one, reader].map(by);
-    let mut calls = by_writer;
-    calls[5] = by_weaker[5].clone();
-    calls[8] = by_weaker[8].clone();
-    calls.splice(9.., by_reader[9..].to_vec());
-    if let Call::NewSegment { segment, .. } = &mut calls[1] {
-        *segment = u32::from(width.number()) - 1;
-    }
-    calls
 }
 
 /// What becomes of a primary handle that is weakened three times, byte by byte: four different subselectors at each
@@ -82,9 +70,9 @@ fn bytes_of_each_width() {
     }
 }
 
-/// Call 1 at each width, and every call by its handles; then the same by handles of every other width.
+/// Call 1 at each width writes the first bytes of the record and the two passwords, and no other byte.
 #[test]
-fn every_call_at_every_width() {
+fn the_record_of_a_new_cluster() {
     let before = held();
     for width in Width::ALL {
         let call = Call::NewCluster {
@@ -95,77 +83,13 @@ fn every_call_at_every_width() {
             write: WRITE,
         };
         let (reply, after) = asked(&before, &call);
-        let at = |password| Handle::primary(width, 3, 5, password).to_bytes();
-        let expected = Reply {
-            first: at(READ),
-            second: at(WRITE),
-            ..Reply::DONE
-        };
-        assert_eq!(reply, expected);
+        assert_eq!(reply.number, 0);
         let mut made = before.clone();
         let record = record_at(3, 5).start;
         made.image[record..record + 2].copy_from_slice(&[1, width.number()]);
         made.image[record + 2..record + 18].fill(0x11);
         made.image[record + 18..record + 34].fill(0x22);
         assert!(after == made);
-        let (reader, writer) = (primary(width, READ), primary(width, WRITE));
-        for call in right(width, &reader, &writer) {
-            assert_eq!(asked(&before, &call).0.number, 0, "{call:?}");
-        }
-        for other in crate::support::others(width) {
-            let [reader, writer] = [reader, writer].map(|handle| at_width(&handle, other));
-            for call in right(Width::Four, &reader, &writer) {
-                match call {
-                    Call::Weaken { .. } => assert_eq!(asked(&before, &call).0.number, 0),
-                    _ => refused(&before, &call, 25),
-                }
-            }
-        }
-    }
-}
-
-/// A segment goes by the handle's width, also where its cluster has another.
-#[test]
-fn segments_by_the_handle_s_width() {
-    let held = held();
-    for (cluster, width) in Width::ALL
-        .into_iter()
-        .flat_map(|cluster| Width::ALL.map(|width| (cluster, width)))
-    {
-        let handle = at_width(&primary(cluster, READ), width).to_bytes();
-        for segment in (0..=17).chain([256, 65_536 + THERE, u32::MAX]) {
-            let expected = match segment {
-                _ if segment >= width.number().into() => 3,
-                _ if cluster != width => 25,
-                THERE => 0,
-                _ => 14,
-            };
-            let handle = handle.clone();
-            let (reply, _) = asked(&held, &Call::Read { segment, handle });
-            assert_eq!(reply.number, expected, "{cluster:?} {width:?} {segment}");
-        }
-    }
-}
-
-/// Masks of sixteen bits: those at or above the width do not matter.
-#[test]
-fn upper_bits_of_a_mask() {
-    let held = held();
-    for width in [Width::Four, Width::Eight] {
-        let flat = width.flat();
-        let handle = primary(width, READ).to_bytes();
-        for mask in 0..=flat {
-            let weaken = |mask| {
-                let handle = handle.clone();
-                asked(&held, &Call::Weaken { mask, handle }).0
-            };
-            let expected = weaken(mask);
-            assert_eq!(expected.count, mask.count_ones());
-            assert_eq!(expected.number, if mask == 0 { 21 } else { 0 });
-            for above in [u16::MAX, 0x8000, flat + 1, 0x5a50, 0xa5a0] {
-                assert_eq!(weaken(mask | above & !flat), expected);
-            }
-        }
     }
 }
 
@@ -174,10 +98,7 @@ fn upper_bits_of_a_mask() {
 fn widths_of_records() {
     let before = held();
     let reader = primary(Width::Eight, READ).to_bytes();
-    let validate = Call::Validate {
-        mode: READ_MODE,
-        handle: reader,
-    };
+    let validate = Call::validate(READ_MODE, reader);
     for (node, place) in [(1, 3), (1, 6), (3, 7)] {
         let active = (node, place) == (1, 3);
         for width in 0..=u8::MAX {
@@ -204,6 +125,46 @@ fn widths_of_records() {
             let sound = segment < width.segments();
             assert_eq!(guard::is_sound(&mut held.image), sound);
             assert_eq!(asked(&held, &validate).0.number, u8::from(!sound));
+        }
+    }
+}
+
+/// A mark byte of every value, in each segment, of a cluster that has it and of one that is inactive.
+#[test]
+fn marks_are_0_or_1() {
+    let right = faults::of(Kind::Freeze, Width::Eight).next();
+    let right = right.expect("the empty set is the first");
+    let clusters = [(NODE, LOCAL), (NODE, LOCAL - 1), LAST_PLACE];
+    let before = stores::held(&mut Random::from_seed(4), &right.store);
+    for (node, local) in clusters {
+        for segment in 0..SEGMENTS {
+            let present = right.store.clusters[node][local].segments[segment].is_present();
+            for mark in 0..=u8::MAX {
+                let mut held = before.clone();
+                held.image[segment_at(node, local, segment).start + MARK_AT] = mark;
+                let sound = mark == 0 || mark == 1 && present;
+                assert_eq!(guard::is_sound(&mut held.image), sound);
+                assert_eq!(asked(&held, &right.call).0.number, u8::from(!sound));
+            }
+        }
+    }
+}
+
+/// Equal passwords do not make a store unsound, in whichever cluster; left in an inactive one, they do.
+#[test]
+fn equal_passwords_are_sound_where_the_cluster_is_active() {
+    for node in 0..4 {
+        for local in 0..8 {
+            let mut image = encode(&Store::starting());
+            let record = record_at(node, local);
+            image[record.start + 2..record.start + 34].fill(0x11);
+            assert!(!guard::is_sound(&mut image));
+            image[record.start] = 1;
+            for width in 0..=u8::MAX {
+                image[record.start + 1] = width;
+                let sound = [4, 8, 16].contains(&width);
+                assert_eq!(guard::is_sound(&mut image), sound);
+            }
         }
     }
 }
@@ -239,28 +200,78 @@ fn batches_of_one_width() {
     }
 }
 
+/// Every length byte that no handle has, in every call and for either handle of a join: 25 on a sound store and
+/// beside every kind of damage.
 #[test]
-fn edges_are_all_tried() {
-    // Eleven calls with one handle and one with two, of which each and both are changed; 256 lengths, three stores.
-    let (calls, done) = edges::lengths(guard::ask, 5).expect("no difference");
-    assert_eq!(calls, 3 * (11 + 3) * 256 * 3);
-    assert!(done > 40, "{done}");
-    // Six calls about a segment, with 24 numbers each, and six about none; two passwords, three widths of each.
-    let (calls, done) = edges::segments(guard::ask, 5).expect("no difference");
-    assert_eq!(calls, 3 * 3 * 2 * (6 * 24 + 6));
-    assert!(done > 50, "{done}");
-    let (calls, done) = edges::new_clusters(guard::ask, 5).expect("no difference");
-    assert_eq!((calls, done), (3 * 4 * 306, 3 * 3));
-    let batches = batch::every_width(guard::validate_all, 5).expect("no difference");
-    assert_eq!(batches, 3 * 38 + (43 + 47 + 55));
+fn lengths_that_no_handle_has() {
+    let random = &mut Random::from_seed(1);
+    let sound = held();
+    let damaged = Damage::ALL.map(|damage| {
+        let mut damaged = sound.clone();
+        inflict(random, &mut damaged, damage, LAST_PLACE);
+        damaged
+    });
+    let right = primary(Width::Eight, WRITE)
+        .weaken(1)
+        .expect("all are flat");
+    for length in (0..=255).filter(|length| ![21, 23, 27].contains(length)) {
+        let mut wrong = right.to_bytes();
+        wrong.resize(length, 0xff);
+        let right = right.to_bytes();
+        let mode = WRITE_MODE;
+        let second = Call::join(mode, right.clone(), wrong.clone());
+        let calls = every(&wrong, &right, REST).into_iter().chain([second]);
+        for (at, call) in calls.enumerate() {
+            refused(&sound, &call, 25);
+            refused(&damaged[(length + at) % damaged.len()], &call, 25);
+        }
+    }
+    for damaged in &damaged {
+        let (wrong, right) = (right.to_bytes()[..22].to_vec(), right.to_bytes());
+        for call in every(&wrong, &right, REST) {
+            refused(damaged, &call, 25);
+        }
+    }
 }
 
+/// What is given is told as it is laid out: what comes after the length has to be zero.
 #[test]
-fn two_copies_come_to_every_width() {
-    let count = copies::compare(guard::ask, 6, 60).expect("the copies agree");
-    for counted in [count.widths, count.other_width, count.by_width] {
-        assert!(counted.iter().all(|counted| *counted > 4), "{count:?}");
+fn handles_as_they_are_given() {
+    let given = |length, from: usize| {
+        let mut bytes = [0; 27];
+        bytes[..from].fill(7);
+        gelmuszta_handle { bytes, length }
+    };
+    for length in [21, 23, 27] {
+        assert_eq!(given(length, length.into()).told(), vec![7; length.into()]);
     }
-    let count = writers::compare(guard::ask, 6, 200).expect("the copies agree");
-    assert!(count.faults().is_empty(), "{count:?}");
+    assert_eq!(given(0, 0).told(), Vec::<u8>::new());
+    for (length, from) in [(0, 1), (21, 22), (23, 27), (28, 27), (u8::MAX, 0)] {
+        let told = given(length, from).told();
+        assert_eq!(told.len(), 28, "{length} {from}");
+        assert_eq!(Handle::from_bytes(&told), None);
+    }
+    assert_eq!(gelmuszta_handle::UNWRITTEN.told().len(), 28);
+}
+
+/// What is taken is laid out with what lies behind the length; where the length is more than there is room for, the
+/// first bytes are there.
+#[test]
+fn handles_as_they_are_taken() {
+    let behind: [u8; 27] = std::array::from_fn(|at| 101 + at as u8);
+    let bytes: Vec<u8> = (1..=255).collect();
+    for (length, own) in [
+        (0, 0),
+        (1, 1),
+        (21, 21),
+        (26, 26),
+        (27, 27),
+        (28, 27),
+        (255, 27),
+    ] {
+        let taken = gelmuszta_handle::of(&bytes[..length], &behind);
+        assert_eq!(usize::from(taken.length), length);
+        assert_eq!(taken.bytes[..own], bytes[..own]);
+        assert_eq!(taken.bytes[own..], behind[own..]);
+    }
 }

@@ -1,14 +1,12 @@
-//! What the comparison has to come to, written out call by call, is what the rows of the model's table say of each call.
+//! What the comparison has to come to, written out call by call, is what the rows of the model's table say of each
+//! call.
 
-#[path = "../../tests/support/mod.rs"]
-mod support;
-
+use crate::support::every::{every, Rest};
+use crate::support::{new_cluster, reader};
 use library::question::Question;
 use library::tally::allowed;
 use model::table::{numbers_of, DONE};
 use std::collections::BTreeSet;
-use support::every::{every, Rest};
-use support::{new_cluster, reader};
 
 #[test]
 fn each_call_comes_to_all_of_its_rows() {

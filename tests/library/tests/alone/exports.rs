@@ -4,7 +4,7 @@ use library::guard;
 use std::collections::BTreeSet;
 use std::process::Command;
 
-const HEADER: &str = include_str!("../../../include/gelmuszta.h");
+const HEADER: &str = include_str!("../../../../include/gelmuszta.h");
 const ARCHIVE: &str = concat!(
     env!("CARGO_MANIFEST_DIR"),
     "/../../target/staticlib/libgelmuszta.a"

@@ -15,7 +15,7 @@ use model::random::Random;
 use model::sizes::{CLUSTERS, MEMORY_BYTES, NODES, NODE_BYTES};
 use model::store::Store;
 
-const HEADER: &str = include_str!("../../../include/gelmuszta.h");
+const HEADER: &str = include_str!("../../../../include/gelmuszta.h");
 const TIMES: usize = 200;
 
 #[test]

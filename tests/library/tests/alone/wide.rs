@@ -28,13 +28,7 @@ pub fn held() -> Held {
     let mut store = Store::starting();
     for (at, width) in Width::ALL.into_iter().enumerate() {
         let cluster = &mut store.clusters[1][local(width)];
-        *cluster = Cluster {
-            active: true,
-            width: width.number(),
-            read: READ,
-            write: WRITE,
-            ..Cluster::INACTIVE
-        };
+        *cluster = Cluster::new(width, READ, WRITE);
         cluster.segments[THERE as usize] = Segment::present(10 * at as u16, 4);
     }
     Held {

@@ -1,0 +1,220 @@
+//! Ways to be wrong that tables put together: another question, another answer, something left behind.
+
+use crate::seen::Seen;
+use library::ffi::gelmuszta_handle;
+use library::guard;
+use library::image::{record_at, segment_at, Image};
+use library::question::{Answer, Held, Question};
+use model::call::{Call, Reply};
+use std::ops::Range;
+use std::rc::Rc;
+
+pub type Ask = dyn Fn(&mut Held, &Question) -> Answer;
+/// Mode and width are one argument.
+pub type Batch = dyn Fn(&mut Held, (usize, usize), &[u8], &mut [u8]) -> usize;
+pub type Judge = dyn Fn(&mut Image) -> bool;
+pub type Make = dyn Fn(&[u8]) -> (u8, gelmuszta_handle);
+
+/// A library: what it answers, how it judges many handles, which images it holds for sound, and what it makes of bytes.
+#[derive(Clone)]
+pub struct Wrong {
+    pub ask: Rc<Ask>,
+    pub batch: Rc<Batch>,
+    pub judge: Rc<Judge>,
+    pub make: Rc<Make>,
+}
+
+/// The library as it is.
+pub fn right() -> Wrong {
+    Wrong {
+        ask: Rc::new(guard::ask),
+        batch: Rc::new(validate_all),
+        judge: Rc::new(guard::is_sound),
+        make: Rc::new(guard::handle_of),
+    }
+}
+
+pub fn validate_all(
+    held: &mut Held,
+    (mode, width): (usize, usize),
+    handles: &[u8],
+    numbers: &mut [u8],
+) -> usize {
+    guard::validate_all(held, mode, width, handles, numbers)
+}
+
+/// Answers in another way.
+pub fn asked(ask: impl Fn(&mut Held, &Question) -> Answer + 'static) -> Wrong {
+    Wrong {
+        ask: Rc::new(ask),
+        ..right()
+    }
+}
+
+/// Judges many handles in another way.
+pub fn batch(
+    batch: impl Fn(&mut Held, (usize, usize), &[u8], &mut [u8]) -> usize + 'static,
+) -> Wrong {
+    Wrong {
+        batch: Rc::new(batch),
+        ..right()
+    }
+}
+
+/// Holds other images for sound.
+pub fn judging(judge: impl Fn(&mut Image) -> bool + 'static) -> Wrong {
+    Wrong {
+        judge: Rc::new(judge),
+        ..right()
+    }
+}
+
+/// Makes another handle of bytes.
+pub fn making(make: impl Fn(&[u8]) -> (u8, gelmuszta_handle) + 'static) -> Wrong {
+    Wrong {
+        make: Rc::new(make),
+        ..right()
+    }
+}
+
+/// Takes a question for another.
+pub fn asking(change: impl Fn(&mut Question) + 'static) -> Wrong {
+    asked(move |held, question| {
+        let mut other = question.clone();
+        change(&mut other);
+        guard::ask(held, &other)
+    })
+}
+
+/// Takes a mode or another number for what its low bytes say, where no four bytes hold it.
+pub fn cut_to(bytes: usize) -> Wrong {
+    asking(move |question| question.beyond &= (1 << (8 * bytes)) - 1)
+}
+
+/// What a call was asked of, what it was, and what has come of it.
+pub struct After<'a> {
+    pub before: &'a Held,
+    pub held: &'a mut Held,
+    pub question: &'a Question,
+    pub reply: Reply,
+    pub buffer: Vec<u8>,
+}
+
+impl After<'_> {
+    pub fn is_refused(&self, code: u8) -> bool {
+        self.question.code() == code && !self.reply.is_done()
+    }
+
+    /// Node and local number of the cluster that it is about, if it names one.
+    pub fn cluster(&self) -> Option<(usize, usize)> {
+        match self.question.call {
+            Call::NewCluster { node, local, .. } => Some((node as usize, local as usize)),
+            _ => {
+                let handle = self.question.call.handle()?;
+                Some((handle.node.into(), handle.local.into()))
+            }
+        }
+    }
+
+    /// Where the record of a call that is done lies.
+    pub fn record(&self) -> Range<usize> {
+        let (node, local) = self.cluster().expect("it is done to one");
+        record_at(node, local)
+    }
+
+    /// Where its segment's place and mark lie; of segment 0 where it names none.
+    pub fn place(&self) -> Range<usize> {
+        let (node, local) = self.cluster().expect("it is done to one");
+        let segment = self.question.call.segment().unwrap_or(0);
+        segment_at(node, local, segment as usize)
+    }
+
+    /// The bytes of its record, and of its segment's place and mark.
+    pub fn record_mut(&mut self) -> &mut [u8] {
+        let record = self.record();
+        &mut self.held.image[record]
+    }
+
+    pub fn place_mut(&mut self) -> &mut [u8] {
+        let place = self.place();
+        &mut self.held.image[place]
+    }
+
+    /// As it was before.
+    pub fn seen(&self) -> Option<Seen> {
+        Seen::of(self.before, self.question)
+    }
+}
+
+/// Does something else besides, whatever was asked.
+pub fn after(change: impl Fn(&mut After) + 'static) -> Wrong {
+    after_some(|_| true, change)
+}
+
+/// The same for some questions.
+fn after_some(
+    meant: impl Fn(&Question) -> bool + 'static,
+    change: impl Fn(&mut After) + 'static,
+) -> Wrong {
+    asked(move |held, question| {
+        if !meant(question) {
+            return guard::ask(held, question);
+        }
+        let before = held.clone();
+        let Answer { reply, buffer } = guard::ask(held, question);
+        let mut after = After {
+            before: &before,
+            held,
+            question,
+            reply,
+            buffer,
+        };
+        change(&mut after);
+        let (reply, buffer) = (after.reply, after.buffer);
+        Answer { reply, buffer }
+    })
+}
+
+/// The same for calls that get this number.
+pub fn at(number: u8, change: impl Fn(&mut After) + 'static) -> Wrong {
+    after(move |after| {
+        if after.reply.number == number {
+            change(after);
+        }
+    })
+}
+
+/// The same for calls with this code that get this number.
+pub fn on(code: u8, number: u8, change: impl Fn(&mut After) + 'static) -> Wrong {
+    let meant = move |question: &Question| question.code() == code;
+    after_some(meant, move |after| {
+        if after.reply.number == number {
+            change(after);
+        }
+    })
+}
+
+/// Gives calls with this code that get this number what `other` has for them; nothing changes then.
+pub fn instead(code: u8, number: u8, other: impl Fn(&Seen) -> Option<Reply> + 'static) -> Wrong {
+    on(code, number, move |after| {
+        if let Some(reply) = after.seen().and_then(|seen| other(&seen)) {
+            *after.held = after.before.clone();
+            after.reply = reply;
+            after.buffer = after.question.buffer.clone();
+        }
+    })
+}
+
+/// Refuses with `wrong` what gets `right`, where this applies.
+pub fn refusing(
+    code: u8,
+    right: u8,
+    wrong: u8,
+    applies: impl Fn(&Seen) -> bool + 'static,
+) -> Wrong {
+    instead(code, right, move |seen| refused_if(applies(seen), wrong))
+}
+
+pub fn refused_if(applies: bool, number: u8) -> Option<Reply> {
+    applies.then_some(Reply::refused(number))
+}
