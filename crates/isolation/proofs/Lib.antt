@@ -11,8 +11,11 @@ pub mod FrozenLaws
 pub mod UnusedLaws
 pub mod CheckLaws
 pub mod RunLaws
+pub mod RoundLaws
+pub mod UseCopyLaws
 pub mod ReplyLaws
 pub mod HoldingLaws
+pub mod UseLaws
 pub mod WitnessLaws
 pub mod WidthWitnessLaws
 pub mod ReaderWitnessLaws

@@ -17,3 +17,5 @@ pub mod WidthLists
 pub mod WidthHolders
 pub mod WidthWitness
 pub mod Reads
+pub mod UseLists
+pub mod Uses
