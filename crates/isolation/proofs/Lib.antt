@@ -15,15 +15,17 @@ pub mod RoundLaws
 pub mod UseCopyLaws
 pub mod ReplyLaws
 pub mod HoldingLaws
-pub mod UseLaws
 pub mod WitnessLaws
 pub mod WidthWitnessLaws
+pub mod UseLaws
+pub mod ValidationUseLaws
 pub mod ReaderWitnessLaws
 pub mod FrozenWitnessLaws
 pub mod PrimaryLaws
 pub mod GivenLaws
 pub mod RenewalLaws
 pub mod RenewedLaws
+pub mod HolderUseLaws
 pub mod RenewalReplyLaws
 pub mod EffectLaws
 pub mod ReadLaws
@@ -33,6 +35,7 @@ pub mod WriterLaws
 pub mod SpyLaws
 pub mod WriterCopyLaws
 pub mod WriterWitnessLaws
+pub mod WriterUseLaws
 pub mod WidthHolderLaws
 pub mod LeakLaws
 pub mod AesLaws

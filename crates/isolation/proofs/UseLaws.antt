@@ -4,23 +4,25 @@
 use mathlib.Core.Path.{_≡_, refl, sym, ap, _∙_, subst}
 use Prim.Native.Nat.{ℕ, _+_, _≤_, _<_}
 use native.Mathlib.Omega.{arith}
-use mathlib.Core.Bool.{true}
+use mathlib.Core.Bool.{true, false}
 use mathlib.Core.List.{List}
 use lib.ListN.{length, getD}
 use Rattle.handle.specs.Handles.{Name}
-use Rattle.store.specs.Records.{clusterAt, tableAt, placeOn}
+use Rattle.store.specs.Records.{clusterAt, tableAt, placeOn, readMode, writeMode}
 use Rattle.calls.specs.Calls.{Copy}
 use Rattle.calls.specs.Numbers.{tests}
 use Rattle.calls.specs.Steps.{Ran, effects, run}
 use Rattle.calls.proofs.Computing.{computing}
-use Rattle.isolation.specs.Copies.{InPlace, Outside, AllShut, keyed, places}
+use Rattle.isolation.specs.Copies.{InPlace, Outside, Unaltered, keyed, AllShut, NoWriter, places}
 use Rattle.isolation.specs.Statements.{Agreed}
 use Rattle.isolation.specs.UseLists.{Wide, top, keeping, repeated, shut, shutAnswers, shutPlaces}
-use Rattle.isolation.specs.Uses.{TwoCopiesUses}
-use Rattle.isolation.proofs.RunLaws.{numbersOf, ranBy, run-below, places-below, isKeyed, shut-below}
+use Rattle.isolation.specs.Uses.{TwoCopiesUses, ReadersUses}
+use Rattle.isolation.proofs.RunLaws.{numbersOf, ranBy, run-below, places-below, along-below, isKeyed, shut-below}
 use Rattle.isolation.proofs.RoundLaws.{checked, toldBy, Round, round, rounds-same}
 use Rattle.isolation.proofs.UseCopyLaws.{sound-keeping, top-low, its-bytes, in-top, in-first, at-top, at-high, alike-keeping}
+use Rattle.calls.proofs.CallLaws.{or-right}
 use Rattle.isolation.proofs.TwoCopies.{two-copies}
+use Rattle.isolation.proofs.ReaderLaws.{readers-alter-nothing}
 
 module _ (f : Name → List ℕ → ℕ → List ℕ) (v : Wide) where
   -- ---- the list that opens nothing
@@ -54,6 +56,12 @@ module _ (f : Name → List ℕ → ℕ → List ℕ) (v : Wide) where
 
     all-shut : (n : ℕ) → AllShut 3 7 f (repeated n shut) copy
     all-shut n = shut-below f 3 7 (repeated n shut) copy (sound-keeping v r w b c d y z) (shut-rounds n .untested)
+
+    no-writer : (n : ℕ) → NoWriter 3 7 f (repeated n shut) copy
+    no-writer n =
+        along-below f (isKeyed f 3 7) (λ x s. keyed 3 7 f writeMode x s ≡ false)
+        (λ x s e. or-right (keyed 3 7 f readMode x s) (keyed 3 7 f writeMode x s) e) (repeated n shut) copy
+        (sound-keeping v r w b c d y z) (shut-rounds n .untested)
 
   -- ---- condition 3
 
@@ -110,5 +118,26 @@ module _ (f : Name → List ℕ → ℕ → List ℕ) (v : Wide) where
           second-others = (
             sym (agreed .held-second .bytes 12292 0 (omega arith) (in-first v q s 0 (omega arith))) ∙ at-high v q s k l m y z 4,
             sym (agreed .held-second .bytes 12293 0 (omega arith) (in-first v q s 1 (omega arith))) ∙ at-high v q s k l m y z 5,
+          );
+        }
+
+  -- ---- readers
+
+  module _ (n : ℕ) (p : List ℕ) (b c d y z : ℕ) where
+    unaltered : Unaltered 3 7 (copy p p b c d y z) (run f (repeated n shut) (copy p p b c d y z) .copy)
+    unaltered =
+        readers-alter-nothing 3 7 f (omega arith) (omega arith) (repeated n shut) (copy p p b c d y z)
+        (sound-keeping v p p b c d y z) refl (no-writer p p b c d y z n)
+
+    pub readers-uses : ReadersUses f v n p b c d y z
+    readers-uses =
+        record {
+          table = sym (unaltered .table);
+          write = sym (unaltered .write);
+          bytes = λ i h.
+              sym (unaltered .bytes (12288 + i) (top v) (top-low v) (in-top v p p i h)) ∙ at-top v p p b c d y z i h;
+          others = (
+            sym (unaltered .bytes 12292 0 (omega arith) (in-first v p p 0 (omega arith))) ∙ at-high v p p b c d y z 4,
+            sym (unaltered .bytes 12293 0 (omega arith) (in-first v p p 1 (omega arith))) ∙ at-high v p p b c d y z 5,
           );
         }

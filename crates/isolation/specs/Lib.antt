@@ -19,3 +19,4 @@ pub mod WidthWitness
 pub mod Reads
 pub mod UseLists
 pub mod Uses
+pub mod ValidationUses
