@@ -94,7 +94,7 @@ module _ (f : Name → List ℕ → ℕ → List ℕ) (v : Wide) where
   -- ---- §3
 
   module _ (r w : List ℕ) (b c d y z : ℕ) (xs : List Call) where
-    its-mark : frozenAt (keeping v r w b c d y z .store) 3 7 (top v) ≡ true
+    pub its-mark : frozenAt (keeping v r w b c d y z .store) 3 7 (top v) ≡ true
     its-mark = elim v [ ofFour ↦ refl | ofEight ↦ refl | ofSixteen ↦ refl ]
 
     fixed : Fixed 3 7 (top v) 0 4 (keeping v r w b c d y z) (run f xs (keeping v r w b c d y z) .copy)
@@ -120,7 +120,7 @@ module _ (f : Name → List ℕ → ℕ → List ℕ) where
   abbrev copy : Wide → List ℕ → ℕ → ℕ → ℕ → ℕ → ℕ → Copy
   copy v r b c d y z = keeping v r (sixteen 34) b c d y z
 
-  freeze-done : (v : Wide) (r : List ℕ) (b c d y z : ℕ) → Done f (freezing 3 0 (own v 3 7 34)) (copy v r b c d y z)
+  pub freeze-done : (v : Wide) (r : List ℕ) (b c d y z : ℕ) → Done f (freezing 3 0 (own v 3 7 34)) (copy v r b c d y z)
   unfolding tests computing
   freeze-done ofFour r b c d y z =
       number-below f (freezing 3 0 (own ofFour 3 7 34)) _ _ (sound-keeping ofFour r (sixteen 34) b c d y z) ∙ refl

@@ -48,13 +48,13 @@ module _ (f : Name → List ℕ → ℕ → List ℕ) (v : Wide) where
         rounds-same f (isKeyed f 3 7) shut shutAnswers shutPlaces copy
         (round f (isKeyed f 3 7) (numbersOf f shutAnswers) shut copy copy shutAnswers shutPlaces shut-checked shut-ran shut-told)
 
-    shut-ended : (n : ℕ) → run f (repeated n shut) copy ≡ record { replies = repeated n shutAnswers; copy = copy }
+    pub shut-ended : (n : ℕ) → run f (repeated n shut) copy ≡ record { replies = repeated n shutAnswers; copy = copy }
     shut-ended n = run-below f (repeated n shut) copy (sound-keeping v r w b c d y z) ∙ shut-rounds n .ran
 
-    shut-places : (n : ℕ) → places f (repeated n shut) copy ≡ repeated n shutPlaces
+    pub shut-places : (n : ℕ) → places f (repeated n shut) copy ≡ repeated n shutPlaces
     shut-places n = places-below f (repeated n shut) copy (sound-keeping v r w b c d y z) ∙ shut-rounds n .looked
 
-    all-shut : (n : ℕ) → AllShut 3 7 f (repeated n shut) copy
+    pub all-shut : (n : ℕ) → AllShut 3 7 f (repeated n shut) copy
     all-shut n = shut-below f 3 7 (repeated n shut) copy (sound-keeping v r w b c d y z) (shut-rounds n .untested)
 
     no-writer : (n : ℕ) → NoWriter 3 7 f (repeated n shut) copy

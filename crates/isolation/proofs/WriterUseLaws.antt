@@ -72,7 +72,7 @@ module _ (f : Name → List ℕ → ℕ → List ℕ) where
     ended : run f (repeated n (writes v)) (copy v r b c d y z) ≡ record { replies = repeated n (writeAnswers v); copy = left }
     ended = run-below f (repeated n (writes v)) (copy v r b c d y z) (sound-keeping v r (sixteen 34) b c d y z) ∙ many .ran
 
-    no-reader : NoReader 3 7 f (step f) (repeated n (writes v)) (copy v r b c d y z)
+    pub no-reader : NoReader 3 7 f (step f) (repeated n (writes v)) (copy v r b c d y z)
     no-reader =
         along-below f (spying 3 7 f) (λ x s. ¬ Spies 3 7 f x s) (unspied 3 7 f) (repeated n (writes v)) (copy v r b c d y z)
         (sound-keeping v r (sixteen 34) b c d y z) (many .untested)

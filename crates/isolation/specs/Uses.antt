@@ -47,19 +47,19 @@ module _ (f : Name → List ℕ → ℕ → List ℕ) (v : Wide) where
       pub record TwoCopiesUses : Type 0 where
         pub replies : run f (repeated n shut) second .replies ≡ repeated n shutAnswers
         pub places : places f (repeated n shut) second ≡ repeated n shutPlaces
-        pub records : length (end second .store .clusters) ≡ 32
+        pub byte-of-none : getD (end second .memory) 12294 0 ≡ y
+        pub byte-other-node : getD (end second .memory) 4 0 ≡ z
+        pub other-byte : getD (end second .memory) 1 0 ≡ 6
         pub other-record : clusterAt (end second .store) 3 ≡ beside
         pub table : tableAt (end second .store) 31 ≡ tableOf (apart v p p)
-        pub size : length (end second .memory) ≡ 16384
-        pub byte-other-node : getD (end second .memory) 4 0 ≡ z
-        pub byte-of-none : getD (end second .memory) 12294 0 ≡ y
-        pub other-byte : getD (end second .memory) 1 0 ≡ 6
         pub first-record : clusterAt (end first .store) 31 ≡ apart v p p
         pub first-bytes : (i : ℕ) → i < 4 → getD (end first .memory) (12288 + i) 0 ≡ b
         pub first-others : (getD (end first .memory) 12292 0 ≡ c) × (getD (end first .memory) 12293 0 ≡ d)
         pub second-record : clusterAt (end second .store) 31 ≡ apart v q s
         pub second-bytes : (i : ℕ) → i < 4 → getD (end second .memory) (12288 + i) 0 ≡ k
         pub second-others : (getD (end second .memory) 12292 0 ≡ l) × (getD (end second .memory) 12293 0 ≡ m)
+        pub records : length (end second .store .clusters) ≡ 32
+        pub size : length (end second .memory) ≡ 16384
 
     module _ (p : List ℕ) (b c d y z : ℕ) where
       abbrev readEnd : Copy
