@@ -72,12 +72,6 @@ module _ (f : Name → List ℕ → ℕ → List ℕ) (v : Wide) where
     abbrev two : Copy
     two = keeping v q s k l m y z
 
-    agreed : Agreed 3 7 f (repeated n shut) one two
-    agreed =
-        two-copies 3 7 f (omega arith) (omega arith) (repeated n shut) one two (sound-keeping v p p b c d y z)
-        (sound-keeping v q s k l m y z) refl (alike-keeping v p p q s b c d k l m y z) (all-shut p p b c d y z n)
-        (all-shut q s k l m y z n)
-
     left : run f (repeated n shut) one .copy ≡ one
     left = ap (λ (a : Ran). a .copy) (shut-ended p p b c d y z n)
 
@@ -89,8 +83,9 @@ module _ (f : Name → List ℕ → ℕ → List ℕ) (v : Wide) where
     byte : (a : ℕ) → getD (run f (repeated n shut) one .copy .memory) a 0 ≡ getD (one .memory) a 0
     byte a = ap (λ (x : Copy). getD (x .memory) a 0) left
 
-    pub two-copies-uses : TwoCopiesUses f v n p q s b c d k l m y z
-    two-copies-uses =
+    -- each fact is a clause of condition 3's conclusion
+    pub uses-of : Agreed 3 7 f (repeated n shut) one two → TwoCopiesUses f v n p q s b c d k l m y z
+    uses-of agreed =
         record {
           replies = sym (agreed .replies) ∙ ap (λ (a : Ran). a .replies) (shut-ended p p b c d y z n);
           places = sym (agreed .places) ∙ shut-places p p b c d y z n;
@@ -120,6 +115,15 @@ module _ (f : Name → List ℕ → ℕ → List ℕ) (v : Wide) where
             sym (agreed .held-second .bytes 12293 0 (omega arith) (in-first v q s 1 (omega arith))) ∙ at-high v q s k l m y z 5,
           );
         }
+
+    agreed : Agreed 3 7 f (repeated n shut) one two
+    agreed =
+        two-copies 3 7 f (omega arith) (omega arith) (repeated n shut) one two (sound-keeping v p p b c d y z)
+        (sound-keeping v q s k l m y z) refl (alike-keeping v p p q s b c d k l m y z) (all-shut p p b c d y z n)
+        (all-shut q s k l m y z n)
+
+    pub two-copies-uses : TwoCopiesUses f v n p q s b c d k l m y z
+    two-copies-uses = uses-of agreed
 
   -- ---- readers
 
