@@ -7,3 +7,4 @@ pub mod ValidationLaws
 pub mod FitLaws
 pub mod RunLaws
 pub mod WriterImageLaws
+pub mod ImageUseLaws

@@ -4,4 +4,5 @@ pub mod Validation
 pub mod Fits
 pub mod Runs
 pub mod WriterImages
+pub mod ImageUses
 pub mod inner
