@@ -25,7 +25,7 @@ use Rattle.calls.specs.Literals.{sixteen, primary, handle, shows}
 use Rattle.isolation.specs.Frozen.{placeAt, frozenAt}
 use Rattle.isolation.specs.UseLists.{Wide, top, own, records, low, high, repeated, shut, writes}
 use Rattle.isolation.specs.Uses.{TwoCopiesUses}
-use Rattle.image.specs.Images.{imageBytes, good, imageOf}
+use Rattle.image.specs.Images.{imageBytes, good, storeIn, imageOf}
 use Rattle.gelmuszta.specs.Exported.{exported, exportedPart}
 use Rattle.gelmuszta.specs.Runs.{runOn, placesOn, leftOn}
 
@@ -78,6 +78,7 @@ module _ (v : Wide) (n : ℕ) where
       pub table : tableAt (ours .store) 31 ≡ tableAt (theirs .store) 31
       pub write : clusterAt (ours .store) 31 .write ≡ clusterAt (theirs .store) 31 .write
       pub size : length (ours .memory) ≡ length (theirs .memory)
+      pub other-byte : getD (ours .memory) 1 0 ≡ getD (theirs .memory) 1 0
 
 module _ (v : Wide) (p : Passwords) (b c d y z : ℕ) (xs : List Call) where
   abbrev frozenEnd : Copy
@@ -90,10 +91,12 @@ module _ (v : Wide) (p : Passwords) (b c d y z : ℕ) (xs : List Call) where
     pub frozen : frozenAt (frozenEnd .store) 3 7 (top v) ≡ true
     pub bytes : (i : ℕ) → i < 4 → getD (frozenEnd .memory) (12288 + i) 0 ≡ b
 
+module _ (v : Wide) (b c d y z : ℕ) (xs : List Call) where
   abbrev freezeEnd : Copy
   freezeEnd = leftOn (freezing 3 0 (own v 3 7 34) ∷ xs) (image v equal) (memory b c d y z)
 
   pub record FrozenFromUses : Type 0 where
+    pub present : (base : ℕ) × (size : ℕ) × (placeAt (storeIn (image v equal)) 3 7 0 ≡ Present base size)
     pub good : good (runOn (freezing 3 0 (own v 3 7 34) ∷ xs) (image v equal) (memory b c d y z) .image) ≡ true
     pub active : clusterAt (freezeEnd .store) 31 .active ≡ true
     pub place : placeAt (freezeEnd .store) 3 7 0 ≡ Present 4 2
