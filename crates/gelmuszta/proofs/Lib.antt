@@ -8,3 +8,4 @@ pub mod FitLaws
 pub mod RunLaws
 pub mod WriterImageLaws
 pub mod ImageUseLaws
+pub mod ImageHolderUseLaws
