@@ -9,3 +9,5 @@ pub mod BatchWordLaws
 pub mod FitLaws
 pub mod RunLaws
 pub mod WriterImageLaws
+pub mod ImageUseLaws
+pub mod ImageHolderUseLaws

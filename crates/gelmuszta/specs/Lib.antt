@@ -8,4 +8,5 @@ pub mod BatchLiterals
 pub mod Fits
 pub mod Runs
 pub mod WriterImages
+pub mod ImageUses
 pub mod inner

@@ -7,6 +7,7 @@ pub mod CodecLaws
 pub mod TripLaws
 pub mod HeldLaws
 pub mod TripStatements
+pub mod TripUseLaws
 pub mod CodeLaws
 pub mod WeakenLaws
 pub mod ExamplesHold

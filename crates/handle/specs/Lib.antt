@@ -8,6 +8,7 @@ pub mod Examples
 pub mod WidthCases
 pub mod Literals
 pub mod Trips
+pub mod TripUses
 pub mod Words
 pub mod Empty
 pub mod Joins

@@ -17,3 +17,6 @@ pub mod WidthLists
 pub mod WidthHolders
 pub mod WidthWitness
 pub mod Reads
+pub mod UseLists
+pub mod Uses
+pub mod ValidationUses
