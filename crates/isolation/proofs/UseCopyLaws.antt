@@ -31,9 +31,7 @@ use Rattle.isolation.specs.UseLists.{Wide, ofFour, ofEight, ofSixteen, t
 quick-keeping : (v : Wide) (r w : List ℕ) (b c d y z : ℕ)
     → quick (records v r w) (length (keeping v r w b c d y z .memory)) ≡ true
 unfolding quickly
-quick-keeping ofFour r w b c d y z = refl
-quick-keeping ofEight r w b c d y z = refl
-quick-keeping ofSixteen r w b c d y z = refl
+quick-keeping v r w b c d y z = elim v [ ofFour ↦ refl | ofEight ↦ refl | ofSixteen ↦ refl ]
 
 pub sound-keeping : (v : Wide) (r w : List ℕ) (b c d y z : ℕ) → SoundCopy (keeping v r w b c d y z)
 sound-keeping v r w b c d y z =

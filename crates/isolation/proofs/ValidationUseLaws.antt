@@ -75,9 +75,7 @@ module _ (f : Name → List ℕ → ℕ → List ℕ) where
         × (chained f (validating 2 (own v 3 7 k) .args) (judged f v a b .store) ≡ sixteen b)
         × (decoded (own v 3 7 k) .password ≡ sixteen k)
     unfolding computing
-    chain-own ofFour a b k = (refl, refl, refl)
-    chain-own ofEight a b k = (refl, refl, refl)
-    chain-own ofSixteen a b k = (refl, refl, refl)
+    chain-own v a b k = elim v [ ofFour ↦ (refl, refl, refl) | ofEight ↦ (refl, refl, refl) | ofSixteen ↦ (refl, refl, refl) ]
 
     chain-cut : (v : Wide) (a b k : ℕ)
         → (chained f (validating 1 (cut f v k) .args) (judged f v a b .store) ≡ password f v a)

@@ -42,28 +42,23 @@ module _ (f : Name → List ℕ → ℕ → List ℕ) where
 
   unspied-one : (v : Sort) → someBelow f (spying 0 2 f) (writes v) (one v) ≡ false
   unfolding keyed tests effects computing
-  unspied-one ofFour = refl
-  unspied-one ofSixteen = refl
+  unspied-one v = elim v [ ofFour ↦ refl | ofSixteen ↦ refl ]
 
   unspied-mate : (v : Sort) → someBelow f (spying 0 2 f) (writes v) (mate v) ≡ false
   unfolding keyed tests effects computing
-  unspied-mate ofFour = refl
-  unspied-mate ofSixteen = refl
+  unspied-mate v = elim v [ ofFour ↦ refl | ofSixteen ↦ refl ]
 
   writes-numbered : (v : Sort) → numbered f (numbersOf f (writesAnswers v)) (writes v) (one v) ≡ true
   unfolding tests effects computing
-  writes-numbered ofFour = refl
-  writes-numbered ofSixteen = refl
+  writes-numbered v = elim v [ ofFour ↦ refl | ofSixteen ↦ refl ]
 
   written : (v : Sort) → ranBy f (numbersOf f (writesAnswers v)) (writes v) (one v) .replies ≡ writesAnswers v
   unfolding effects computing
-  written ofFour = refl
-  written ofSixteen = refl
+  written v = elim v [ ofFour ↦ refl | ofSixteen ↦ refl ]
 
   looked : (v : Sort) → placesBelow f (writes v) (one v) ≡ writesPlaces
   unfolding tests effects computing
-  looked ofFour = refl
-  looked ofSixteen = refl
+  looked v = elim v [ ofFour ↦ refl | ofSixteen ↦ refl ]
 
   no-reader : (v : Sort) (c : Copy) → SoundCopy c → someBelow f (spying 0 2 f) (writes v) c ≡ false
       → NoReader 0 2 f (step f) (writes v) c
@@ -117,18 +112,15 @@ module _ (f : Name → List ℕ → ℕ → List ℕ) where
 
   unwritten : (v : Sort) → someBelow f (keyed 0 2 f writeMode) (reads v) (one v) ≡ false
   unfolding keyed tests effects computing
-  unwritten ofFour = refl
-  unwritten ofSixteen = refl
+  unwritten v = elim v [ ofFour ↦ refl | ofSixteen ↦ refl ]
 
   reads-numbered : (v : Sort) → numbered f (numbersOf f (readsAnswers v)) (reads v) (one v) ≡ true
   unfolding tests effects computing
-  reads-numbered ofFour = refl
-  reads-numbered ofSixteen = refl
+  reads-numbered v = elim v [ ofFour ↦ refl | ofSixteen ↦ refl ]
 
   read : (v : Sort) → ranBy f (numbersOf f (readsAnswers v)) (reads v) (one v) .replies ≡ readsAnswers v
   unfolding effects computing
-  read ofFour = refl
-  read ofSixteen = refl
+  read v = elim v [ ofFour ↦ refl | ofSixteen ↦ refl ]
 
   pub reads-met : (v : Sort) → ReadsMet f v
   reads-met v =
@@ -161,13 +153,11 @@ module _ (f : Name → List ℕ → ℕ → List ℕ) where
 
   attempts-numbered : (v : Sort) → numbered f (numbersOf f attemptAnswers) (theFreeze v ∷ attempts v) (one v) ≡ true
   unfolding tests effects computing
-  attempts-numbered ofFour = refl
-  attempts-numbered ofSixteen = refl
+  attempts-numbered v = elim v [ ofFour ↦ refl | ofSixteen ↦ refl ]
 
   attempted : (v : Sort) → ranBy f (numbersOf f attemptAnswers) (theFreeze v ∷ attempts v) (one v) .replies ≡ attemptAnswers
   unfolding effects computing
-  attempted ofFour = refl
-  attempted ofSixteen = refl
+  attempted v = elim v [ ofFour ↦ refl | ofSixteen ↦ refl ]
 
   pub frozen-met : (v : Sort) → FrozenMet f v
   frozen-met v =

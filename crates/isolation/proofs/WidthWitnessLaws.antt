@@ -40,8 +40,7 @@ use Rattle.isolation.proofs.WitnessLaws.{same-bytes}
 
 quick-here : (v : Sort) (r p b : ℕ) → quick (here v r p b .store) (length (here v r p b .memory)) ≡ true
 unfolding quickly
-quick-here ofFour r p b = refl
-quick-here ofSixteen r p b = refl
+quick-here v r p b = elim v [ ofFour ↦ refl | ofSixteen ↦ refl ]
 
 pub sound-here : (v : Sort) (r p b : ℕ) → SoundCopy (here v r p b)
 sound-here v r p b = sound-quick (here v r p b .store) (length (here v r p b .memory)) ∙ quick-here v r p b
@@ -68,21 +67,18 @@ module _ (f : Name → List ℕ → ℕ → List ℕ) where
 
   numbers-before : (v : Sort) → numbered f (numbersOf f (beforeAnswers f v)) (before v) (one v) ≡ true
   unfolding tests effects computing
-  numbers-before ofFour = refl
-  numbers-before ofSixteen = refl
+  numbers-before v = elim v [ ofFour ↦ refl | ofSixteen ↦ refl ]
 
   ran-before : (v : Sort) → runBelow f (before v) (one v) ≡ ran v
   ran-before v = ran-by f (numbersOf f (beforeAnswers f v)) (before v) (one v) (numbers-before v)
 
   replies-before : (v : Sort) → ran v .replies ≡ beforeAnswers f v
   unfolding effects computing
-  replies-before ofFour = refl
-  replies-before ofSixteen = refl
+  replies-before v = elim v [ ofFour ↦ refl | ofSixteen ↦ refl ]
 
   places-before : (v : Sort) → placesBelow f (before v) (one v) ≡ telling 25 0 0 ∷ telling 9 0 0 ∷ telling 0 4 6 ∷ []
   unfolding tests effects computing
-  places-before ofFour = refl
-  places-before ofSixteen = refl
+  places-before v = elim v [ ofFour ↦ refl | ofSixteen ↦ refl ]
 
   -- the records that they leave: the other cluster has its segment
   abbrev records : Sort → Store
@@ -91,8 +87,7 @@ module _ (f : Name → List ℕ → ℕ → List ℕ) where
 
   records-before : (v : Sort) → left v .store ≡ records v
   unfolding effects computing
-  records-before ofFour = refl
-  records-before ofSixteen = refl
+  records-before v = elim v [ ofFour ↦ refl | ofSixteen ↦ refl ]
 
   -- ---- the last
 
@@ -145,19 +140,16 @@ module _ (f : Name → List ℕ → ℕ → List ℕ) where
   outcome-read : (v : Sort) → outcome f 0 (lastRead f v) (left v)
       ≡ record { copy = left v; reply = told 0 none none 0 2 (5 ∷ 6 ∷ 3 ∷ []) }
   unfolding effects computing tabulate
-  outcome-read ofFour = refl
-  outcome-read ofSixteen = refl
+  outcome-read v = elim v [ ofFour ↦ refl | ofSixteen ↦ refl ]
 
   outcome-look : (v : Sort) → outcome f 0 (lastLook f v) (left v) ≡ record { copy = left v; reply = shows 0 (5 ∷ 6 ∷ []) }
   unfolding effects computing tabulate
-  outcome-look ofFour = refl
-  outcome-look ofSixteen = refl
+  outcome-look v = elim v [ ofFour ↦ refl | ofSixteen ↦ refl ]
 
   outcome-join : (v : Sort) → outcome f 0 (lastJoin f v) (left v)
       ≡ record { copy = left v; reply = told 0 (cutMade f (both (turned v))) none 0 0 [] }
   unfolding effects computing tabulate
-  outcome-join ofFour = refl
-  outcome-join ofSixteen = refl
+  outcome-join v = elim v [ ofFour ↦ refl | ofSixteen ↦ refl ]
 
   step-read : (v : Sort) → stepBelow f (lastRead f v) (left v)
       ≡ record { copy = left v; reply = told 0 none none 0 2 (5 ∷ 6 ∷ 3 ∷ []) }
@@ -188,8 +180,7 @@ module _ (f : Name → List ℕ → ℕ → List ℕ) where
 
   looked-part : (v : Sort) → lookedBy 0 (lastLook f v) (tableAt (records v)) ≡ telling 0 4 6
   unfolding computing tabulate
-  looked-part ofFour = refl
-  looked-part ofSixteen = refl
+  looked-part v = elim v [ ofFour ↦ refl | ofSixteen ↦ refl ]
 
   place-look : (v : Sort) → lookedBelow f (lastLook f v) (left v) ≡ telling 0 4 6
   place-look v =
@@ -209,13 +200,11 @@ module _ (f : Name → List ℕ → ℕ → List ℕ) where
 
   unkeyed-one : (v : Sort) → someBelow f (isKeyed f 0 2) (tries f v) (one v) ≡ false
   unfolding keyed tests effects computing tabulate
-  unkeyed-one ofFour = refl
-  unkeyed-one ofSixteen = refl
+  unkeyed-one v = elim v [ ofFour ↦ refl | ofSixteen ↦ refl ]
 
   unkeyed-two : (v : Sort) → someBelow f (isKeyed f 0 2) (tries f v) (two v) ≡ false
   unfolding keyed tests effects computing tabulate
-  unkeyed-two ofFour = refl
-  unkeyed-two ofSixteen = refl
+  unkeyed-two v = elim v [ ofFour ↦ refl | ofSixteen ↦ refl ]
 
   weak : SixteenBytes f → (c : Cut) → cutMade f c ≡ cutShown f c
   weak gives c =

@@ -35,23 +35,17 @@ module _ (f : Name → List ℕ → ℕ → List ℕ) where
   numbers-checked : (v : Wide) (r : List ℕ) (b c d y z : ℕ)
       → checked f (spying 3 7 f) (numbersOf f (writeAnswers v)) (writes v) (copy v r b c d y z) ≡ true
   unfolding keyed tests effects computing
-  numbers-checked ofFour r b c d y z = refl
-  numbers-checked ofEight r b c d y z = refl
-  numbers-checked ofSixteen r b c d y z = refl
+  numbers-checked v r b c d y z = elim v [ ofFour ↦ refl | ofEight ↦ refl | ofSixteen ↦ refl ]
 
   ran : (v : Wide) (r : List ℕ) (b c d y z : ℕ) → ranBy f (numbersOf f (writeAnswers v)) (writes v) (copy v r b c d y z)
       ≡ record { replies = writeAnswers v; copy = copy v r b 8 9 0 z }
   unfolding effects computing
-  ran ofFour r b c d y z = refl
-  ran ofEight r b c d y z = refl
-  ran ofSixteen r b c d y z = refl
+  ran v r b c d y z = elim v [ ofFour ↦ refl | ofEight ↦ refl | ofSixteen ↦ refl ]
 
   told : (v : Wide) (r : List ℕ) (b c d y z : ℕ)
       → toldBy f (numbersOf f (writeAnswers v)) (writes v) (copy v r b c d y z) ≡ writePlaces
   unfolding effects computing
-  told ofFour r b c d y z = refl
-  told ofEight r b c d y z = refl
-  told ofSixteen r b c d y z = refl
+  told v r b c d y z = elim v [ ofFour ↦ refl | ofEight ↦ refl | ofSixteen ↦ refl ]
 
   module _ (v : Wide) (r : List ℕ) (b c d y z n : ℕ) where
     one : (c d y : ℕ)
