@@ -19,15 +19,14 @@ use Rattle.store.specs.declared.Cluster.{Cluster}
 use Rattle.store.specs.declared.Store.{Store}
 use Rattle.store.specs.Records.{inactive, startingStore, noCluster, tableOf, clusterAt, tableAt, placeOf}
 use Rattle.calls.specs.Calls.{Copy, Call}
-use Rattle.calls.specs.Steps.{run, aesStep}
+use Rattle.calls.specs.Steps.{Ran, run, aesStep}
 use Rattle.calls.specs.Answers.{copyOf}
 use Rattle.calls.specs.Literals.{sixteen}
-use Rattle.isolation.specs.Copies.{SoundCopy, InPlace, Alike, AllShut}
-use Rattle.isolation.specs.Statements.{Agreed}
+use Rattle.isolation.specs.Copies.{SoundCopy, InPlace, Alike, Held, AllShut}
 use Rattle.isolation.specs.Writers.{SameToWriters, NoReader}
 use Rattle.isolation.specs.UseLists.{Wide, ofFour, ofEight, ofSixteen, top, bits, beside, keeping, repeated, shut, writes}
 use Rattle.isolation.proofs.UseCopyLaws.{sound-keeping, alike-keeping, same-keeping}
-use Rattle.isolation.proofs.UseLaws.{all-shut, uses-of}
+use Rattle.isolation.proofs.UseLaws.{shut-ended, all-shut, left-uses}
 use Rattle.isolation.proofs.WriterUseLaws.{no-reader, writers-uses}
 use Rattle.image.specs.Images.{imageBytes, good, imageOf, recordOut, segmentsOut, segmentOut, placeOut}
 use Rattle.image.specs.Parts.{joined}
@@ -145,16 +144,28 @@ module _ (v : Wide) (n : ℕ) (b c d k l m y z : ℕ) where
       (subst (AllShut 3 7 product (repeated n shut)) ef (all-shut product v (sixteen 34) (sixteen 34) b c d y z n))
       (subst (AllShut 3 7 product (repeated n shut)) es (all-shut product v (sixteen 1) (sixteen 2) k l m y z n))
 
+  -- the first image left holds what the copy was
+  still-first : leftOn (repeated n shut) (image v equal) (memory b c d y z) ≡ first
+  still-first =
+      sym (held-left (repeated n shut) (repeated-fits shut (fits-out shut refl) n) (image v equal) (memory b c d y z)
+      (image-bytes v equal) (good-store v equal))
+      ∙ ap (λ (a : Copy). run product (repeated n shut) a .copy) (sym (held-copy v equal b c d y z))
+      ∙ ap (λ (a : Ran). a .copy) (shut-ended product v (sixteen 34) (sixteen 34) b c d y z n)
+
   pub two-images-uses : TwoImagesUses v n b c d k l m y z
   two-images-uses =
+      let a = agree in
       record {
-        replies = agree .replies;
-        places = agree .places;
-        agreed =
-            uses-of product v n (sixteen 34) (sixteen 1) (sixteen 2) b c d k l m y z
-            (subst (λ (a : Copy). Agreed 3 7 product (repeated n shut) a second) (sym (held-copy v equal b c d y z))
-            (subst (Agreed 3 7 product (repeated n shut) (held (image v equal) (memory b c d y z)))
-            (sym (held-copy v others k l m y z)) (agree .agreed)));
+        replies = a .replies;
+        places = a .places;
+        good-first = a .good-first;
+        good-second = a .good-second;
+        left =
+            left-uses v (sixteen 34) (sixteen 1) (sixteen 2) b c d k l m y z _ _ still-first (a .alike) (a .others)
+            (subst (λ (x : Copy). Held 3 7 x (leftOn (repeated n shut) (image v equal) (memory b c d y z)))
+            (sym (held-copy v equal b c d y z)) (a .held-first))
+            (subst (λ (x : Copy). Held 3 7 x (leftOn (repeated n shut) (image v others) (memory k l m y z)))
+            (sym (held-copy v others k l m y z)) (a .held-second));
       }
 
 -- ---- §7

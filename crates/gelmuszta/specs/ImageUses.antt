@@ -3,8 +3,8 @@
 --     Passwords          the passwords of a store: one for both modes, and two others, of which one shares the write password
 --     image v p          the image of the store with the passwords p
 --     memory b c d y z   the memory of such a copy
---     TwoImagesUses      condition 3, of the passwords `equal` and `others`: the replies and the places of the images; and what
---                        the theorem says of the stores that they hold, in the uses of condition 3
+--     TwoImagesUses      condition 3, of the passwords `equal` and `others`: the replies and the places of the images; that the images
+--                        left hold stores; and what the theorem says of these, with the memories left, in the uses of condition 3
 --     WritersOnUses      §7, of the passwords `equal` and `another`; the bytes of no segment differ
 --     FrozenOnUses       §3, after any list of calls whose passwords are of sixteen bytes
 --     FrozenFromUses     and after a freeze that is done
@@ -24,7 +24,7 @@ use Rattle.calls.specs.Calls.{Copy, Call, freezing, looking}
 use Rattle.calls.specs.Literals.{sixteen, primary, handle, shows}
 use Rattle.isolation.specs.Frozen.{placeAt, frozenAt}
 use Rattle.isolation.specs.UseLists.{Wide, top, own, records, low, high, repeated, shut, writes}
-use Rattle.isolation.specs.Uses.{TwoCopiesUses}
+use Rattle.isolation.specs.Uses.{LeftUses}
 use Rattle.image.specs.Images.{imageBytes, good, storeIn, imageOf}
 use Rattle.gelmuszta.specs.Exported.{exported, exportedPart}
 use Rattle.gelmuszta.specs.Runs.{runOn, placesOn, leftOn}
@@ -52,12 +52,21 @@ abbrev pub memory : ℕ → ℕ → ℕ → ℕ → ℕ → List ℕ
 memory b c d y z = low z ++ high b c d y
 
 module _ (v : Wide) (n : ℕ) where
-  pub record TwoImagesUses (b c d k l m y z : ℕ) : Type 0 where
-    pub replies : runOn (repeated n shut) (image v equal) (memory b c d y z) .replies
-        ≡ runOn (repeated n shut) (image v others) (memory k l m y z) .replies
-    pub places : placesOn (repeated n shut) (image v equal) (memory b c d y z)
-        ≡ placesOn (repeated n shut) (image v others) (memory k l m y z)
-    pub agreed : TwoCopiesUses product v n (sixteen 34) (sixteen 1) (sixteen 2) b c d k l m y z
+  module _ (b c d k l m y z : ℕ) where
+    abbrev first : Copy
+    first = leftOn (repeated n shut) (image v equal) (memory b c d y z)
+
+    abbrev second : Copy
+    second = leftOn (repeated n shut) (image v others) (memory k l m y z)
+
+    pub record TwoImagesUses : Type 0 where
+      pub replies : runOn (repeated n shut) (image v equal) (memory b c d y z) .replies
+          ≡ runOn (repeated n shut) (image v others) (memory k l m y z) .replies
+      pub places : placesOn (repeated n shut) (image v equal) (memory b c d y z)
+          ≡ placesOn (repeated n shut) (image v others) (memory k l m y z)
+      pub good-first : good (runOn (repeated n shut) (image v equal) (memory b c d y z) .image) ≡ true
+      pub good-second : good (runOn (repeated n shut) (image v others) (memory k l m y z) .image) ≡ true
+      pub left : LeftUses v (sixteen 34) (sixteen 1) (sixteen 2) b c d k l m y z first second
 
   module _ (b c d y z k l m x t : ℕ) where
     abbrev ours : Copy

@@ -3,6 +3,7 @@
 -- equal, and lists empty or of any length. For every conversion f, each width v and n rounds:
 --     TwoCopiesUses      condition 3. The first copy has one password p for both modes, the second q and s, and their segments'
 --                        bytes are b, c and d, and k, l and m; the bytes of no segment, y and z, are equal
+--     LeftUses           what it says of the two copies at the end, one and two
 --     ReadersUses        readers alter nothing: the first of these copies
 --     WritersUses        §7. The first copy has sixteen bytes 34 for both passwords, the second another read password s; the bytes
 --                        of no segment are y and z, and x and t. With it, that copies which begin as §7 has it are so
@@ -30,6 +31,22 @@ use Rattle.isolation.specs.Frozen.{placeAt, frozenAt}
 use Rattle.isolation.specs.UseLists.{Wide, top, own, beside, apart, keeping, repeated, shut, shutAnswers, shutPlaces}
 use Rattle.isolation.specs.UseLists.{writes, writeAnswers, writePlaces}
 
+module _ (v : Wide) (p q s : List ℕ) (b c d k l m y z : ℕ) (one two : Copy) where
+  pub record LeftUses : Type 0 where
+    pub byte-of-none : getD (two .memory) 12294 0 ≡ y
+    pub byte-other-node : getD (two .memory) 4 0 ≡ z
+    pub other-byte : getD (two .memory) 1 0 ≡ 6
+    pub other-record : clusterAt (two .store) 3 ≡ beside
+    pub table : tableAt (two .store) 31 ≡ tableOf (apart v p p)
+    pub first-record : clusterAt (one .store) 31 ≡ apart v p p
+    pub first-bytes : (i : ℕ) → i < 4 → getD (one .memory) (12288 + i) 0 ≡ b
+    pub first-others : (getD (one .memory) 12292 0 ≡ c) × (getD (one .memory) 12293 0 ≡ d)
+    pub second-record : clusterAt (two .store) 31 ≡ apart v q s
+    pub second-bytes : (i : ℕ) → i < 4 → getD (two .memory) (12288 + i) 0 ≡ k
+    pub second-others : (getD (two .memory) 12292 0 ≡ l) × (getD (two .memory) 12293 0 ≡ m)
+    pub records : length (two .store .clusters) ≡ 32
+    pub size : length (two .memory) ≡ 16384
+
 module _ (f : Name → List ℕ → ℕ → List ℕ) (v : Wide) where
   module _ (n : ℕ) where
     -- ---- condition 3, and readers
@@ -47,19 +64,7 @@ module _ (f : Name → List ℕ → ℕ → List ℕ) (v : Wide) where
       pub record TwoCopiesUses : Type 0 where
         pub replies : run f (repeated n shut) second .replies ≡ repeated n shutAnswers
         pub places : places f (repeated n shut) second ≡ repeated n shutPlaces
-        pub byte-of-none : getD (end second .memory) 12294 0 ≡ y
-        pub byte-other-node : getD (end second .memory) 4 0 ≡ z
-        pub other-byte : getD (end second .memory) 1 0 ≡ 6
-        pub other-record : clusterAt (end second .store) 3 ≡ beside
-        pub table : tableAt (end second .store) 31 ≡ tableOf (apart v p p)
-        pub first-record : clusterAt (end first .store) 31 ≡ apart v p p
-        pub first-bytes : (i : ℕ) → i < 4 → getD (end first .memory) (12288 + i) 0 ≡ b
-        pub first-others : (getD (end first .memory) 12292 0 ≡ c) × (getD (end first .memory) 12293 0 ≡ d)
-        pub second-record : clusterAt (end second .store) 31 ≡ apart v q s
-        pub second-bytes : (i : ℕ) → i < 4 → getD (end second .memory) (12288 + i) 0 ≡ k
-        pub second-others : (getD (end second .memory) 12292 0 ≡ l) × (getD (end second .memory) 12293 0 ≡ m)
-        pub records : length (end second .store .clusters) ≡ 32
-        pub size : length (end second .memory) ≡ 16384
+        pub left : LeftUses v p q s b c d k l m y z (end first) (end second)
 
     module _ (p : List ℕ) (b c d y z : ℕ) where
       abbrev readEnd : Copy
