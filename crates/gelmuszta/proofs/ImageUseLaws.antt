@@ -24,7 +24,7 @@ use Rattle.calls.specs.Answers.{copyOf}
 use Rattle.calls.specs.Literals.{sixteen}
 use Rattle.isolation.specs.Copies.{SoundCopy, InPlace, Alike, Held, AllShut}
 use Rattle.isolation.specs.Writers.{SameToWriters, NoReader}
-use Rattle.isolation.specs.UseLists.{Wide, ofFour, ofEight, ofSixteen, top, bits, beside, keeping, repeated, shut, writes}
+use Rattle.isolation.specs.UseLists.{Wide, ofFour, ofEight, ofSixteen, top, bits, beside, near, keeping, repeated, shut, writes}
 use Rattle.isolation.proofs.UseCopyLaws.{sound-keeping, alike-keeping, same-keeping}
 use Rattle.isolation.proofs.UseLaws.{shut-ended, all-shut, left-uses}
 use Rattle.isolation.proofs.WriterUseLaws.{no-reader, writers-uses}
@@ -61,8 +61,12 @@ few-bits ofSixteen = omega arith
 pub store-fits : (v : Wide) (p : Passwords) → StoreFits (store v p)
 store-fits v p =
     put-fits _ 31 _
+    (put-fits _ 26 near
     (put-fits startingStore 3 beside starting-fits
     (place-fits _ 7 _ (started-fits 8 (sixteen 3) (sixteen 4) (omega arith) refl refl) (present-fits 0 2 (omega arith) (omega arith) (omega arith))))
+    (mark-fits _ 15
+    (place-fits _ 15 _ (started-fits 16 (sixteen 50) (sixteen 50) (omega arith) refl refl)
+    (present-fits 7 2 (omega arith) (omega arith) (omega arith)))))
     (mark-fits _ (top v)
     (place-fits _ 0 _
     (place-fits _ (top v) _ (started-fits (bits v) (sixteen (reads p)) (sixteen (writing p)) (few-bits v) refl refl)
@@ -191,13 +195,19 @@ module _ (v : Wide) (n : ℕ) (b c d y z k l m x t : ℕ) where
       (subst (NoReader 3 7 product aesStep list) eo (no-reader product v (sixteen 34) b c d y z n))
       (subst (NoReader 3 7 product aesStep list) et (no-reader product v (sixteen 1) k l m x t n))
 
-  -- the other cluster's record is as it was, in what the first image left holds
-  still-beside : beside ≡ clusterAt (leftOn list (image v equal) (memory b c d y z) .store) 3
-  still-beside =
-      sym (writers-uses product v n (sixteen 34) b c d y z b c d y z .other-record)
-      ∙ ap (λ (a : Copy). clusterAt (run product list a .copy .store) 3) (held-copy v equal b c d y z)
-      ∙ ap (λ (a : Copy). clusterAt (a .store) 3)
+  -- the other clusters' records are as they were, in what the first image left holds
+  still : (k : ℕ) → clusterAt (run product list (keeping v (sixteen 34) (sixteen 34) b c d y z) .copy .store) k
+      ≡ clusterAt (leftOn list (image v equal) (memory b c d y z) .store) k
+  still k =
+      ap (λ (a : Copy). clusterAt (run product list a .copy .store) k) (held-copy v equal b c d y z)
+      ∙ ap (λ (a : Copy). clusterAt (a .store) k)
       (held-left list list-fits (image v equal) (memory b c d y z) (image-bytes v equal) (good-store v equal))
+
+  still-beside : beside ≡ clusterAt (leftOn list (image v equal) (memory b c d y z) .store) 3
+  still-beside = sym (writers-uses product v n (sixteen 34) b c d y z b c d y z .other-record) ∙ still 3
+
+  still-near : near ≡ clusterAt (leftOn list (image v equal) (memory b c d y z) .store) 26
+  still-near = sym (writers-uses product v n (sixteen 34) b c d y z b c d y z .near-record) ∙ still 26
 
   pub writers-on-uses : WritersOnUses v n b c d y z k l m x t
   writers-on-uses =
@@ -214,4 +224,8 @@ module _ (v : Wide) (n : ℕ) (b c d y z k l m x t : ℕ) where
         other-byte =
             untold .same .bytes 0 3 7 1 (omega arith) (omega arith) (omega arith) (λ e. omega arith)
             (subst (λ (a : Cluster). InPlace 0 (placeOf (tableOf a) 7) 1) still-beside (omega arith, omega arith));
+        near-record = untold .same .others 26 (λ e. omega arith);
+        near-byte =
+            untold .same .bytes 3 2 15 12296 (omega arith) (omega arith) (omega arith) (λ e. omega arith)
+            (subst (λ (a : Cluster). InPlace 3 (placeOf (tableOf a) 15) 12296) still-near (omega arith, omega arith));
       }

@@ -53,6 +53,12 @@ module _ (v : Wide) (p q s : List ℕ) (b c d k l m y z : ℕ) (one two : Copy) 
             sym (others 0 3 7 1 (omega arith) (omega arith) (omega arith) (λ e. omega arith)
             (subst (λ (x : Copy). InPlace 0 (placeOn (tableAt (x .store)) 0 3 7) 1) (sym same) (omega arith, omega arith)))
             ∙ byte 1;
+        near-record = sym (alike .others 26 (λ e. omega arith)) ∙ ap (λ (a : Copy). clusterAt (a .store) 26) same;
+        near-byte =
+            sym (others 3 2 15 12296 (omega arith) (omega arith) (omega arith) (λ e. omega arith)
+            (subst (λ (x : Copy). InPlace 3 (placeOn (tableAt (x .store)) 3 2 15) 12296) (sym same) (omega arith, omega arith)))
+            ∙ byte 12296
+            ∙ at-high v p p b c d y z 8;
         first-record = sym (first .cluster);
         first-bytes = λ i h. sym (first .bytes (12288 + i) (top v) (top-low v) (in-top v p p i h)) ∙ at-top v p p b c d y z i h;
         first-others = (
