@@ -4,23 +4,25 @@
 use mathlib.Core.Path.{_≡_, refl, sym, ap, _∙_, subst}
 use mathlib.Core.Bool.{true, false}
 use mathlib.Core.List.{List, [], _∷_}
-use Prim.Native.Nat.{ℕ, _+_, _*_}
+use Prim.Native.Nat.{ℕ}
 use native.Mathlib.Omega.{arith}
-use lib.ListN.{getD}
+use lib.ListN.{length}
 use Rattle.loops.specs.Below.{every}
 use Rattle.bits.specs.Bytes.{bytes}
 use Rattle.handle.specs.Handles.{noWidth, decoded}
 use Rattle.handle.specs.Conversion.{product}
 use Rattle.store.specs.declared.Store.{Store}
-use Rattle.calls.specs.Calls.{Copy, Call, freezing}
-use Rattle.calls.specs.Steps.{Reply, effects, outcome, step}
+use Rattle.calls.specs.Calls.{Copy, Call, freezing, looking}
+use Rattle.calls.specs.Numbers.{tests, number}
+use Rattle.calls.specs.Steps.{Reply, Outcome, effects, outcome, step}
 use Rattle.calls.specs.Literals.{sixteen, handle, primary}
 use Rattle.calls.proofs.Computing.{computing}
+use Rattle.calls.proofs.StepLaws.{number-below, step-refused}
 use Rattle.isolation.specs.Copies.{SoundCopy, Done}
-use Rattle.isolation.specs.Frozen.{placeAt, frozenAt}
+use Rattle.isolation.specs.Frozen.{placeAt, frozenAt, Fixed}
 use Rattle.isolation.specs.UseLists.{Wide, ofFour, ofEight, ofSixteen, top, own, keeping}
-use Rattle.isolation.proofs.UseCopyLaws.{sound-keeping, top-low, at-top, at-high, its-top, its-first}
-use Rattle.isolation.proofs.HolderUseLaws.{its-mark, freeze-done}
+use Rattle.isolation.proofs.UseCopyLaws.{sound-keeping, top-low, at-high, its-top, its-first}
+use Rattle.isolation.proofs.HolderUseLaws.{its-mark, top-bytes, freeze-done, again-done}
 use Rattle.image.specs.Images.{goodRecord, good}
 use Rattle.image.proofs.TripLaws.{store-image}
 use Rattle.gelmuszta.specs.Exported.{exported}
@@ -56,12 +58,10 @@ module _ (v : Wide) (p : Passwords) (b c d y z : ℕ) (xs : List Call) (fit : Al
         active = fixed .fixed .active;
         place = fixed .fixed .place;
         frozen = fixed .fixed .frozen;
-        bytes = λ i h.
-            let e : 3 * 4096 + (0 + i) ≡ 12288 + i = omega arith in
-            ap (λ (q : ℕ). getD (leftOn xs (image v p) (memory b c d y z) .memory) q 0) (sym e)
-            ∙ fixed .fixed .bytes i h
-            ∙ ap (λ (q : ℕ). getD (memory b c d y z) q 0) e
-            ∙ at-top v (sixteen (reads p)) (sixteen (writing p)) b c d y z i h;
+        bytes =
+            top-bytes v (sixteen (reads p)) (sixteen (writing p)) b c d y z _
+            (subst (λ (a : Copy). Fixed 3 7 (top v) 0 4 a (leftOn xs (image v p) (memory b c d y z)))
+            (sym (held-copy v p b c d y z)) (fixed .fixed));
       }
 
 -- the number of the first reply
@@ -69,19 +69,31 @@ abbrev headNumber : List Reply → ℕ
 headNumber [] = 0
 headNumber (r ∷ rs) = r .number
 
-freeze-told : (h : List ℕ) (c : Copy) → Done product (freezing 3 0 h) c → step product (freezing 3 0 h) c .reply .number ≡ 0
+freeze-told : (i : ℕ) (h : List ℕ) (c : Copy) → Done product (freezing 3 i h) c
+    → step product (freezing 3 i h) c .reply .number ≡ 0
 unfolding step effects
-freeze-told h c e = ap (λ (n : ℕ). outcome product n (freezing 3 0 h) c .reply .number) e
+freeze-told i h c e = ap (λ (n : ℕ). outcome product n (freezing 3 i h) c .reply .number) e
 
 module _ (b c d y z : ℕ) (xs : List Call) (fit : AllFit xs) where
+  -- what a list of one call is told, on the image and on the copy that it holds
+  told-on : (v : Wide) (x : Call) → AllFit (x ∷ [])
+      → exported x (image v equal) (memory b c d y z) .reply .number
+      ≡ step product x (keeping v (sixteen 34) (sixteen 34) b c d y z) .reply .number
+  told-on v x fits =
+      ap (λ (r : RanOn). headNumber (r .replies))
+      (lists-are-runs (x ∷ []) (image v equal) (memory b c d y z) fits (image-bytes v equal) (good-store v equal))
+      ∙ ap (λ (a : Copy). step product x a .reply .number) (sym (held-copy v equal b c d y z))
+
   exported-done : (v : Wide) → exported (freezing 3 0 (own v 3 7 34)) (image v equal) (memory b c d y z) .reply .number ≡ 0
   exported-done v =
-      ap (λ (r : RanOn). headNumber (r .replies))
-      (lists-are-runs (freezing 3 0 (own v 3 7 34) ∷ []) (image v equal) (memory b c d y z)
-      (fits-out (freezing 3 0 (own v 3 7 34) ∷ []) refl) (image-bytes v equal) (good-store v equal))
-      ∙ freeze-told (own v 3 7 34) (held (image v equal) (memory b c d y z))
-      (subst (Done product (freezing 3 0 (own v 3 7 34))) (held-copy v equal b c d y z)
-      (freeze-done product v (sixteen 34) b c d y z))
+      told-on v (freezing 3 0 (own v 3 7 34)) (fits-out (freezing 3 0 (own v 3 7 34) ∷ []) refl)
+      ∙ freeze-told 0 (own v 3 7 34) _ (freeze-done product v (sixteen 34) b c d y z)
+
+  exported-again : (v : Wide)
+      → exported (freezing 3 (top v) (own v 3 7 34)) (image v equal) (memory b c d y z) .reply .number ≡ 0
+  exported-again v =
+      told-on v (freezing 3 (top v) (own v 3 7 34)) (fits-out (freezing 3 (top v) (own v 3 7 34) ∷ []) refl)
+      ∙ freeze-told (top v) (own v 3 7 34) _ (again-done product v (sixteen 34) b c d y z)
 
   from-then-on : (v : Wide) → FromThenOnImages 3 7 0 (freezing 3 0 (own v 3 7 34) ∷ xs) (image v equal) (memory b c d y z)
   unfolding computing
@@ -92,11 +104,27 @@ module _ (b c d y z : ℕ) (xs : List Call) (fit : AllFit xs) where
       frozen-from-then-on (freezing 3 0 (own ofSixteen 3 7 34) .args) xs _ _ fit (image-bytes ofSixteen equal)
       (exported-done ofSixteen)
 
+  again-from : (v : Wide)
+      → FromThenOnImages 3 7 (top v) (freezing 3 (top v) (own v 3 7 34) ∷ xs) (image v equal) (memory b c d y z)
+  unfolding computing
+  again-from ofFour =
+      frozen-from-then-on (freezing 3 3 (own ofFour 3 7 34) .args) xs _ _ fit (image-bytes ofFour equal) (exported-again ofFour)
+  again-from ofEight =
+      frozen-from-then-on (freezing 3 7 (own ofEight 3 7 34) .args) xs _ _ fit (image-bytes ofEight equal) (exported-again ofEight)
+  again-from ofSixteen =
+      frozen-from-then-on (freezing 3 15 (own ofSixteen 3 7 34) .args) xs _ _ fit (image-bytes ofSixteen equal)
+      (exported-again ofSixteen)
+
   module _ (v : Wide) where
     from : FixedOn 3 7 0 4 2 (freezing 3 0 (own v 3 7 34) ∷ xs) (image v equal) (memory b c d y z)
     from =
         from-then-on v .fixed 4 2
         (ap (λ (s : Store). placeAt s 3 7 0) (store-image (store v equal) (store-fits v equal)) ∙ its-first v (sixteen 34) (sixteen 34))
+
+    again : FixedOn 3 7 (top v) 0 4 (freezing 3 (top v) (own v 3 7 34) ∷ xs) (image v equal) (memory b c d y z)
+    again =
+        again-from v .fixed 0 4
+        (ap (λ (s : Store). placeAt s 3 7 (top v)) (store-image (store v equal) (store-fits v equal)) ∙ its-top v (sixteen 34) (sixteen 34))
 
     pub frozen-from-uses : FrozenFromUses v b c d y z xs
     frozen-from-uses =
@@ -110,6 +138,15 @@ module _ (b c d y z : ℕ) (xs : List Call) (fit : AllFit xs) where
             from .fixed .bytes 0 (omega arith) ∙ at-high v (sixteen 34) (sixteen 34) b c d y z 4,
             from .fixed .bytes 1 (omega arith) ∙ at-high v (sixteen 34) (sixteen 34) b c d y z 5,
           );
+          again-present = again-from v .present;
+          again-good = again .good;
+          again-active = again .fixed .active;
+          again-place = again .fixed .place;
+          again-frozen = again .fixed .frozen;
+          again-bytes =
+              top-bytes v (sixteen 34) (sixteen 34) b c d y z _
+              (subst (λ (a : Copy). Fixed 3 7 (top v) 0 4 a (leftOn (freezing 3 (top v) (own v 3 7 34) ∷ xs) (image v equal) (memory b c d y z)))
+              (sym (held-copy v equal b c d y z)) (again .fixed));
         }
 
 -- ---- looks
@@ -128,6 +165,22 @@ no-width : (noWidth (decoded []) ≡ true) × (noWidth (decoded (handle 3 7 34 (
 unfolding computing
 no-width = (refl, refl)
 
+-- a look from another node, on the copy that an image holds
+looked-elsewhere : (v : Wide) (b c d y z : ℕ) → let a = keeping v (sixteen 34) (sixteen 34) b c d y z in
+    number product (looking 0 0 (own v 3 7 34)) (a .store) (length (a .memory)) ≡ 5
+unfolding tests computing
+looked-elsewhere ofFour b c d y z = number-below product (looking 0 0 (own ofFour 3 7 34)) _ _ (sound-keeping ofFour _ _ b c d y z) ∙ refl
+looked-elsewhere ofEight b c d y z = number-below product (looking 0 0 (own ofEight 3 7 34)) _ _ (sound-keeping ofEight _ _ b c d y z) ∙ refl
+looked-elsewhere ofSixteen b c d y z = number-below product (looking 0 0 (own ofSixteen 3 7 34)) _ _ (sound-keeping ofSixteen _ _ b c d y z) ∙ refl
+
+elsewhere-told : (v : Wide) (b c d y z : ℕ)
+    → exported (looking 0 0 (own v 3 7 34)) (image v equal) (memory b c d y z) .reply .number ≡ 5
+elsewhere-told v b c d y z =
+    told-on b c d y z [] tt v (looking 0 0 (own v 3 7 34)) (fits-out (looking 0 0 (own v 3 7 34) ∷ []) refl)
+    ∙ ap (λ (o : Outcome). o .reply .number)
+    (step-refused product (looking 0 0 (own v 3 7 34)) (keeping v (sixteen 34) (sixteen 34) b c d y z) 5
+    (looked-elsewhere v b c d y z) (λ q. omega arith))
+
 pub look-uses : (v : Wide) (m : List ℕ) → LookUses v m
 look-uses v m =
     let l = look-on-image 0 7 (primary 0 3 3) (image v equal) m in
@@ -136,6 +189,10 @@ look-uses v m =
       refused =
           empty .refused (λ e.
           let q = ap (λ (r : Reply). r .number) (empty .wrongLength broken-bad (no-width .0)) in
+          omega arith);
+      refused-good = λ b c d y z.
+          look-on-image 0 0 (own v 3 7 34) (image v equal) (memory b c d y z) .refused (λ e.
+          let q = elsewhere-told v b c d y z in
           omega arith);
       damaged = look-on-image 3 0 (own v 3 7 34) broken m .damaged broken-bad (own-width v);
       wrong-length =

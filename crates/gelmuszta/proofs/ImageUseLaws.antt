@@ -19,15 +19,14 @@ use Rattle.store.specs.declared.Cluster.{Cluster}
 use Rattle.store.specs.declared.Store.{Store}
 use Rattle.store.specs.Records.{inactive, startingStore, noCluster, tableOf, clusterAt, tableAt, placeOf}
 use Rattle.calls.specs.Calls.{Copy, Call}
-use Rattle.calls.specs.Steps.{run, aesStep}
+use Rattle.calls.specs.Steps.{Ran, run, aesStep}
 use Rattle.calls.specs.Answers.{copyOf}
 use Rattle.calls.specs.Literals.{sixteen}
-use Rattle.isolation.specs.Copies.{SoundCopy, InPlace, Alike, AllShut}
-use Rattle.isolation.specs.Statements.{Agreed}
+use Rattle.isolation.specs.Copies.{SoundCopy, InPlace, Alike, Held, AllShut}
 use Rattle.isolation.specs.Writers.{SameToWriters, NoReader}
-use Rattle.isolation.specs.UseLists.{Wide, ofFour, ofEight, ofSixteen, top, bits, beside, keeping, repeated, shut, writes}
+use Rattle.isolation.specs.UseLists.{Wide, ofFour, ofEight, ofSixteen, top, bits, beside, near, keeping, repeated, shut, writes}
 use Rattle.isolation.proofs.UseCopyLaws.{sound-keeping, alike-keeping, same-keeping}
-use Rattle.isolation.proofs.UseLaws.{all-shut, uses-of}
+use Rattle.isolation.proofs.UseLaws.{shut-ended, all-shut, left-uses}
 use Rattle.isolation.proofs.WriterUseLaws.{no-reader, writers-uses}
 use Rattle.image.specs.Images.{imageBytes, good, imageOf, recordOut, segmentsOut, segmentOut, placeOut}
 use Rattle.image.specs.Parts.{joined}
@@ -62,8 +61,12 @@ few-bits ofSixteen = omega arith
 pub store-fits : (v : Wide) (p : Passwords) → StoreFits (store v p)
 store-fits v p =
     put-fits _ 31 _
+    (put-fits _ 26 near
     (put-fits startingStore 3 beside starting-fits
     (place-fits _ 7 _ (started-fits 8 (sixteen 3) (sixteen 4) (omega arith) refl refl) (present-fits 0 2 (omega arith) (omega arith) (omega arith))))
+    (mark-fits _ 15
+    (place-fits _ 15 _ (started-fits 16 (sixteen 50) (sixteen 50) (omega arith) refl refl)
+    (present-fits 7 2 (omega arith) (omega arith) (omega arith)))))
     (mark-fits _ (top v)
     (place-fits _ 0 _
     (place-fits _ (top v) _ (started-fits (bits v) (sixteen (reads p)) (sixteen (writing p)) (few-bits v) refl refl)
@@ -145,16 +148,28 @@ module _ (v : Wide) (n : ℕ) (b c d k l m y z : ℕ) where
       (subst (AllShut 3 7 product (repeated n shut)) ef (all-shut product v (sixteen 34) (sixteen 34) b c d y z n))
       (subst (AllShut 3 7 product (repeated n shut)) es (all-shut product v (sixteen 1) (sixteen 2) k l m y z n))
 
+  -- the first image left holds what the copy was
+  still-first : leftOn (repeated n shut) (image v equal) (memory b c d y z) ≡ first
+  still-first =
+      sym (held-left (repeated n shut) (repeated-fits shut (fits-out shut refl) n) (image v equal) (memory b c d y z)
+      (image-bytes v equal) (good-store v equal))
+      ∙ ap (λ (a : Copy). run product (repeated n shut) a .copy) (sym (held-copy v equal b c d y z))
+      ∙ ap (λ (a : Ran). a .copy) (shut-ended product v (sixteen 34) (sixteen 34) b c d y z n)
+
   pub two-images-uses : TwoImagesUses v n b c d k l m y z
   two-images-uses =
+      let a = agree in
       record {
-        replies = agree .replies;
-        places = agree .places;
-        agreed =
-            uses-of product v n (sixteen 34) (sixteen 1) (sixteen 2) b c d k l m y z
-            (subst (λ (a : Copy). Agreed 3 7 product (repeated n shut) a second) (sym (held-copy v equal b c d y z))
-            (subst (Agreed 3 7 product (repeated n shut) (held (image v equal) (memory b c d y z)))
-            (sym (held-copy v others k l m y z)) (agree .agreed)));
+        replies = a .replies;
+        places = a .places;
+        good-first = a .good-first;
+        good-second = a .good-second;
+        left =
+            left-uses v (sixteen 34) (sixteen 1) (sixteen 2) b c d k l m y z _ _ still-first (a .alike) (a .others)
+            (subst (λ (x : Copy). Held 3 7 x (leftOn (repeated n shut) (image v equal) (memory b c d y z)))
+            (sym (held-copy v equal b c d y z)) (a .held-first))
+            (subst (λ (x : Copy). Held 3 7 x (leftOn (repeated n shut) (image v others) (memory k l m y z)))
+            (sym (held-copy v others k l m y z)) (a .held-second));
       }
 
 -- ---- §7
@@ -180,13 +195,19 @@ module _ (v : Wide) (n : ℕ) (b c d y z k l m x t : ℕ) where
       (subst (NoReader 3 7 product aesStep list) eo (no-reader product v (sixteen 34) b c d y z n))
       (subst (NoReader 3 7 product aesStep list) et (no-reader product v (sixteen 1) k l m x t n))
 
-  -- the other cluster's record is as it was, in what the first image left holds
-  still-beside : beside ≡ clusterAt (leftOn list (image v equal) (memory b c d y z) .store) 3
-  still-beside =
-      sym (writers-uses product v n (sixteen 34) b c d y z b c d y z .other-record)
-      ∙ ap (λ (a : Copy). clusterAt (run product list a .copy .store) 3) (held-copy v equal b c d y z)
-      ∙ ap (λ (a : Copy). clusterAt (a .store) 3)
+  -- the other clusters' records are as they were, in what the first image left holds
+  still : (k : ℕ) → clusterAt (run product list (keeping v (sixteen 34) (sixteen 34) b c d y z) .copy .store) k
+      ≡ clusterAt (leftOn list (image v equal) (memory b c d y z) .store) k
+  still k =
+      ap (λ (a : Copy). clusterAt (run product list a .copy .store) k) (held-copy v equal b c d y z)
+      ∙ ap (λ (a : Copy). clusterAt (a .store) k)
       (held-left list list-fits (image v equal) (memory b c d y z) (image-bytes v equal) (good-store v equal))
+
+  still-beside : beside ≡ clusterAt (leftOn list (image v equal) (memory b c d y z) .store) 3
+  still-beside = sym (writers-uses product v n (sixteen 34) b c d y z b c d y z .other-record) ∙ still 3
+
+  still-near : near ≡ clusterAt (leftOn list (image v equal) (memory b c d y z) .store) 26
+  still-near = sym (writers-uses product v n (sixteen 34) b c d y z b c d y z .near-record) ∙ still 26
 
   pub writers-on-uses : WritersOnUses v n b c d y z k l m x t
   writers-on-uses =
@@ -203,4 +224,8 @@ module _ (v : Wide) (n : ℕ) (b c d y z k l m x t : ℕ) where
         other-byte =
             untold .same .bytes 0 3 7 1 (omega arith) (omega arith) (omega arith) (λ e. omega arith)
             (subst (λ (a : Cluster). InPlace 0 (placeOf (tableOf a) 7) 1) still-beside (omega arith, omega arith));
+        near-record = untold .same .others 26 (λ e. omega arith);
+        near-byte =
+            untold .same .bytes 3 2 15 12296 (omega arith) (omega arith) (omega arith) (λ e. omega arith)
+            (subst (λ (a : Cluster). InPlace 3 (placeOf (tableOf a) 15) 12296) still-near (omega arith, omega arith));
       }

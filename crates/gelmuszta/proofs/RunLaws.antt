@@ -3,15 +3,17 @@
 -- whose image the bytes are.
 -- Assumes nothing.
 use mathlib.Core.Path.{_≡_, refl, sym, ap, ap₂, _∙_, subst}
+use mathlib.Core.Logic.{_≢_}
 use mathlib.Core.Bool.{Bool, true, false, not, false≢true}
 use mathlib.Core.List.{List, [], _∷_, map}
-use lib.ListN.{length}
-use Prim.Native.Nat.{ℕ}
+use lib.ListN.{length, getD}
+use Prim.Native.Nat.{ℕ, _<_}
 use native.Mathlib.Omega.{arith}
 use borrow.Author.Tests.{not-true}
-use Rattle.sizes.specs.Sizes.{memory}
+use Rattle.sizes.specs.Sizes.{memory, nodes, clusters, segments}
 use Rattle.handle.specs.Conversion.{product}
 use Rattle.store.specs.declared.Store.{Store}
+use Rattle.store.specs.Records.{recordOf, tableAt, placeOn}
 use Rattle.calls.specs.declared.Part.{Part}
 use Rattle.calls.specs.declared.Looked.{Looked}
 use Rattle.calls.specs.Calls.{Copy, Call, Arguments, call, freeze, among, isLook, buffer}
@@ -22,7 +24,7 @@ use Rattle.calls.specs.Answers.{copyOf}
 use Rattle.calls.proofs.KindLaws.{but-is}
 use Rattle.calls.proofs.TestLaws.{off-is}
 use Rattle.calls.proofs.WordLaws.{badLength-is}
-use Rattle.isolation.specs.Copies.{Done, also, places}
+use Rattle.isolation.specs.Copies.{InPlace, setApart, Alike, Held, Done, also, places}
 use Rattle.isolation.proofs.TwoCopies.{two-copies}
 use Rattle.isolation.specs.Writers.{SameToWriters}
 use Rattle.isolation.proofs.WriterLaws.{writers-learn-nothing}
@@ -153,13 +155,31 @@ module _ (xs : List Call) (p : AllFit xs) (b m d n : List ℕ) (hb : Bytes image
   places-on : places product xs (held b m) ≡ places product xs (held d n) → placesOn xs b m ≡ placesOn xs d n
   places-on e = places-are-runs xs b m p hb gb ∙ ap parts e ∙ sym (places-are-runs xs d n p hd gd)
 
+-- what holds of the two runs' ends holds of what the images left hold
+ends-on : (P : Copy → Copy → Type 0) (xs : List Call) (p : AllFit xs) (b m d n : List ℕ) (hb : Bytes imageBytes b)
+    (gb : good b ≡ true) (hd : Bytes imageBytes d) (gd : good d ≡ true)
+    → P (run product xs (held b m) .copy) (run product xs (held d n) .copy) → P (leftOn xs b m) (leftOn xs d n)
+ends-on P xs p b m d n hb gb hd gd e =
+    subst (P (leftOn xs b m)) (held-left xs p d n hd gd)
+    (subst (λ (c : Copy). P c (run product xs (held d n) .copy)) (held-left xs p b m hb gb) e)
+
+abbrev OtherBytes : ℕ → ℕ → Copy → Copy → Type 0
+OtherBytes node local a b =
+    (v l i p : ℕ) → v < nodes → l < clusters → i < segments → recordOf v l ≢ setApart node local
+    → InPlace v (placeOn (tableAt (a .store)) v l i) p → getD (a .memory) p 0 ≡ getD (b .memory) p 0
+
 pub two-images : TwoImages
 two-images node local v l xs b m d n p hb gb hd gd sb sd active alike shut-b shut-d =
     let agreed = two-copies node local product v l xs (held b m) (held d n) sb sd active alike shut-b shut-d in
     record {
       replies = replies-on xs p b m d n hb gb hd gd (agreed .replies);
       places = places-on xs p b m d n hb gb hd gd (agreed .places);
-      agreed = agreed;
+      good-first = good-left xs p b m hb gb;
+      good-second = good-left xs p d n hd gd;
+      alike = ends-on (Alike node local) xs p b m d n hb gb hd gd (agreed .alike);
+      others = ends-on (OtherBytes node local) xs p b m d n hb gb hd gd (agreed .others);
+      held-first = subst (Held node local (held b m)) (held-left xs p b m hb gb) (agreed .held-first);
+      held-second = subst (Held node local (held d n)) (held-left xs p d n hd gd) (agreed .held-second);
     }
 
 pub writers-on-images : WritersOnImages
@@ -170,10 +190,7 @@ writers-on-images node local v l xs b m d n p hb gb hd gd sb sd same no-b no-d =
       places = places-on xs p b m d n hb gb hd gd (u .places);
       good-first = good-left xs p b m hb gb;
       good-second = good-left xs p d n hd gd;
-      same =
-          subst (λ (c : Copy). SameToWriters node local (leftOn xs b m) c) (held-left xs p d n hd gd)
-          (subst (λ (c : Copy). SameToWriters node local c (run product xs (held d n) .copy)) (held-left xs p b m hb gb)
-          (u .same));
+      same = ends-on (SameToWriters node local) xs p b m d n hb gb hd gd (u .same);
     }
 
 -- ---- what is frozen

@@ -3,12 +3,13 @@
 --     Passwords          the passwords of a store: one for both modes, and two others, of which one shares the write password
 --     image v p          the image of the store with the passwords p
 --     memory b c d y z   the memory of such a copy
---     TwoImagesUses      condition 3, of the passwords `equal` and `others`: the replies and the places of the images; and what
---                        the theorem says of the stores that they hold, in the uses of condition 3
+--     TwoImagesUses      condition 3, of the passwords `equal` and `others`: the replies and the places of the images; that the images
+--                        left hold stores; and what the theorem says of these, with the memories left, in the uses of condition 3
 --     WritersOnUses      §7, of the passwords `equal` and `another`; the bytes of no segment differ
 --     FrozenOnUses       §3, after any list of calls whose passwords are of sixteen bytes
---     FrozenFromUses     and after a freeze that is done
---     LookUses           a look on an image: refused, on a damaged image, with a handle of no length, and done
+--     FrozenFromUses     and after a freeze that is done: of segment 0; and again: of the highest one, which is frozen already
+--     LookUses           a look on an image: refused, on a damaged image and, from another node, on one that holds a store; on a damaged
+--                        image, with a handle of no length, and done
 -- Assumes nothing.
 use mathlib.Core.Path.{_≡_}
 use mathlib.Core.Bool.{true}
@@ -24,7 +25,7 @@ use Rattle.calls.specs.Calls.{Copy, Call, freezing, looking}
 use Rattle.calls.specs.Literals.{sixteen, primary, handle, shows}
 use Rattle.isolation.specs.Frozen.{placeAt, frozenAt}
 use Rattle.isolation.specs.UseLists.{Wide, top, own, records, low, high, repeated, shut, writes}
-use Rattle.isolation.specs.Uses.{TwoCopiesUses}
+use Rattle.isolation.specs.Uses.{LeftUses}
 use Rattle.image.specs.Images.{imageBytes, good, storeIn, imageOf}
 use Rattle.gelmuszta.specs.Exported.{exported, exportedPart}
 use Rattle.gelmuszta.specs.Runs.{runOn, placesOn, leftOn}
@@ -52,12 +53,21 @@ abbrev pub memory : ℕ → ℕ → ℕ → ℕ → ℕ → List ℕ
 memory b c d y z = low z ++ high b c d y
 
 module _ (v : Wide) (n : ℕ) where
-  pub record TwoImagesUses (b c d k l m y z : ℕ) : Type 0 where
-    pub replies : runOn (repeated n shut) (image v equal) (memory b c d y z) .replies
-        ≡ runOn (repeated n shut) (image v others) (memory k l m y z) .replies
-    pub places : placesOn (repeated n shut) (image v equal) (memory b c d y z)
-        ≡ placesOn (repeated n shut) (image v others) (memory k l m y z)
-    pub agreed : TwoCopiesUses product v n (sixteen 34) (sixteen 1) (sixteen 2) b c d k l m y z
+  module _ (b c d k l m y z : ℕ) where
+    abbrev first : Copy
+    first = leftOn (repeated n shut) (image v equal) (memory b c d y z)
+
+    abbrev second : Copy
+    second = leftOn (repeated n shut) (image v others) (memory k l m y z)
+
+    pub record TwoImagesUses : Type 0 where
+      pub replies : runOn (repeated n shut) (image v equal) (memory b c d y z) .replies
+          ≡ runOn (repeated n shut) (image v others) (memory k l m y z) .replies
+      pub places : placesOn (repeated n shut) (image v equal) (memory b c d y z)
+          ≡ placesOn (repeated n shut) (image v others) (memory k l m y z)
+      pub good-first : good (runOn (repeated n shut) (image v equal) (memory b c d y z) .image) ≡ true
+      pub good-second : good (runOn (repeated n shut) (image v others) (memory k l m y z) .image) ≡ true
+      pub left : LeftUses v (sixteen 34) (sixteen 1) (sixteen 2) b c d k l m y z first second
 
   module _ (b c d y z k l m x t : ℕ) where
     abbrev ours : Copy
@@ -79,6 +89,8 @@ module _ (v : Wide) (n : ℕ) where
       pub write : clusterAt (ours .store) 31 .write ≡ clusterAt (theirs .store) 31 .write
       pub size : length (ours .memory) ≡ length (theirs .memory)
       pub other-byte : getD (ours .memory) 1 0 ≡ getD (theirs .memory) 1 0
+      pub near-record : clusterAt (ours .store) 26 ≡ clusterAt (theirs .store) 26
+      pub near-byte : getD (ours .memory) 12296 0 ≡ getD (theirs .memory) 12296 0
 
 module _ (v : Wide) (p : Passwords) (b c d y z : ℕ) (xs : List Call) where
   abbrev frozenEnd : Copy
@@ -95,13 +107,22 @@ module _ (v : Wide) (b c d y z : ℕ) (xs : List Call) where
   abbrev freezeEnd : Copy
   freezeEnd = leftOn (freezing 3 0 (own v 3 7 34) ∷ xs) (image v equal) (memory b c d y z)
 
+  abbrev againEnd : Copy
+  againEnd = leftOn (freezing 3 (top v) (own v 3 7 34) ∷ xs) (image v equal) (memory b c d y z)
+
   pub record FrozenFromUses : Type 0 where
     pub present : (base : ℕ) × (size : ℕ) × (placeAt (storeIn (image v equal)) 3 7 0 ≡ Present base size)
+    pub again-good : good (runOn (freezing 3 (top v) (own v 3 7 34) ∷ xs) (image v equal) (memory b c d y z) .image) ≡ true
     pub good : good (runOn (freezing 3 0 (own v 3 7 34) ∷ xs) (image v equal) (memory b c d y z) .image) ≡ true
     pub active : clusterAt (freezeEnd .store) 31 .active ≡ true
     pub place : placeAt (freezeEnd .store) 3 7 0 ≡ Present 4 2
     pub frozen : frozenAt (freezeEnd .store) 3 7 0 ≡ true
     pub bytes : (getD (freezeEnd .memory) 12292 0 ≡ c) × (getD (freezeEnd .memory) 12293 0 ≡ d)
+    pub again-present : (base : ℕ) × (size : ℕ) × (placeAt (storeIn (image v equal)) 3 7 (top v) ≡ Present base size)
+    pub again-active : clusterAt (againEnd .store) 31 .active ≡ true
+    pub again-place : placeAt (againEnd .store) 3 7 (top v) ≡ Present 0 4
+    pub again-frozen : frozenAt (againEnd .store) 3 7 (top v) ≡ true
+    pub again-bytes : (i : ℕ) → i < 4 → getD (againEnd .memory) (12288 + i) 0 ≡ b
 
 -- an image with no active byte that is one, which holds no store
 abbrev pub broken : List ℕ
@@ -116,6 +137,8 @@ module _ (v : Wide) (m : List ℕ) where
 
   pub record LookUses : Type 0 where
     pub refused : exportedPart (looking 3 0 []) broken (length m) ≡ nowhere
+    pub refused-good : (b c d y z : ℕ)
+        → exportedPart (looking 0 0 (own v 3 7 34)) (image v equal) (length (memory b c d y z)) ≡ nowhere
     pub damaged : exported (looking 3 0 (own v 3 7 34)) broken m .reply ≡ shows 1 []
     pub wrong-length : exported (looking 3 0 (handle 3 7 34 (255 ∷ 255 ∷ 255 ∷ []))) broken m .reply ≡ shows 25 []
     pub exact : exported (looking 0 7 (primary 0 3 3)) (image v equal) m .reply .shown

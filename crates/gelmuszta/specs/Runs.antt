@@ -12,9 +12,15 @@
 --     ListsAreRuns       on an image that holds a store a list gives and leaves what the run of steps on that store does, so
 --                        what is proved of runs, condition 3 with it, holds on images
 --     PlacesAreRuns      and the looks of the list tell the parts that they tell along that run
+--     ImagesAgree        condition 3's conclusions, for the list xs on the images b and d with the memories m and n:
+--       replies, places    the replies are equal, call by call, and the looks tell the same parts
+--       good-first, good-second    the images left hold stores
+--       alike              in these, with the memories left, every other record is equal, the cluster's table, and every byte
+--                          outside the cluster's segments
+--       others             the bytes of every segment of another cluster are equal
+--       held-first, held-second    the cluster's record and segment bytes are in each what they were at the start
 --     TwoImages          condition 3 of images: where the stores that two images hold, with their memories, differ only in
---                        one cluster's secrets, and no call presents a handle that opens it, the replies of a list are
---                        equal and its looks tell the same parts, and the runs agree as the copies of the stores do
+--                        one cluster's secrets, and no call presents a handle that opens it, they agree so
 --     WritersOnImages    document 02, §7, of images: where the stores that two images hold, with their memories, have in common
 --                        what writers may know, and no call that asks for reading presents a handle that opens the cluster
 --                        for it, the replies of a list are equal and its looks tell the same parts, and the images left hold
@@ -36,21 +42,20 @@ use mathlib.Core.Logic.{_≢_}
 use mathlib.Core.Bool.{true, false}
 use mathlib.Core.List.{List, [], _∷_, map}
 use Prim.Native.Nat.{ℕ, _<_}
-use lib.ListN.{length}
-use Rattle.sizes.specs.Sizes.{nodes, clusters}
+use lib.ListN.{length, getD}
+use Rattle.sizes.specs.Sizes.{nodes, clusters, segments}
 use Rattle.handle.specs.Handles.{nodeOf}
 use Rattle.handle.specs.Conversion.{product}
 use Rattle.bits.specs.Bytes.{Bytes}
 use Rattle.store.specs.declared.Place.the-variants.{Present}
-use Rattle.store.specs.Records.{tableAt}
+use Rattle.store.specs.Records.{recordOf, tableAt, placeOn}
 use Rattle.calls.specs.declared.Part.{Part}
 use Rattle.calls.specs.declared.Looked.{Looked}
 use Rattle.calls.specs.Calls.{Copy, Call, Arguments, call, weaken, freeze, isLook, handleOf, buffer}
 use Rattle.calls.specs.Words.{BadLength}
 use Rattle.calls.specs.Steps.{Reply, Ran, plain, run, aesStep}
 use Rattle.calls.specs.Answers.{copyOf}
-use Rattle.isolation.specs.Copies.{SoundCopy, setApart, Alike, AllShut, also, places}
-use Rattle.isolation.specs.Statements.{Agreed}
+use Rattle.isolation.specs.Copies.{SoundCopy, InPlace, setApart, Alike, Held, AllShut, also, places}
 use Rattle.isolation.specs.Writers.{SameToWriters, NoReader}
 use Rattle.isolation.specs.Frozen.{placeAt, frozenAt, Fixed}
 use Rattle.image.specs.Images.{imageBytes, good, storeIn, imageOf}
@@ -90,10 +95,20 @@ PlacesAreRuns =
 abbrev pub held : List ℕ → List ℕ → Copy
 held b m = copyOf (storeIn b) m
 
+abbrev pub leftOn : List Call → List ℕ → List ℕ → Copy
+leftOn xs b m = held (runOn xs b m .image) (runOn xs b m .memory)
+
 pub record ImagesAgree (node local : ℕ) (xs : List Call) (b m d n : List ℕ) : Type 0 where
   pub replies : runOn xs b m .replies ≡ runOn xs d n .replies
   pub places : placesOn xs b m ≡ placesOn xs d n
-  pub agreed : Agreed node local product xs (held b m) (held d n)
+  pub good-first : good (runOn xs b m .image) ≡ true
+  pub good-second : good (runOn xs d n .image) ≡ true
+  pub alike : Alike node local (leftOn xs b m) (leftOn xs d n)
+  pub others : (v l i p : ℕ) → v < nodes → l < clusters → i < segments → recordOf v l ≢ setApart node local
+      → InPlace v (placeOn (tableAt (leftOn xs b m .store)) v l i) p
+      → getD (leftOn xs b m .memory) p 0 ≡ getD (leftOn xs d n .memory) p 0
+  pub held-first : Held node local (held b m) (leftOn xs b m)
+  pub held-second : Held node local (held d n) (leftOn xs d n)
 
 abbrev pub TwoImages : Type 0
 TwoImages =
@@ -103,9 +118,6 @@ TwoImages =
     → tableAt (storeIn b) (setApart node local) .active ≡ true → Alike node local (held b m) (held d n)
     → AllShut node local product xs (held b m) → AllShut node local product xs (held d n)
     → ImagesAgree node local xs b m d n
-
-abbrev pub leftOn : List Call → List ℕ → List ℕ → Copy
-leftOn xs b m = held (runOn xs b m .image) (runOn xs b m .memory)
 
 pub record ImagesUntold (node local : ℕ) (xs : List Call) (b m d n : List ℕ) : Type 0 where
   pub replies : runOn xs b m .replies ≡ runOn xs d n .replies

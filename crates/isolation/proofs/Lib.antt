@@ -36,6 +36,7 @@ pub mod SpyLaws
 pub mod WriterCopyLaws
 pub mod WriterWitnessLaws
 pub mod WriterUseLaws
+pub mod CutUseLaws
 pub mod WidthHolderLaws
 pub mod LeakLaws
 pub mod AesLaws

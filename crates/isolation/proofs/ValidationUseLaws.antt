@@ -15,12 +15,12 @@ use Rattle.calls.proofs.Computing.{computing}
 use Rattle.isolation.specs.Copies.{SixteenBytes}
 use Rattle.isolation.specs.Checks.{Judgeable, chained, Judged}
 use Rattle.isolation.specs.UseLists.{Wide, ofFour, ofEight, ofSixteen, own}
-use Rattle.isolation.specs.ValidationUses.{password, cut, judged, ValidationUses}
+use Rattle.isolation.specs.ValidationUses.{password, fourth, cut, deep, judged, ValidationUses}
 use Rattle.isolation.proofs.UseCopyLaws.{sound-keeping}
 use Rattle.isolation.proofs.CheckLaws.{validation-judges}
 
 module _ (f : Name → List ℕ → ℕ → List ℕ) where
-  -- in each mode, of a primary handle and of one that is cut
+  -- in each mode, of a primary handle, of one that is cut, and of one with four subselectors that are not flat
   judgeable-own : (v : Wide) (a b k m : ℕ) → (m ≡ 1) ⊎ (m ≡ 2)
       → Judgeable f (validating m (own v 3 7 k) .args) (judged f v a b .store) (length (judged f v a b .memory))
   unfolding computing
@@ -39,6 +39,16 @@ module _ (f : Name → List ℕ → ℕ → List ℕ) where
   judgeable-cut ofEight a b k m e =
       record { long = inr (inl refl); sound = sound-keeping ofEight (sixteen a) (sixteen b) 1 2 3 4 5; place = refl; mode = e; even = refl; active = refl; wide = refl }
   judgeable-cut ofSixteen a b k m e =
+      record { long = inr (inr refl); sound = sound-keeping ofSixteen (sixteen a) (sixteen b) 1 2 3 4 5; place = refl; mode = e; even = refl; active = refl; wide = refl }
+
+  judgeable-deep : (v : Wide) (a b k m : ℕ) → (m ≡ 1) ⊎ (m ≡ 2)
+      → Judgeable f (validating m (deep f v k) .args) (judged f v a b .store) (length (judged f v a b .memory))
+  unfolding computing tabulate
+  judgeable-deep ofFour a b k m e =
+      record { long = inl refl; sound = sound-keeping ofFour (sixteen a) (sixteen b) 1 2 3 4 5; place = refl; mode = e; even = refl; active = refl; wide = refl }
+  judgeable-deep ofEight a b k m e =
+      record { long = inr (inl refl); sound = sound-keeping ofEight (sixteen a) (sixteen b) 1 2 3 4 5; place = refl; mode = e; even = refl; active = refl; wide = refl }
+  judgeable-deep ofSixteen a b k m e =
       record { long = inr (inr refl); sound = sound-keeping ofSixteen (sixteen a) (sixteen b) 1 2 3 4 5; place = refl; mode = e; even = refl; active = refl; wide = refl }
 
   module _ (gives : SixteenBytes f) where
@@ -63,11 +73,23 @@ module _ (f : Name → List ℕ → ℕ → List ℕ) where
     cut-1 ofEight a b k = validation-judges f gives _ _ _ refl (judgeable-cut ofEight a b k 1 (inl refl))
     cut-1 ofSixteen a b k = validation-judges f gives _ _ _ refl (judgeable-cut ofSixteen a b k 1 (inl refl))
 
+    deep-1 : (v : Wide) (a b k : ℕ) → About v a b 1 (deep f v k)
+    unfolding computing tabulate
+    deep-1 ofFour a b k = validation-judges f gives _ _ _ refl (judgeable-deep ofFour a b k 1 (inl refl))
+    deep-1 ofEight a b k = validation-judges f gives _ _ _ refl (judgeable-deep ofEight a b k 1 (inl refl))
+    deep-1 ofSixteen a b k = validation-judges f gives _ _ _ refl (judgeable-deep ofSixteen a b k 1 (inl refl))
+
     cut-2 : (v : Wide) (a b k : ℕ) → About v a b 2 (cut f v k)
     unfolding computing tabulate
     cut-2 ofFour a b k = validation-judges f gives _ _ _ refl (judgeable-cut ofFour a b k 2 (inr refl))
     cut-2 ofEight a b k = validation-judges f gives _ _ _ refl (judgeable-cut ofEight a b k 2 (inr refl))
     cut-2 ofSixteen a b k = validation-judges f gives _ _ _ refl (judgeable-cut ofSixteen a b k 2 (inr refl))
+
+    deep-2 : (v : Wide) (a b k : ℕ) → About v a b 2 (deep f v k)
+    unfolding computing tabulate
+    deep-2 ofFour a b k = validation-judges f gives _ _ _ refl (judgeable-deep ofFour a b k 2 (inr refl))
+    deep-2 ofEight a b k = validation-judges f gives _ _ _ refl (judgeable-deep ofEight a b k 2 (inr refl))
+    deep-2 ofSixteen a b k = validation-judges f gives _ _ _ refl (judgeable-deep ofSixteen a b k 2 (inr refl))
 
     -- what the chain gives, and the password read
     chain-own : (v : Wide) (a b k : ℕ)
@@ -86,6 +108,15 @@ module _ (f : Name → List ℕ → ℕ → List ℕ) where
     chain-cut ofEight a b k = (refl, refl, sym (listed 16 (password f ofEight k) (gives _ _ _)))
     chain-cut ofSixteen a b k = (refl, refl, sym (listed 16 (password f ofSixteen k) (gives _ _ _)))
 
+    chain-deep : (v : Wide) (a b k : ℕ)
+        → (chained f (validating 1 (deep f v k) .args) (judged f v a b .store) ≡ fourth f v a)
+        × (chained f (validating 2 (deep f v k) .args) (judged f v a b .store) ≡ fourth f v b)
+        × (decoded (deep f v k) .password ≡ fourth f v k)
+    unfolding computing tabulate
+    chain-deep ofFour a b k = (refl, refl, sym (listed 16 (fourth f ofFour k) (gives _ _ _)))
+    chain-deep ofEight a b k = (refl, refl, sym (listed 16 (fourth f ofEight k) (gives _ _ _)))
+    chain-deep ofSixteen a b k = (refl, refl, sym (listed 16 (fourth f ofSixteen k) (gives _ _ _)))
+
     pub validation-uses : (v : Wide) (a b : ℕ) → ValidationUses f v a b
     validation-uses v a b =
         record {
@@ -101,4 +132,8 @@ module _ (f : Name → List ℕ → ℕ → List ℕ) where
           chained-writing = cut-2 v a b b .right (chain-cut v a b b .1 ∙ sym (chain-cut v a b b .2));
           crossed-reading = λ k ne. cut-1 v a b k .wrong (λ e. ne (sym (chain-cut v a b k .2) ∙ sym e ∙ chain-cut v a b k .0));
           crossed-writing = λ k ne. cut-2 v a b k .wrong (λ e. ne (sym (chain-cut v a b k .2) ∙ sym e ∙ chain-cut v a b k .1));
+          deep-reading = deep-1 v a b a .right (chain-deep v a b a .0 ∙ sym (chain-deep v a b a .2));
+          deep-writing = deep-2 v a b b .right (chain-deep v a b b .1 ∙ sym (chain-deep v a b b .2));
+          deep-crossed-reading = λ k ne. deep-1 v a b k .wrong (λ e. ne (sym (chain-deep v a b k .2) ∙ sym e ∙ chain-deep v a b k .0));
+          deep-crossed-writing = λ k ne. deep-2 v a b k .wrong (λ e. ne (sym (chain-deep v a b k .2) ∙ sym e ∙ chain-deep v a b k .1));
         }

@@ -23,7 +23,7 @@ use Rattle.isolation.specs.Uses.{WritersUses}
 use Rattle.isolation.proofs.RunLaws.{numbersOf, ranBy, run-below, places-below, along-below}
 use Rattle.isolation.proofs.SpyLaws.{spying, unspied}
 use Rattle.isolation.proofs.RoundLaws.{checked, toldBy, Round, round, ends, rounds}
-use Rattle.isolation.proofs.UseCopyLaws.{sound-keeping, alike-keeping, same-keeping}
+use Rattle.isolation.proofs.UseCopyLaws.{sound-keeping, at-high, alike-keeping, same-keeping}
 use Rattle.isolation.proofs.WriterLaws.{alike-is-same, writers-learn-nothing}
 
 module _ (f : Name → List ℕ → ℕ → List ℕ) where
@@ -84,6 +84,10 @@ module _ (f : Name → List ℕ → ℕ → List ℕ) where
   left-byte v r b c d y z zero = refl
   left-byte v r b c d y z (suc n) = refl
 
+  left-near : (v : Wide) (r : List ℕ) (b c d y z n : ℕ) → getD (left v r b c d y z n .memory) 12296 0 ≡ 22
+  left-near v r b c d y z zero = at-high v r (sixteen 34) b c d y z 8
+  left-near v r b c d y z (suc n) = at-high v r (sixteen 34) b 8 9 0 z 8
+
   -- ---- many rounds, in both copies
 
   module _ (v : Wide) (n : ℕ) (s : List ℕ) (b c d y z k l m x t : ℕ) where
@@ -132,4 +136,10 @@ module _ (f : Name → List ℕ → ℕ → List ℕ) where
               (subst (λ (a : Store). InPlace 0 (placeOn (tableAt a) 0 3 7) 1) (sym store) (omega arith, omega arith)))
               ∙ ap (λ (a : Copy). getD (a .memory) 1 0) end
               ∙ left-byte v (sixteen 34) b c d y z n;
+          near-record = sym (untold .same .others 26 (λ e. omega arith)) ∙ ap (λ (a : Store). clusterAt a 26) store;
+          near-byte =
+              sym (untold .same .bytes 3 2 15 12296 (omega arith) (omega arith) (omega arith) (λ e. omega arith)
+              (subst (λ (a : Store). InPlace 3 (placeOn (tableAt a) 3 2 15) 12296) (sym store) (omega arith, omega arith)))
+              ∙ ap (λ (a : Copy). getD (a .memory) 12296 0) end
+              ∙ left-near v (sixteen 34) b c d y z n;
         }

@@ -20,3 +20,4 @@ pub mod Reads
 pub mod UseLists
 pub mod Uses
 pub mod ValidationUses
+pub mod CutUses
