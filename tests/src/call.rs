@@ -39,68 +39,19 @@ pub const CALLS: [(u8, &str); 11] = [
 /// data are handed over beside the call.
 #[derive(Clone, Debug, PartialEq, Eq)]
 pub enum Call {
-    NewCluster {
-        node: u32,
-        local: u32,
-        width: usize,
-        read: Password,
-        write: Password,
-    },
-    DeleteCluster {
-        node: u32,
-        handle: HandleBytes,
-    },
-    NewSegment {
-        node: u32,
-        segment: u32,
-        size: u32,
-        handle: HandleBytes,
-    },
-    DeleteSegment {
-        node: u32,
-        segment: u32,
-        handle: HandleBytes,
-    },
-    Read {
-        segment: u32,
-        handle: HandleBytes,
-    },
-    Write {
-        segment: u32,
-        handle: HandleBytes,
-    },
-    Weaken {
-        mask: u16,
-        handle: HandleBytes,
-    },
-    Reduce {
-        mode: u32,
-        handle: HandleBytes,
-    },
-    NewPassword {
-        mode: u32,
-        handle: HandleBytes,
-        password: Password,
-    },
-    Freeze {
-        node: u32,
-        segment: u32,
-        handle: HandleBytes,
-    },
-    Join {
-        mode: u32,
-        handle: HandleBytes,
-        other: HandleBytes,
-    },
-    Look {
-        node: u32,
-        segment: u32,
-        handle: HandleBytes,
-    },
-    Validate {
-        mode: u32,
-        handle: HandleBytes,
-    },
+    NewCluster { node: u32, local: u32, width: usize, read: Password, write: Password },
+    DeleteCluster { node: u32, handle: HandleBytes },
+    NewSegment { node: u32, segment: u32, size: u32, handle: HandleBytes },
+    DeleteSegment { node: u32, segment: u32, handle: HandleBytes },
+    Read { segment: u32, handle: HandleBytes },
+    Write { segment: u32, handle: HandleBytes },
+    Weaken { mask: u16, handle: HandleBytes },
+    Reduce { mode: u32, handle: HandleBytes },
+    NewPassword { mode: u32, handle: HandleBytes, password: Password },
+    Freeze { node: u32, segment: u32, handle: HandleBytes },
+    Join { mode: u32, handle: HandleBytes, other: HandleBytes },
+    Look { node: u32, segment: u32, handle: HandleBytes },
+    Validate { mode: u32, handle: HandleBytes },
 }
 
 impl Call {
@@ -256,10 +207,7 @@ impl Part {
 
 impl From<Range<usize>> for Part {
     fn from(range: Range<usize>) -> Part {
-        Part {
-            from: range.start,
-            length: range.len(),
-        }
+        Part { from: range.start, length: range.len() }
     }
 }
 
@@ -280,21 +228,11 @@ impl Reply {
     pub const DONE: Reply = Reply::refused(DONE);
 
     pub const fn refused(number: u8) -> Reply {
-        Reply {
-            number,
-            first: HandleBytes::new(),
-            second: HandleBytes::new(),
-            count: 0,
-            length: 0,
-            shown: Part::NONE,
-        }
+        Reply { number, first: HandleBytes::new(), second: HandleBytes::new(), count: 0, length: 0, shown: Part::NONE }
     }
 
     pub fn with_handle(handle: &Handle) -> Reply {
-        Reply {
-            first: handle.to_bytes(),
-            ..Reply::DONE
-        }
+        Reply { first: handle.to_bytes(), ..Reply::DONE }
     }
 
     pub fn is_done(&self) -> bool {

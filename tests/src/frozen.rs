@@ -4,9 +4,7 @@
 use crate::call::Call;
 use crate::sizes::{CLUSTERS, NODES, SEGMENTS};
 use crate::store::{Cluster, Place, Store};
-use crate::table::{
-    Found, DONE, FROZEN, NOT_PRIMARY, NOT_REFERENCED, PRESENT, VIOLATED_PROTECTION,
-};
+use crate::table::{Found, DONE, FROZEN, NOT_PRIMARY, NOT_REFERENCED, PRESENT, VIOLATED_PROTECTION};
 use std::collections::BTreeMap;
 
 /// Node, local number and segment.
@@ -140,9 +138,7 @@ impl Case {
             (Call::Write { .. }, FROZEN) if short => Some(Case::Short),
             (Call::Write { .. }, FROZEN) => Some(Case::LongEnough),
             (Call::DeleteSegment { .. }, NOT_PRIMARY) => Some(Case::NotPrimaryFirst),
-            (Call::DeleteSegment { .. } | Call::Write { .. }, VIOLATED_PROTECTION) => {
-                Some(Case::ViolatedFirst)
-            }
+            (Call::DeleteSegment { .. } | Call::Write { .. }, VIOLATED_PROTECTION) => Some(Case::ViolatedFirst),
             _ => None,
         }
     }

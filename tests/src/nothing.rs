@@ -51,12 +51,8 @@ impl Way {
         let handle = call.handle()?;
         match call {
             Call::Weaken { mask, .. } => Way::of_weakening(&handle, *mask, number),
-            Call::Reduce { .. } if references_nothing(&handle) && number == DONE => {
-                Some(Way::Reduced)
-            }
-            Call::Validate { .. } if references_nothing(&handle) && number == DONE => {
-                Some(Way::Validated)
-            }
+            Call::Reduce { .. } if references_nothing(&handle) && number == DONE => Some(Way::Reduced),
+            Call::Validate { .. } if references_nothing(&handle) && number == DONE => Some(Way::Validated),
             _ => None,
         }
     }

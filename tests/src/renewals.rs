@@ -38,16 +38,8 @@ pub enum Renewal {
 }
 
 /// All but a join, which is never done with a primary handle.
-const USES: [Use; 8] = [
-    Read,
-    Look,
-    Write,
-    Change,
-    Reduce(Mode::Read),
-    Reduce(Mode::Write),
-    Validate(Mode::Read),
-    Validate(Mode::Write),
-];
+const USES: [Use; 8] =
+    [Read, Look, Write, Change, Reduce(Mode::Read), Reduce(Mode::Write), Validate(Mode::Read), Validate(Mode::Write)];
 
 impl Renewal {
     /// Everything that has to be met.
@@ -83,9 +75,7 @@ impl Renewal {
         if let Call::NewPassword { password, .. } = call {
             return renewed(cluster, call.needed_mode()?, password, number);
         }
-        let opens_both = Mode::ALL
-            .iter()
-            .all(|mode| handle.validates(cluster, *mode));
+        let opens_both = Mode::ALL.iter().all(|mode| handle.validates(cluster, *mode));
         let by = used(call).filter(|_| number == DONE && opens_both)?;
         match handle.selector.is_primary() {
             true => Some(Renewal::ByPrimary(by)),
@@ -113,10 +103,9 @@ fn used(call: &Call) -> Option<Use> {
         Call::Read { .. } => Some(Read),
         Call::Look { .. } => Some(Look),
         Call::Write { .. } => Some(Write),
-        Call::DeleteCluster { .. }
-        | Call::NewSegment { .. }
-        | Call::DeleteSegment { .. }
-        | Call::Freeze { .. } => Some(Change),
+        Call::DeleteCluster { .. } | Call::NewSegment { .. } | Call::DeleteSegment { .. } | Call::Freeze { .. } => {
+            Some(Change)
+        }
         Call::Reduce { .. } => call.needed_mode().map(Reduce),
         Call::Join { .. } => call.needed_mode().map(Join),
         Call::Validate { .. } => call.needed_mode().map(Validate),

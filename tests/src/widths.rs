@@ -66,13 +66,7 @@ const OTHERS: [Sight; 10] = [
     Sight::NoLength(Wrong::Nothing),
 ];
 
-const WRONG: [Wrong; 5] = [
-    Wrong::Short,
-    Wrong::Twenty,
-    Wrong::Between,
-    Wrong::TwentyEight,
-    Wrong::Long,
-];
+const WRONG: [Wrong; 5] = [Wrong::Short, Wrong::Twenty, Wrong::Between, Wrong::TwentyEight, Wrong::Long];
 
 impl Sight {
     /// Everything that has to be met.
@@ -164,9 +158,7 @@ fn done(call: &Call, handle: &Handle) -> Vec<Sight> {
 
 fn kept_above(call: &Call, handle: &Handle) -> Option<Sight> {
     match *call {
-        Call::Weaken { mask, .. } if mask != 0 && upper(handle, mask).0 == mask => {
-            Some(Sight::KeptAbove)
-        }
+        Call::Weaken { mask, .. } if mask != 0 && upper(handle, mask).0 == mask => Some(Sight::KeptAbove),
         _ => None,
     }
 }
@@ -191,8 +183,5 @@ fn other(call: &Call, handle: &Handle, cluster: &Cluster) -> Vec<Sight> {
         false => Sight::OtherForged,
     };
     let segment = segment.map(|_| Sight::SegmentOfTheHandle);
-    segment
-        .into_iter()
-        .chain([Sight::Other(width, own), password])
-        .collect()
+    segment.into_iter().chain([Sight::Other(width, own), password]).collect()
 }

@@ -63,28 +63,16 @@ fn lists_reach_what_can_be_reached() {
 fn refused_calls_change_nothing_and_what_is_sound_or_frozen_stays() {
     let mut frozen = 0;
     for list in lists(2) {
-        let Some(Ok((order, records))) = records(&list).map(|all| Ok::<_, u8>((chain(&all)?, all)))
-        else {
+        let Some(Ok((order, records))) = records(&list).map(|all| Ok::<_, u8>((chain(&all)?, all))) else {
             continue;
         };
         let mut session = Session::starting();
         let mut watch = Watch::default();
         for number in order {
-            let before = (
-                session.store.clone(),
-                session.memory.clone(),
-                session.buffer.clone(),
-            );
+            let before = (session.store.clone(), session.memory.clone(), session.buffer.clone());
             let reply = session.run(records[usize::from(number) - 1]);
             if !reply.is_done() {
-                assert!(
-                    before
-                        == (
-                            session.store.clone(),
-                            session.memory.clone(),
-                            session.buffer.clone()
-                        )
-                );
+                assert!(before == (session.store.clone(), session.memory.clone(), session.buffer.clone()));
                 assert!(reply.first.is_empty() && reply.second.is_empty());
                 assert_eq!((reply.count, reply.length), (0, 0));
             }

@@ -73,10 +73,7 @@ fn what_either_references_whichever_comes_first() {
         };
         let (mut done, mut whole) = (0, 0);
         let step = if width == Width::Sixteen { 37 } else { 1 };
-        for at in (0..sets * sets)
-            .step_by(step)
-            .filter(|at| at % sets <= at / sets)
-        {
+        for at in (0..sets * sets).step_by(step).filter(|at| at % sets <= at / sets) {
             let (one, other) = (handle(at % sets, at / sets), handle(at / sets, at % 7));
             let reply = bench.ask(join(READ_MODE, one, other), &mut []);
             assert_eq!(reply, bench.ask(join(READ_MODE, other, one), &mut []));
@@ -123,10 +120,7 @@ fn what_is_given_validates_in_the_mode_and_is_not_primary() {
                     continue;
                 }
                 let given = given(&reply);
-                let validate = |mode| Call::Validate {
-                    mode,
-                    handle: given.into(),
-                };
+                let validate = |mode| Call::Validate { mode, handle: given.into() };
                 assert_eq!(bench.reply(validate(mode)), Reply::DONE);
                 assert_eq!(bench.number(validate(3 - mode)), 9);
                 assert!(!given.selector.is_primary() && !given.selector.is_gapped());

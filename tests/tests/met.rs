@@ -28,11 +28,7 @@ fn store(random: &mut Random) -> Store {
             active: true,
             width: width.number(),
             read,
-            write: if random.one_in(4) {
-                read
-            } else {
-                random.bytes()
-            },
+            write: if random.one_in(4) { read } else { random.bytes() },
             ..Cluster::INACTIVE
         };
         let segment = random.below(width.segments() as u64) as usize;
@@ -62,18 +58,12 @@ fn every_meeting_of_two_handles() {
                 false => 0,
             };
             let call = Call::join(mode, handle, other);
-            let found = Found {
-                store: &store,
-                memory_bytes: memory_bytes(random),
-                buffer_bytes: 0,
-            };
+            let found = Found { store: &store, memory_bytes: memory_bytes(random), buffer_bytes: 0 };
             let number = refusal(&call, &found).unwrap_or(0);
             met.extend(Meeting::of(&found, &call, number));
         }
     }
-    let missing: Vec<Meeting> = Meeting::all()
-        .filter(|meeting| !met.contains(meeting))
-        .collect();
+    let missing: Vec<Meeting> = Meeting::all().filter(|meeting| !met.contains(meeting)).collect();
     assert!(missing.is_empty(), "{missing:?}");
 }
 
@@ -130,17 +120,11 @@ fn every_sight_of_a_width() {
             let before = store.clone();
             let mut memory = vec![0; memory_bytes(random)];
             let number = run(&mut store, &mut memory, &mut [0; 9], &call).number;
-            let found = Found {
-                store: &before,
-                memory_bytes: memory.len(),
-                buffer_bytes: 9,
-            };
+            let found = Found { store: &before, memory_bytes: memory.len(), buffer_bytes: 9 };
             met.extend(Sight::of(&found, &call, number));
         }
     }
     let missing: Vec<Sight> = Sight::all().filter(|sight| !met.contains(sight)).collect();
     assert!(missing.is_empty(), "{missing:?}");
-    assert!(met
-        .iter()
-        .all(|sight| Sight::all().any(|due| due == *sight)));
+    assert!(met.iter().all(|sight| Sight::all().any(|due| due == *sight)));
 }

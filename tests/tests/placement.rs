@@ -40,11 +40,8 @@ fn other_nodes_take_no_room() {
 
 /// The definition, tried base by base.
 fn first_free(extents: &[Extent], size: usize) -> Option<usize> {
-    (0..=NODE_BYTES - size).find(|&base| {
-        extents
-            .iter()
-            .all(|extent| extent.end() <= base || base + size <= extent.base)
-    })
+    (0..=NODE_BYTES - size)
+        .find(|&base| extents.iter().all(|extent| extent.end() <= base || base + size <= extent.base))
 }
 
 /// Segments with gaps between them, by chance, in no order of their numbers; as many as the width allows, or as there is
@@ -72,9 +69,7 @@ fn placement_is_the_smallest_base_that_fits() {
     for at in 0..300 {
         let store = scattered(&mut random, Width::ALL[at % 3]);
         assert!(store.is_sound(MEMORY_BYTES));
-        let segments = store.clusters[0]
-            .iter()
-            .flat_map(|cluster: &Cluster| &cluster.segments);
+        let segments = store.clusters[0].iter().flat_map(|cluster: &Cluster| &cluster.segments);
         let extents: Vec<Extent> = segments.filter_map(Segment::extent).collect();
         for size in [1, 2, 17, 60, 89, 90, 400, 4000, 4096] {
             assert_eq!(store.place(0, size), first_free(&extents, size));

@@ -48,12 +48,7 @@ impl Batch {
 
 /// Gives how many validations were compared. Every second batch is put to a damaged store, with each
 /// kind of damage in turn.
-pub fn compare(
-    guard: BatchGuard,
-    seed: u64,
-    batches: u64,
-    tally: &mut Tally,
-) -> Result<u64, String> {
+pub fn compare(guard: BatchGuard, seed: u64, batches: u64, tally: &mut Tally) -> Result<u64, String> {
     let mut validations = 0;
     let mut damages = Damage::ALL.into_iter().cycle();
     let mut sound = false;
@@ -111,16 +106,13 @@ fn one(guard: BatchGuard, batch: &Batch, tally: &mut Tally) -> Result<(), String
     let count = guard(&mut held, mode, width, &batch.handles, &mut found);
     let expected_count = batch.expected_count();
     if count != expected_count {
-        return Err(format!(
-            "{count} numbers are told for width {width}, {expected_count} are due"
-        ));
+        return Err(format!("{count} numbers are told for width {width}, {expected_count} are due"));
     }
     let mut expected = batch.numbers.clone();
     for (number, bytes) in expected.iter_mut().zip(batch.whole()) {
         *number = validated_alone(batch, bytes, tally)?;
     }
-    same_bytes("numbers of a batch", &expected, &found)
-        .map_err(|what| format!("width {width}, {what}"))?;
+    same_bytes("numbers of a batch", &expected, &found).map_err(|what| format!("width {width}, {what}"))?;
     same_bytes("image after a batch", &batch.held.image, &held.image)?;
     same_bytes("memory after a batch", &batch.held.memory, &held.memory)
 }
@@ -128,10 +120,7 @@ fn one(guard: BatchGuard, batch: &Batch, tally: &mut Tally) -> Result<(), String
 /// The number on which the library's single validation and the model agree.
 fn validated_alone(batch: &Batch, bytes: &[u8], tally: &mut Tally) -> Result<u8, String> {
     let call = Call::validate(narrow(batch.mode), bytes.to_vec());
-    let question = Question {
-        beyond: batch.mode,
-        ..Question::of(call)
-    };
+    let question = Question { beyond: batch.mode, ..Question::of(call) };
     let answer = ask(&guard::ask, &mut Sides::both(batch.held.clone()), &question)?;
     tally.note_widths(BATCH, &batch.held, &question, &answer);
     Ok(answer.reply.number)
@@ -198,11 +187,7 @@ fn handles(random: &mut Random, store: &Store, width: Width, count: usize) -> Ve
     let mut joined = Vec::new();
     for _ in 0..count {
         let wish = Wish {
-            mode: if random.one_in(2) {
-                Mode::Read
-            } else {
-                Mode::Write
-            },
+            mode: if random.one_in(2) { Mode::Read } else { Mode::Write },
             primary: false,
             segments: random.one_in(2),
             width: Some(width).filter(|_| !random.one_in(8)),

@@ -16,12 +16,7 @@ pub enum Where {
 }
 
 impl Where {
-    const ALL: [Where; 4] = [
-        Where::LastRecord,
-        Where::ItsRecord,
-        Where::ItsNode,
-        Where::Elsewhere,
-    ];
+    const ALL: [Where; 4] = [Where::LastRecord, Where::ItsRecord, Where::ItsNode, Where::Elsewhere];
 
     /// The call is about the cluster at `own`, if about one; the damage is done at `place`.
     pub fn seen_from(own: Option<(usize, usize)>, place: (usize, usize)) -> Where {

@@ -117,11 +117,7 @@ extern "C" {
         length: *mut usize,
     ) -> gelmuszta_number;
 
-    pub fn gelmuszta_handle_of(
-        bytes: *const u8,
-        length: usize,
-        handle: *mut gelmuszta_handle,
-    ) -> gelmuszta_number;
+    pub fn gelmuszta_handle_of(bytes: *const u8, length: usize, handle: *mut gelmuszta_handle) -> gelmuszta_number;
 
     pub fn gelmuszta_weaken(
         handle: *const gelmuszta_handle,
@@ -161,9 +157,5 @@ extern "C" {
         numbers_length: usize,
     ) -> usize;
 
-    pub fn gelmuszta_convert(
-        password: *const gelmuszta_password,
-        parameter: u16,
-        converted: *mut gelmuszta_password,
-    );
+    pub fn gelmuszta_convert(password: *const gelmuszta_password, parameter: u16, converted: *mut gelmuszta_password);
 }

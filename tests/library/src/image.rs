@@ -106,13 +106,7 @@ fn decode_cluster(record: &[u8]) -> Option<Cluster> {
     for (segment, place) in segments.iter_mut().zip(places) {
         *segment = decode_segment(place)?;
     }
-    Some(Cluster {
-        active,
-        width: record[WIDTH_AT],
-        read: password(READ_AT)?,
-        write: password(WRITE_AT)?,
-        segments,
-    })
+    Some(Cluster { active, width: record[WIDTH_AT], read: password(READ_AT)?, write: password(WRITE_AT)?, segments })
 }
 
 fn decode_segment(place: &[u8]) -> Option<Segment> {

@@ -88,8 +88,6 @@ pub fn ask_both(
         .and_then(|()| agree(copies));
     match same {
         Ok(()) => Ok(first),
-        Err(what) => Err(format!(
-            "{what}\n  asked:  {question}\n  first:  {first}\n  second: {second}"
-        )),
+        Err(what) => Err(format!("{what}\n  asked:  {question}\n  first:  {first}\n  second: {second}")),
     }
 }

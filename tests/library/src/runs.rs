@@ -28,14 +28,9 @@ fn one(guard: Guard, random: &mut Random, tally: &mut Tally) -> Result<(), Strin
     for at in 1..=RUN_CALLS {
         let before = sides.model.clone();
         let store = decode(&before.image).ok_or("the model leaves no store")?;
-        let maker = &mut Maker {
-            random,
-            store: &store,
-            given: &given,
-        };
+        let maker = &mut Maker { random, store: &store, given: &given };
         let question = maker.question(&FILLING);
-        let answer = ask(guard, &mut sides, &question)
-            .map_err(|what| format!("call {at} of the row: {what}"))?;
+        let answer = ask(guard, &mut sides, &question).map_err(|what| format!("call {at} of the row: {what}"))?;
         tally.note(&question, &answer);
         seen(&mut watch, &sides.guard).map_err(|what| format!("call {at} of the row: {what}"))?;
         tally.note_held(&before, &question, &answer);

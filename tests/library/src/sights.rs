@@ -5,14 +5,13 @@ use crate::compare::by_model;
 use crate::image::decode;
 use crate::question::{name, Answer, Held, Question, BEYOND, LOOK, VALIDATION};
 use model::call::{
-    Call, Reply, DELETE_CLUSTER, DELETE_SEGMENT, FREEZE, JOIN, NEW_PASSWORD, NEW_SEGMENT, READ,
-    REDUCE, WRITE,
+    Call, Reply, DELETE_CLUSTER, DELETE_SEGMENT, FREEZE, JOIN, NEW_PASSWORD, NEW_SEGMENT, READ, REDUCE, WRITE,
 };
 use model::handle::Handle;
 use model::sizes::{MEMORY_BYTES, NODES, NODE_BYTES, SEGMENTS};
 use model::table::{
-    refusal_below, Found, ABSENT, APART, ELSEWHERE, FIELD, FROZEN, GAPPED, INACTIVE, LENGTH,
-    NOT_PRIMARY, NOT_REFERENCED, NO_SUCH_PLACE, SHORT, UNSOUND, VIOLATED_PROTECTION, WHOLE,
+    refusal_below, Found, ABSENT, APART, ELSEWHERE, FIELD, FROZEN, GAPPED, INACTIVE, LENGTH, NOT_PRIMARY,
+    NOT_REFERENCED, NO_SUCH_PLACE, SHORT, UNSOUND, VIOLATED_PROTECTION, WHOLE,
 };
 use std::collections::BTreeMap;
 use std::fmt;
@@ -40,20 +39,10 @@ pub enum Sight {
     Both(u8, u8),
 }
 
-const SHOWN: [Sight; 4] = [
-    Sight::OneByte,
-    Sight::WholeNode,
-    Sight::LastOfANode,
-    Sight::LastOfAll,
-];
+const SHOWN: [Sight; 4] = [Sight::OneByte, Sight::WholeNode, Sight::LastOfANode, Sight::LastOfAll];
 
-const WRONG_NODES: [Sight; 5] = [
-    Sight::OtherNode,
-    Sight::NodeAbove,
-    Sight::NodeOfOneByte,
-    Sight::NodeOfTwoBytes,
-    Sight::NodeBeyond,
-];
+const WRONG_NODES: [Sight; 5] =
+    [Sight::OtherNode, Sight::NodeAbove, Sight::NodeOfOneByte, Sight::NodeOfTwoBytes, Sight::NodeBeyond];
 
 /// Numbers of which each has to meet the next. 25 comes first, and again between 8 and 9.
 #[rustfmt::skip]
@@ -77,16 +66,7 @@ const NEIGHBOURS: [(u8, &[u8]); 8] = [
     (WRITE, &[NOT_REFERENCED, ABSENT]),
 ];
 /// Of the rest, what has 25 at its two places.
-const FIRST: [u8; 8] = [
-    DELETE_CLUSTER,
-    DELETE_SEGMENT,
-    WRITE,
-    NEW_SEGMENT,
-    READ,
-    REDUCE,
-    NEW_PASSWORD,
-    VALIDATION,
-];
+const FIRST: [u8; 8] = [DELETE_CLUSTER, DELETE_SEGMENT, WRITE, NEW_SEGMENT, READ, REDUCE, NEW_PASSWORD, VALIDATION];
 const SECOND: [u8; 5] = [NEW_SEGMENT, READ, REDUCE, NEW_PASSWORD, VALIDATION];
 
 /// Everything that has to be met, with the code of what comes to it.
@@ -143,10 +123,8 @@ impl fmt::Display for Sights {
             let line = lines.entry(code).or_default();
             line.push(format!("{sight:?} {count}"));
         }
-        let lines: Vec<String> = lines
-            .into_iter()
-            .map(|(code, line)| format!("{}: {}", name(code), line.join(", ")))
-            .collect();
+        let lines: Vec<String> =
+            lines.into_iter().map(|(code, line)| format!("{}: {}", name(code), line.join(", "))).collect();
         write!(to, "{}", lines.join("\n"))
     }
 }
@@ -198,9 +176,7 @@ fn refused(held: &Held, question: &Question, number: u8) -> Vec<Sight> {
 /// ask.
 fn both(held: &Held, question: &Question, number: u8) -> Option<Sight> {
     let code = question.code();
-    let is_due = |due: (u8, Sight)| {
-        due.0 == code && matches!(due.1, Sight::Both(given, _) if given == number)
-    };
+    let is_due = |due: (u8, Sight)| due.0 == code && matches!(due.1, Sight::Both(given, _) if given == number);
     let store = decode(&held.image).filter(|_| due().any(is_due))?;
     let found = Found::whole(&store, question.buffer.len());
     let next = refusal_below(number, &question.call, &found)?;

@@ -23,11 +23,7 @@ fn one(guard: Guard, random: &mut Random, tally: &mut Tally) -> Result<(), Strin
     tally.note_fill(fill);
     let store = stores::store(random, fill);
     let mut held = stores::held(random, &store);
-    let maker = &mut Maker {
-        random,
-        store: &store,
-        given: &[],
-    };
+    let maker = &mut Maker { random, store: &store, given: &[] };
     let question = maker.question(&EVENLY);
     let damaged = random.one_in(4);
     if damaged {
@@ -67,9 +63,7 @@ fn damage(random: &mut Random, held: &mut Held, question: &Question) -> (Damage,
 fn place_of(call: &Call) -> Option<(usize, usize)> {
     let (node, local) = match *call {
         Call::NewCluster { node, local, .. } => (node as usize, local as usize),
-        _ => call
-            .handle()
-            .map(|handle| (handle.node.into(), handle.local.into()))?,
+        _ => call.handle().map(|handle| (handle.node.into(), handle.local.into()))?,
     };
     (node < NODES && local < CLUSTERS).then_some((node, local))
 }
@@ -79,9 +73,7 @@ fn same_soundness(held: &mut Held) -> Result<(), String> {
     let before = held.image;
     let found = guard::is_sound(&mut held.image);
     if found != expected {
-        return Err(format!(
-            "sound is {expected} in the model, {found} in the library"
-        ));
+        return Err(format!("sound is {expected} in the model, {found} in the library"));
     }
     match held.image == before {
         true => Ok(()),

@@ -35,9 +35,7 @@ impl Count {
             (self.refused, "a call refused with 22 (frozen)"),
         ];
         let missing = due.iter().filter(|(count, _)| *count == 0);
-        missing
-            .map(|(_, what)| format!("not tried: what is frozen stays, {what}"))
-            .collect()
+        missing.map(|(_, what)| format!("not tried: what is frozen stays, {what}")).collect()
     }
 }
 
@@ -58,9 +56,8 @@ fn one(guard: Guard, random: &mut Random, count: &mut Count) -> Result<(), Strin
         let store = seen(&mut watch, &held)?;
         let question = question(random, &store);
         let answer = guard(&mut held, &question);
-        seen(&mut watch, &held).map_err(|what| {
-            format!("call {at} of the row: {what}\n  asked:   {question}\n  library: {answer}")
-        })?;
+        seen(&mut watch, &held)
+            .map_err(|what| format!("call {at} of the row: {what}\n  asked:   {question}\n  library: {answer}"))?;
         count.done += u64::from(answer.reply.is_done());
         count.refused += u64::from(answer.reply.number == FROZEN);
     }
@@ -77,11 +74,7 @@ pub fn seen(watch: &mut Watch, held: &Held) -> Result<Store, String> {
 
 /// A question; every second one by the write primary handle of a cluster that has a frozen segment, if there is one.
 fn question(random: &mut Random, store: &Store) -> Question {
-    let maker = &mut Maker {
-        random,
-        store,
-        given: &[],
-    };
+    let maker = &mut Maker { random, store, given: &[] };
     let mut question = maker.question(&CHANGING);
     let frozen = handles::place(random, store, Cluster::has_frozen);
     if let (Some((at, local)), true) = (frozen, random.one_in(2)) {

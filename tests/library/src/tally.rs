@@ -15,9 +15,9 @@ use model::nothing::Way;
 use model::renewals::Renewal;
 use model::sizes::SUBSELECTORS;
 use model::table::{
-    word, Found, ABSENT, APART, DONE, ELSEWHERE, EMPTY, FIELD, FROZEN, GAPPED, INACTIVE, IN_USE,
-    LENGTH, NOT_PRIMARY, NOT_REFERENCED, NO_ROOM, NO_SUCH_PLACE, OLD_PASSWORD, PRESENT, SHORT,
-    SPENT, TWINS, UNSOUND, VIOLATED_PROTECTION, WHOLE,
+    word, Found, ABSENT, APART, DONE, ELSEWHERE, EMPTY, FIELD, FROZEN, GAPPED, INACTIVE, IN_USE, LENGTH, NOT_PRIMARY,
+    NOT_REFERENCED, NO_ROOM, NO_SUCH_PLACE, OLD_PASSWORD, PRESENT, SHORT, SPENT, TWINS, UNSOUND, VIOLATED_PROTECTION,
+    WHOLE,
 };
 use std::collections::{BTreeMap, BTreeSet};
 use std::fmt;
@@ -84,13 +84,7 @@ pub fn allowed(code: u8) -> &'static [u8] {
 /// Modes above a byte: right in the lowest byte, in the lowest two, or perhaps in the lowest four.
 const WIDE_MODES: [u32; 5] = [257, 258, 65_537, 65_538, BEYOND];
 /// What takes a mode.
-const NAMING_A_MODE: [u8; 5] = [
-    call::REDUCE,
-    call::NEW_PASSWORD,
-    call::JOIN,
-    VALIDATION,
-    BATCH,
-];
+const NAMING_A_MODE: [u8; 5] = [call::REDUCE, call::NEW_PASSWORD, call::JOIN, VALIDATION, BATCH];
 
 #[derive(Default)]
 pub struct Tally {
@@ -271,14 +265,8 @@ impl fmt::Display for Tally {
         writeln!(to, "passwords: {:?}", self.renewals)?;
         writeln!(to, "{}", self.sights)?;
         let beside = &self.beside_damage;
-        writeln!(
-            to,
-            "weakenings beside a damaged store, by number: {beside:?}"
-        )?;
+        writeln!(to, "weakenings beside a damaged store, by number: {beside:?}")?;
         let weakened = &self.weakened;
-        write!(
-            to,
-            "calls done, by subselectors not flat (0 to 4): {weakened:?}"
-        )
+        write!(to, "calls done, by subselectors not flat (0 to 4): {weakened:?}")
     }
 }

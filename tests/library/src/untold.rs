@@ -42,9 +42,7 @@ impl Count {
         let widths = ["width 4", "width 8", "width 16"];
         let due = due.into_iter().chain(self.widths.into_iter().zip(widths));
         let missing = due.filter(|(count, _)| *count == 0);
-        missing
-            .map(|(_, what)| format!("not tried: new passwords in two images, {what}"))
-            .collect()
+        missing.map(|(_, what)| format!("not tried: new passwords in two images, {what}")).collect()
     }
 }
 
@@ -115,14 +113,7 @@ fn by_chance(random: &mut Random, store: &mut Store) -> Pair {
         *cluster.primary_mut(mode.other()) = other;
         first.with(store)
     });
-    Pair {
-        images,
-        place,
-        width,
-        mode,
-        own,
-        others,
-    }
+    Pair { images, place, width, mode, own, others }
 }
 
 impl Pair {
@@ -139,12 +130,7 @@ impl Pair {
                 primary
             }
             2 => {
-                let wish = Wish {
-                    mode: self.mode,
-                    primary: true,
-                    segments: true,
-                    width: None,
-                };
+                let wish = Wish { mode: self.mode, primary: true, segments: true, width: None };
                 handles::handle(random, store, &[], wish)
             }
             3 => return handles::presented(random, &primary),

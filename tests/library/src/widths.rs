@@ -5,8 +5,8 @@ use crate::chance::handles::MOST_BYTES;
 use crate::image::decode;
 use crate::question::{name, Answer, Held, Question, BATCH, LOOK, VALIDATION};
 use model::call::{
-    Call, DELETE_CLUSTER, DELETE_SEGMENT, FREEZE, JOIN, NEW_CLUSTER, NEW_PASSWORD, NEW_SEGMENT,
-    READ, REDUCE, WEAKEN, WRITE,
+    Call, DELETE_CLUSTER, DELETE_SEGMENT, FREEZE, JOIN, NEW_CLUSTER, NEW_PASSWORD, NEW_SEGMENT, READ, REDUCE, WEAKEN,
+    WRITE,
 };
 use model::handle::Width;
 use model::table::{refusal_below, Found, DONE, FIELD, LENGTH, NO_SUCH_PLACE, UNSOUND};
@@ -47,14 +47,7 @@ const WITH_A_HANDLE: [u8; 12] = [
 ];
 /// What takes a segment, and what takes a current node or a second handle, which can be nowhere.
 const WITH_A_SEGMENT: [u8; 6] = [NEW_SEGMENT, DELETE_SEGMENT, READ, WRITE, FREEZE, LOOK];
-const WITH_A_PLACE: [u8; 6] = [
-    DELETE_CLUSTER,
-    NEW_SEGMENT,
-    DELETE_SEGMENT,
-    FREEZE,
-    LOOK,
-    JOIN,
-];
+const WITH_A_PLACE: [u8; 6] = [DELETE_CLUSTER, NEW_SEGMENT, DELETE_SEGMENT, FREEZE, LOOK, JOIN];
 /// What takes a mode or a size.
 const WITH_A_FIELD: [u8; 5] = [NEW_SEGMENT, REDUCE, NEW_PASSWORD, JOIN, VALIDATION];
 
@@ -63,9 +56,7 @@ fn due() -> impl Iterator<Item = (u8, Sight)> {
     let of_any = WITH_A_HANDLE.into_iter().flat_map(|code| {
         let done = Width::ALL.map(|width| Sight::Seen(Seen::Done(width)));
         let first = [Sight::OnSound, Sight::OnUnsound, Sight::OnDamaged];
-        done.into_iter()
-            .chain(first)
-            .map(move |sight| (code, sight))
+        done.into_iter().chain(first).map(move |sight| (code, sight))
     });
     let validating = WITH_A_HANDLE.into_iter().filter(|code| *code != WEAKEN);
     let of_another = validating.flat_map(|code| {
@@ -127,8 +118,7 @@ impl Widths {
             *self.met.entry((code, sight)).or_default() += 1;
         }
         let lengths = call.presented_bytes().map(<[u8]>::len);
-        self.lengths
-            .extend(lengths.filter(|length| Width::of_handle_bytes(*length).is_none()));
+        self.lengths.extend(lengths.filter(|length| Width::of_handle_bytes(*length).is_none()));
         if let Call::NewCluster { width, .. } = *call {
             self.note_asked(code, width);
         }
@@ -138,9 +128,7 @@ impl Widths {
         let sights = due()
             .filter(|due| !self.met.contains_key(due))
             .map(|(code, sight)| format!("not tried: widths, {}, {sight:?}", name(code)));
-        let seen = Seen::all()
-            .filter(|seen| !self.has_seen(*seen))
-            .map(|seen| format!("not tried: widths, {seen:?}"));
+        let seen = Seen::all().filter(|seen| !self.has_seen(*seen)).map(|seen| format!("not tried: widths, {seen:?}"));
         let lengths = (0..=MOST_BYTES)
             .filter(|length| Width::of_handle_bytes(*length).is_none())
             .filter(|length| !self.lengths.contains(length))
@@ -152,19 +140,9 @@ impl Widths {
             [1, 2, 4]
                 .into_iter()
                 .filter(move |bytes| !self.has_cut(code, *bytes))
-                .map(move |bytes| {
-                    format!(
-                        "not tried: {} of a width that is right in {bytes} bytes",
-                        name(code)
-                    )
-                })
+                .map(move |bytes| format!("not tried: {} of a width that is right in {bytes} bytes", name(code)))
         });
-        sights
-            .chain(seen)
-            .chain(lengths)
-            .chain(widths)
-            .chain(cut)
-            .collect()
+        sights.chain(seen).chain(lengths).chain(widths).chain(cut).collect()
     }
 
     /// By whatever call.

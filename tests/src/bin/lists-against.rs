@@ -49,9 +49,7 @@ impl Tally {
         let pairs = reachable()
             .filter(|pair| !self.pairs.contains_key(pair))
             .map(|(code, number)| format!("call {code} with {}", in_words(number)));
-        let ways = Way::in_lists()
-            .filter(|way| !self.ways.contains_key(way))
-            .map(|way| format!("{way:?}"));
+        let ways = Way::in_lists().filter(|way| !self.ways.contains_key(way)).map(|way| format!("{way:?}"));
         let cases = Case::in_lists()
             .filter(|case| !self.cases.contains_key(case))
             .map(|case| format!("something frozen, {case:?}"));
@@ -64,13 +62,7 @@ impl Tally {
         let refused = (LIST_LENGTH..=LOOP)
             .filter(|number| !self.refused.contains_key(number))
             .map(|number| format!("a list refused with {}", in_words(number)));
-        pairs
-            .chain(ways)
-            .chain(cases)
-            .chain(meetings)
-            .chain(renewals)
-            .chain(refused)
-            .collect()
+        pairs.chain(ways).chain(cases).chain(meetings).chain(renewals).chain(refused).collect()
     }
 }
 
@@ -86,11 +78,7 @@ fn task() -> Option<Task> {
         Some(word) => word.to_str()?.parse().ok(),
     };
     let (seed, count) = (number(USUAL_SEED)?, number(USUAL_COUNT)?);
-    arguments.next().is_none().then_some(Task {
-        program,
-        seed,
-        count,
-    })
+    arguments.next().is_none().then_some(Task { program, seed, count })
 }
 
 fn expected(list: &[u8], tally: &mut Tally) -> Vec<u8> {
@@ -130,11 +118,7 @@ fn report(task: &Task, at: u64, list: &[u8], expected: &[u8], found: &Outcome) -
     let path: PathBuf = std::env::temp_dir().join(name);
     std::fs::write(&path, list)?;
     let lines = |text: &[u8]| String::from_utf8_lossy(text).into_owned();
-    println!(
-        "list {at} of seed {} differs; it is kept in {}",
-        task.seed,
-        path.display()
-    );
+    println!("list {at} of seed {} differs; it is kept in {}", task.seed, path.display());
     println!("the model prints\n{}", lines(expected));
     println!("the program prints\n{}", lines(&found.output));
     println!("and ends with {found}");
@@ -190,10 +174,7 @@ fn main() -> ExitCode {
     let mut tally = Tally::default();
     match compare(&task, &mut tally) {
         Ok(true) => {
-            println!(
-                "seed {}, {} lists, {} calls: no difference",
-                task.seed, task.count, tally.calls
-            );
+            println!("seed {}, {} lists, {} calls: no difference", task.seed, task.count, tally.calls);
             print_tally(&tally);
             let missing = tally.missing();
             for what in &missing {
@@ -206,10 +187,7 @@ fn main() -> ExitCode {
         }
         Ok(false) => ExitCode::FAILURE,
         Err(mistake) => {
-            eprintln!(
-                "lists-against: {}: {mistake}",
-                task.program.to_string_lossy()
-            );
+            eprintln!("lists-against: {}: {mistake}", task.program.to_string_lossy());
             ExitCode::FAILURE
         }
     }

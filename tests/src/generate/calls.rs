@@ -5,9 +5,8 @@ use super::joins;
 use crate::call::{self, Reply};
 use crate::handle::{Handle, Password};
 use crate::list::{
-    Record, Session, CODE_AT, DATA_AT, DATA_LENGTH_AT, FIRST_PASSWORD_AT, HANDLE_AT, HANDLE_BYTES,
-    MODE_AT, MOST_DATA_BYTES, NODE_AT, OTHER_HANDLE_AT, RECORD_BYTES, SECOND_PASSWORD_AT,
-    SEGMENT_AT, SIZE_AT, WIDTH,
+    Record, Session, CODE_AT, DATA_AT, DATA_LENGTH_AT, FIRST_PASSWORD_AT, HANDLE_AT, HANDLE_BYTES, MODE_AT,
+    MOST_DATA_BYTES, NODE_AT, OTHER_HANDLE_AT, RECORD_BYTES, SECOND_PASSWORD_AT, SEGMENT_AT, SIZE_AT, WIDTH,
 };
 use crate::random::Random;
 use crate::sizes::{CLUSTERS, NODES, NODE_BYTES, PASSWORD_BYTES};
@@ -21,10 +20,8 @@ const PASSWORDS: u64 = 5;
 /// Node and local number in a handle.
 const NAME_BYTES: usize = 3;
 /// Codes as often as they are wanted: what fills the store comes more often than what empties it.
-const CODES: [u8; 31] = [
-    1, 1, 1, 2, 2, 3, 3, 3, 3, 3, 4, 4, 5, 5, 5, 5, 6, 6, 6, 6, 7, 7, 8, 8, 9, 9, 10, 10, 11, 11,
-    11,
-];
+const CODES: [u8; 31] =
+    [1, 1, 1, 2, 2, 3, 3, 3, 3, 3, 4, 4, 5, 5, 5, 5, 6, 6, 6, 6, 7, 7, 8, 8, 9, 9, 10, 10, 11, 11, 11];
 
 pub struct Maker {
     random: Random,
@@ -35,11 +32,7 @@ pub struct Maker {
 
 impl Maker {
     pub fn new(random: &mut Random) -> Maker {
-        Maker {
-            random: Random::from_seed(random.number()),
-            session: Session::starting(),
-            given: Vec::new(),
-        }
+        Maker { random: Random::from_seed(random.number()), session: Session::starting(), given: Vec::new() }
     }
 
     /// The records of a chain, in its order.
@@ -95,8 +88,7 @@ impl Maker {
             };
             let handles = [&reply.first, &reply.second];
             let handles = handles[..count].iter();
-            self.given
-                .extend(handles.filter_map(|bytes| Handle::from_bytes(bytes)));
+            self.given.extend(handles.filter_map(|bytes| Handle::from_bytes(bytes)));
         }
     }
 
@@ -152,11 +144,7 @@ impl Maker {
     /// Calls 2, 3, 4 and 10.
     fn local_call(&mut self, record: &mut Record) {
         let wanted = matches!(record[CODE_AT], call::DELETE_SEGMENT | call::FREEZE);
-        let wish = Wish {
-            mode: Mode::Write,
-            primary: true,
-            segments: wanted || self.random.one_in(2),
-        };
+        let wish = Wish { mode: Mode::Write, primary: true, segments: wanted || self.random.one_in(2) };
         let handle = self.put_handle(record, wish);
         record[NODE_AT] = self.near(handle.node as u8, NODES);
         let present = wanted ^ self.random.one_in(10);
@@ -179,11 +167,7 @@ impl Maker {
 
     /// Calls 5 and 6.
     fn move_bytes(&mut self, record: &mut Record, mode: Mode) {
-        let wish = Wish {
-            mode,
-            primary: false,
-            segments: true,
-        };
+        let wish = Wish { mode, primary: false, segments: true };
         let handle = self.put_handle(record, wish);
         let present = !self.random.one_in(8);
         record[SEGMENT_AT] = self.segment(&handle, present);
@@ -199,11 +183,7 @@ impl Maker {
 
     fn weaken(&mut self, record: &mut Record) {
         let mode = self.mode();
-        let wish = Wish {
-            mode,
-            primary: false,
-            segments: true,
-        };
+        let wish = Wish { mode, primary: false, segments: true };
         let handle = self.put_handle(record, wish);
         let referenced = handle.selector.referenced() as u8;
         record[SEGMENT_AT] = match (self.random.below(8), referenced) {
@@ -230,11 +210,7 @@ impl Maker {
         let mode = self.mode();
         let primary = record[CODE_AT] == call::NEW_PASSWORD;
         let segments = self.random.one_in(2);
-        let wish = Wish {
-            mode,
-            primary,
-            segments,
-        };
+        let wish = Wish { mode, primary, segments };
         let handle = self.put_handle(record, wish);
         record[MODE_AT] = self.near(number_of(mode), 2);
         let password = self.next_password(&handle);
@@ -274,9 +250,7 @@ impl Maker {
     fn put_other(&mut self, record: &mut Record) {
         let name = record[HANDLE_AT..HANDLE_AT + NAME_BYTES].to_vec();
         let given = self.given.iter().copied();
-        let given: Vec<Handle> = given
-            .filter(|handle| handle.to_bytes().starts_with(&name))
-            .collect();
+        let given: Vec<Handle> = given.filter(|handle| handle.to_bytes().starts_with(&name)).collect();
         let handle = match self.random.pick(&given) {
             Some(handle) => *handle,
             None => handles::any(&mut self.random),

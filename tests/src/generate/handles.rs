@@ -17,16 +17,10 @@ pub struct Wish {
 }
 
 /// Node and local number of one of the clusters that `fits` is true of, if there are any.
-pub fn place(
-    random: &mut Random,
-    store: &Store,
-    fits: impl Fn(&Cluster) -> bool,
-) -> Option<(u16, u8)> {
+pub fn place(random: &mut Random, store: &Store, fits: impl Fn(&Cluster) -> bool) -> Option<(u16, u8)> {
     let all = (0..NODES).flat_map(|node| (0..CLUSTERS).map(move |local| (node, local)));
     let fitting = all.filter(|&(node, local)| fits(&store.clusters[node][local]));
-    let places: Vec<(u16, u8)> = fitting
-        .map(|(node, local)| (node as u16, local as u8))
-        .collect();
+    let places: Vec<(u16, u8)> = fitting.map(|(node, local)| (node as u16, local as u8)).collect();
     random.pick(&places).copied()
 }
 
@@ -96,11 +90,7 @@ fn right(random: &mut Random, store: &Store, wish: Wish) -> Handle {
     };
     let primary = *cluster.primary(mode);
     let mut handle = Handle::primary(width, node, local, primary);
-    let times = if wish.primary && !random.one_in(6) {
-        0
-    } else {
-        random.below(6)
-    };
+    let times = if wish.primary && !random.one_in(6) { 0 } else { random.below(6) };
     if times > 0 && random.one_in(8) {
         return Handle::converted(node, local, &primary, to_nothing(random, width));
     }

@@ -37,14 +37,8 @@ enum To {
 }
 
 /// What lists can have; they have one width.
-const IN_LISTS: [Fault; 6] = [
-    Fault::Inactive,
-    Fault::Apart,
-    Fault::Gapped,
-    Fault::NotValid,
-    Fault::Nowhere,
-    Fault::NoMode,
-];
+const IN_LISTS: [Fault; 6] =
+    [Fault::Inactive, Fault::Apart, Fault::Gapped, Fault::NotValid, Fault::Nowhere, Fault::NoMode];
 
 const ALL: [Fault; 8] = [
     Fault::Inactive,
@@ -77,12 +71,8 @@ fn join_with(random: &mut Random, store: &Store, faults: &[Fault]) -> Option<Joi
         true => Mode::Read,
         false => Mode::Write,
     };
-    let mut making = Making {
-        mode,
-        is_a_mode: true,
-        handles: two(random, store, (node, local), mode),
-        has_length: [true; 2],
-    };
+    let mut making =
+        Making { mode, is_a_mode: true, handles: two(random, store, (node, local), mode), has_length: [true; 2] };
     let mut faults = chosen(random, faults);
     faults.sort_by_key(|(fault, _)| *fault as u8);
     for (fault, to) in faults {
@@ -225,10 +215,7 @@ fn apart(random: &mut Random, store: &Store, handle: &Handle) -> (u16, u8) {
 
 /// The handle with a selector that is gapped, and mostly with the password that would go with it.
 fn with_a_gap(random: &mut Random, store: &Store, handle: &Handle, mode: Mode) -> Handle {
-    let gapped = Handle {
-        selector: gapped(random, handle.width()),
-        ..*handle
-    };
+    let gapped = Handle { selector: gapped(random, handle.width()), ..*handle };
     match random.one_in(4) {
         true => gapped,
         false => moved(store, &gapped, gapped.name(), mode),
@@ -270,9 +257,6 @@ fn of_other_width(choice: u64, store: &Store, handle: &Handle, mode: Mode) -> Ha
         true => other.flat(),
         false => part & other.flat() & !1,
     });
-    let changed = Handle {
-        selector: Selector::new(other, subselectors),
-        ..*handle
-    };
+    let changed = Handle { selector: Selector::new(other, subselectors), ..*handle };
     moved(store, &changed, changed.name(), mode)
 }

@@ -41,14 +41,8 @@ fn length_of_chain(random: &mut Random) -> usize {
 /// Bytes without any sense.
 fn noise(random: &mut Random) -> Vec<u8> {
     let records = random.below(6) as usize;
-    let more = if random.one_in(2) {
-        0
-    } else {
-        random.below(RECORD_BYTES as u64) as usize
-    };
-    (0..records * RECORD_BYTES + more)
-        .map(|_| random.byte())
-        .collect()
+    let more = if random.one_in(2) { 0 } else { random.below(RECORD_BYTES as u64) as usize };
+    (0..records * RECORD_BYTES + more).map(|_| random.byte()).collect()
 }
 
 /// Puts the records of a chain into a list, often out of order and with others between them.

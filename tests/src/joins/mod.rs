@@ -6,9 +6,7 @@ mod refused;
 use crate::call::Call;
 use crate::handle::Handle;
 use crate::store::Mode;
-use crate::table::{
-    Found, APART, DONE, FIELD, GAPPED, INACTIVE, NO_SUCH_PLACE, UNSOUND, VIOLATED_PROTECTION, WHOLE,
-};
+use crate::table::{Found, APART, DONE, FIELD, GAPPED, INACTIVE, NO_SUCH_PLACE, UNSOUND, VIOLATED_PROTECTION, WHOLE};
 use refused::Asked;
 use Whose::{Both, Call as Itself, First, Second};
 
@@ -139,11 +137,8 @@ const BEFORE_OTHER_WIDTH: [(Applied, Whose); 5] = [
     ((APART, Itself), Second),
 ];
 
-const AFTER_OTHER_WIDTH: [(Whose, Applied); 3] = [
-    (First, (VIOLATED_PROTECTION, Second)),
-    (Second, (VIOLATED_PROTECTION, First)),
-    (Both, (WHOLE, Itself)),
-];
+const AFTER_OTHER_WIDTH: [(Whose, Applied); 3] =
+    [(First, (VIOLATED_PROTECTION, Second)), (Second, (VIOLATED_PROTECTION, First)), (Both, (WHOLE, Itself))];
 
 impl Meeting {
     /// Everything that has to be met.
@@ -162,21 +157,12 @@ impl Meeting {
     pub fn in_lists() -> impl Iterator<Item = Meeting> {
         let given = GIVEN.map(|(number, whose)| Meeting::Given(number, whose));
         let before = BEFORE.map(|(given, later)| Meeting::Before(given, later));
-        DONE_OR_WHOLE
-            .into_iter()
-            .chain([Meeting::OtherNode, Meeting::OtherLocal])
-            .chain(given)
-            .chain(before)
+        DONE_OR_WHOLE.into_iter().chain([Meeting::OtherNode, Meeting::OtherLocal]).chain(given).chain(before)
     }
 
     /// What a join that came to `number` has met; `found` is what it was put to. Nothing of other calls.
     pub fn of(found: &Found, call: &Call, number: u8) -> Vec<Meeting> {
-        let Call::Join {
-            mode,
-            handle,
-            other,
-        } = call
-        else {
+        let Call::Join { mode, handle, other } = call else {
             return Vec::new();
         };
         let handles = [handle, other].map(|bytes| Handle::from_bytes(bytes));
@@ -184,11 +170,7 @@ impl Meeting {
             (DONE, [Some(first), Some(second)]) => done(&first, &second),
             (WHOLE, [Some(first), Some(second)]) => vec![whole(&first, &second)],
             _ => {
-                let asked = Asked {
-                    found,
-                    mode: Mode::from_number(*mode),
-                    handles,
-                };
+                let asked = Asked { found, mode: Mode::from_number(*mode), handles };
                 asked.refused(number)
             }
         }
@@ -209,10 +191,7 @@ fn done(first: &Handle, second: &Handle) -> Vec<Meeting> {
     let often = |handle: &Handle| handle.selector.first_flat() != Some(1);
     let first = often(first).then_some(Meeting::FirstOften);
     let second = often(second).then_some(Meeting::SecondOften);
-    [Some(meeting), first, second]
-        .into_iter()
-        .flatten()
-        .collect()
+    [Some(meeting), first, second].into_iter().flatten().collect()
 }
 
 fn whole(first: &Handle, second: &Handle) -> Meeting {

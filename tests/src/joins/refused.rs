@@ -4,10 +4,7 @@ use super::Whose::{Both, Call as Itself, First, Second};
 use super::{Applied, Meeting, Whose, AFTER_NO_LENGTH, AFTER_OTHER_WIDTH, BEFORE};
 use crate::handle::Handle;
 use crate::store::{Cluster, Mode};
-use crate::table::{
-    Found, APART, FIELD, GAPPED, INACTIVE, LENGTH, NO_SUCH_PLACE, UNSOUND, VIOLATED_PROTECTION,
-    WHOLE,
-};
+use crate::table::{Found, APART, FIELD, GAPPED, INACTIVE, LENGTH, NO_SUCH_PLACE, UNSOUND, VIOLATED_PROTECTION, WHOLE};
 
 /// A join that is refused.
 pub struct Asked<'a> {
@@ -31,9 +28,9 @@ impl Asked<'_> {
         let Some(given) = self.applied(number) else {
             return Vec::new();
         };
-        let later = BEFORE.into_iter().filter(|(first, later)| {
-            *first == given && self.applied(later.0).is_some_and(|met| met == *later)
-        });
+        let later = BEFORE
+            .into_iter()
+            .filter(|(first, later)| *first == given && self.applied(later.0).is_some_and(|met| met == *later));
         let before = later.map(|(given, later)| Meeting::Before(given, later));
         let apart = (number == APART).then(|| self.apart()).flatten();
         let of_width = other_width.map(|whose| Meeting::BeforeOtherWidth(given, whose));
@@ -42,17 +39,15 @@ impl Asked<'_> {
     }
 
     fn no_length(&self, whose: Whose) -> Vec<Meeting> {
-        let later = AFTER_NO_LENGTH
-            .into_iter()
-            .filter(|later| self.applied(later.0).is_some_and(|met| met == *later));
+        let later = AFTER_NO_LENGTH.into_iter().filter(|later| self.applied(later.0).is_some_and(|met| met == *later));
         let later = later.map(Meeting::NoLengthBefore);
         later.chain([Meeting::NoLength(whose)]).collect()
     }
 
     fn other_width(&self, whose: Whose) -> Vec<Meeting> {
-        let later = AFTER_OTHER_WIDTH.into_iter().filter(|(of, later)| {
-            *of == whose && self.applied(later.0).is_some_and(|met| met == *later)
-        });
+        let later = AFTER_OTHER_WIDTH
+            .into_iter()
+            .filter(|(of, later)| *of == whose && self.applied(later.0).is_some_and(|met| met == *later));
         let later = later.map(|(of, later)| Meeting::OtherWidthBefore(of, later));
         later.chain([Meeting::OtherWidth(whose)]).collect()
     }
@@ -100,9 +95,7 @@ impl Asked<'_> {
             (NO_SUCH_PLACE, cluster, _) => cluster.is_none(),
             (GAPPED, ..) => handle.selector.is_gapped(),
             (INACTIVE, Some(cluster), _) => !cluster.active,
-            (VIOLATED_PROTECTION, Some(cluster), Some(mode)) => {
-                !handle.is_made_from(cluster.primary(mode))
-            }
+            (VIOLATED_PROTECTION, Some(cluster), Some(mode)) => !handle.is_made_from(cluster.primary(mode)),
             _ => false,
         }
     }

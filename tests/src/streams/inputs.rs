@@ -55,11 +55,7 @@ pub fn in_pieces(program: &Program, list: &[u8], random: &mut Random) -> Checked
     let paused = cuts::by_chance(list, some, random);
     all([
         check(&way("on a pipe"), &expected, program.answer(list)),
-        check(
-            &way("on a pipe with pauses"),
-            &expected,
-            with_pauses(program, &paused),
-        ),
+        check(&way("on a pipe with pauses"), &expected, with_pauses(program, &paused)),
         all(cuts::of(list, random).iter().map(|cut| {
             let found = piece_by_piece(program, &cut.pieces);
             check(&way(&cut.name), &expected, found)
@@ -79,9 +75,5 @@ pub fn from_file(program: &Program, path: &Path) -> Checked {
     let mut command = program.command();
     command.stdin(File::open(path).map_err(fault)?);
     let found = run(command, |_| {});
-    check(
-        &format!("{name} as a file"),
-        &Outcome::ended(&text, ""),
-        found,
-    )
+    check(&format!("{name} as a file"), &Outcome::ended(&text, ""), found)
 }

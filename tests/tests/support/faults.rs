@@ -87,9 +87,7 @@ impl Faulty {
 /// One for every set of the kind's numbers and each width. Where 22 is none of them, each is there twice: with the
 /// segment frozen and not. No absent segment is frozen, so that 14 and 22 do not meet.
 pub fn all(kind: Kind) -> impl Iterator<Item = Faulty> {
-    Width::ALL
-        .into_iter()
-        .flat_map(move |width| of(kind, width))
+    Width::ALL.into_iter().flat_map(move |width| of(kind, width))
 }
 
 pub fn of(kind: Kind, width: Width) -> impl Iterator<Item = Faulty> {

@@ -67,8 +67,7 @@ fn compare(task: &Task, tally: &mut Tally) -> Result<Vec<String>, String> {
     let not_told = new_passwords(task)?;
 
     let count = calls.div_ceil(CALLS_PER_BATCH);
-    let validations =
-        batch::compare(&guard::validate_all, seed, count, tally).map_err(named("batches"))?;
+    let validations = batch::compare(&guard::validate_all, seed, count, tally).map_err(named("batches"))?;
     println!("batches: {count}, with {validations} validations");
 
     let not_copied = two_copies(task)?;
@@ -81,8 +80,7 @@ fn compare(task: &Task, tally: &mut Tally) -> Result<Vec<String>, String> {
 
 fn what_is_frozen(task: &Task) -> Result<Vec<String>, String> {
     let rows = task.calls.div_ceil(RUN_CALLS);
-    let count =
-        stays::compare(&guard::ask, task.seed, rows).map_err(named("what is frozen stays"))?;
+    let count = stays::compare(&guard::ask, task.seed, rows).map_err(named("what is frozen stays"))?;
     println!(
         "what is frozen stays: {rows} rows, with {} frozen segments, {} calls done, {} refused with 22",
         count.frozen, count.done, count.refused
@@ -92,16 +90,12 @@ fn what_is_frozen(task: &Task) -> Result<Vec<String>, String> {
 
 fn new_passwords(task: &Task) -> Result<Vec<String>, String> {
     let pairs = task.calls.div_ceil(CALLS_PER_IMAGES);
-    let count = untold::compare(&guard::ask, task.seed, pairs)
-        .map_err(named("new passwords in two images"))?;
+    let count = untold::compare(&guard::ask, task.seed, pairs).map_err(named("new passwords in two images"))?;
     println!(
         "new passwords in two images: {pairs} pairs, with {} calls, {} of them done, {} refused with 12",
         count.asked, count.done, count.old
     );
-    println!(
-        "new passwords in two images, done for clusters of 4, 8 and 16: {:?}",
-        count.widths
-    );
+    println!("new passwords in two images, done for clusters of 4, 8 and 16: {:?}", count.widths);
     println!(
         "new passwords in two images, done for reading and for writing: {:?} the other mode's, {:?} with the two equal in one image",
         count.guessed, count.equal
@@ -112,11 +106,8 @@ fn new_passwords(task: &Task) -> Result<Vec<String>, String> {
 fn edges(seed: u64) -> Result<(), String> {
     let images = edges::every_byte(&guard::is_sound, seed).map_err(named("every byte"))?;
     println!("images with one byte changed: {images}");
-    let (images, sound) =
-        edges::pairs_at_words(&guard::is_sound, seed).map_err(named("pairs at words"))?;
-    println!(
-        "images with two segments about the borders of words: {images}, {sound} of them sound"
-    );
+    let (images, sound) = edges::pairs_at_words(&guard::is_sound, seed).map_err(named("pairs at words"))?;
+    println!("images with two segments about the borders of words: {images}, {sound} of them sound");
     let (looks, done) = edges::looks(&guard::ask, seed).map_err(named("edges of looks"))?;
     println!("looks at the edges: {looks}, {done} of them done");
     let (freezes, done) = edges::freezes(&guard::ask, seed).map_err(named("edges of freezes"))?;
@@ -129,18 +120,15 @@ fn edges(seed: u64) -> Result<(), String> {
 fn edges_of_widths(seed: u64) -> Result<(), String> {
     let (calls, done) = edges::lengths(&guard::ask, seed).map_err(named("lengths of handles"))?;
     println!("calls with handles of every length: {calls}, {done} of them done");
-    let (lengths, made) =
-        edges::handles(&guard::handle_of, seed).map_err(named("handles from bytes"))?;
+    let (lengths, made) = edges::handles(&guard::handle_of, seed).map_err(named("handles from bytes"))?;
     println!("handles from bytes of every length: {lengths}, {made} of them handles'");
     let (calls, done) = edges::segments(&guard::ask, seed).map_err(named("segments by width"))?;
     println!("calls by handles of every width, about every segment: {calls}, {done} of them done");
     let (calls, done) = edges::masks(&guard::ask, seed).map_err(named("masks"))?;
     println!("weakenings by every mask: {calls}, {done} of them done");
-    let (calls, done) =
-        edges::new_clusters(&guard::ask, seed).map_err(named("widths of new clusters"))?;
+    let (calls, done) = edges::new_clusters(&guard::ask, seed).map_err(named("widths of new clusters"))?;
     println!("new clusters of every width: {calls}, {done} of them done");
-    let batches =
-        batch::every_width(&guard::validate_all, seed).map_err(named("widths of batches"))?;
+    let batches = batch::every_width(&guard::validate_all, seed).map_err(named("widths of batches"))?;
     println!("batches of every width: {batches}");
     Ok(())
 }
@@ -152,12 +140,9 @@ fn two_copies(task: &Task) -> Result<Vec<String>, String> {
         "two copies: {pairs} pairs, with {} calls, {} of them done, {} naming the cluster set apart",
         count.calls, count.done, count.naming
     );
-    for (what, kept) in [
-        ("looks", count.looks),
-        ("freezes", count.freezes),
-        ("joins", count.joins),
-        ("new passwords", count.renewals),
-    ] {
+    for (what, kept) in
+        [("looks", count.looks), ("freezes", count.freezes), ("joins", count.joins), ("new passwords", count.renewals)]
+    {
         println!(
             "{what} in two copies: {} done, {} kept from the cluster set apart by passwords alone",
             kept.done, kept.apart
@@ -189,10 +174,7 @@ fn writers(task: &Task) -> Result<Vec<String>, String> {
         "writers: {pairs} pairs, with {} calls, {} of them done, {} by handles that open the cluster for writing",
         count.calls, count.done, count.by_writers
     );
-    println!(
-        "writers: {} pairs whose segments and read passwords differ to the end",
-        count.differing
-    );
+    println!("writers: {} pairs whose segments and read passwords differ to the end", count.differing);
     println!("writers: {:?}", count.deeds);
     Ok(count.faults())
 }

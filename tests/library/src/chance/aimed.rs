@@ -108,12 +108,7 @@ fn right(random: &mut Random, store: &Store, mode: Mode) -> Option<Aimed> {
         let mask = bits(random, handle.width()) | 1 << segment;
         handle = handle.weaken(mask).unwrap_or(handle);
     }
-    Some(Aimed {
-        node: node as u32,
-        segment: segment as u32,
-        handle,
-        has_length: true,
-    })
+    Some(Aimed { node: node as u32, segment: segment as u32, handle, has_length: true })
 }
 
 fn with_faults(random: &mut Random, store: &Store, mut aimed: Aimed) -> Aimed {
@@ -148,11 +143,7 @@ impl Aimed {
                 self.handle = weaker.unwrap_or(self.handle);
             }
             // Where the two passwords are equal, the other mode's is no fault.
-            Fault::NotValid
-                if random.one_in(2)
-                    && self.handle.selector.is_primary()
-                    && !own.has_equal_passwords() =>
-            {
+            Fault::NotValid if random.one_in(2) && self.handle.selector.is_primary() && !own.has_equal_passwords() => {
                 self.handle.password = match self.handle.password == own.read {
                     true => own.write,
                     false => own.read,

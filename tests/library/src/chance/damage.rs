@@ -105,13 +105,7 @@ pub fn inflict(random: &mut Random, held: &mut Held, damage: Damage, place: (usi
 }
 
 /// Damage that only an image can hold.
-fn damage_bytes(
-    random: &mut Random,
-    held: &mut Held,
-    damage: Damage,
-    (node, local): (usize, usize),
-    segment: usize,
-) {
+fn damage_bytes(random: &mut Random, held: &mut Held, damage: Damage, (node, local): (usize, usize), segment: usize) {
     let record = record_at(node, local).start;
     let place = &mut held.image[segment_at(node, local, segment)];
     match damage {

@@ -76,14 +76,9 @@ pub fn everywhere() -> impl Iterator<Item = (usize, usize)> {
 }
 
 /// Those of one of the clusters that `fits` is true of, if there are any.
-pub fn place(
-    random: &mut Random,
-    store: &Store,
-    fits: impl Fn(&Cluster) -> bool,
-) -> Option<(usize, usize)> {
-    let fitting: Vec<(usize, usize)> = everywhere()
-        .filter(|&(node, local)| fits(&store.clusters[node][local]))
-        .collect();
+pub fn place(random: &mut Random, store: &Store, fits: impl Fn(&Cluster) -> bool) -> Option<(usize, usize)> {
+    let fitting: Vec<(usize, usize)> =
+        everywhere().filter(|&(node, local)| fits(&store.clusters[node][local])).collect();
     random.pick(&fitting).copied()
 }
 
@@ -199,17 +194,8 @@ fn elsewhere(random: &mut Random, store: &Store, handle: Handle) -> Handle {
     let inactive = place(random, store, |cluster| !cluster.active);
     match inactive.filter(|_| random.one_in(2)) {
         // Its passwords are zero, so that nothing but its being inactive speaks against this.
-        Some((node, local)) => Handle::primary(
-            handle.width(),
-            node as u16,
-            local as u8,
-            [0; PASSWORD_BYTES],
-        ),
-        None => Handle {
-            node: below(random, NODES) as u16,
-            local: below(random, CLUSTERS) as u8,
-            ..handle
-        },
+        Some((node, local)) => Handle::primary(handle.width(), node as u16, local as u8, [0; PASSWORD_BYTES]),
+        None => Handle { node: below(random, NODES) as u16, local: below(random, CLUSTERS) as u8, ..handle },
     }
 }
 
@@ -236,10 +222,7 @@ pub fn at_width(handle: &Handle, width: Width) -> Handle {
         true => width.flat(),
         false => part & width.flat() & !1,
     };
-    Handle {
-        selector: Selector::new(width, handle.selector.subselectors.map(at)),
-        ..*handle
-    }
+    Handle { selector: Selector::new(width, handle.selector.subselectors.map(at)), ..*handle }
 }
 
 pub fn gapped(random: &mut Random, width: Width) -> Selector {

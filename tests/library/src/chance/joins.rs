@@ -31,9 +31,7 @@ impl Maker<'_> {
         let (mode, number) = self.mode();
         let handle = self.handle(mode, false, true);
         let given = self.given.iter().copied();
-        let same: Vec<Handle> = given
-            .filter(|given| given.name() == handle.name())
-            .collect();
+        let same: Vec<Handle> = given.filter(|given| given.name() == handle.name()).collect();
         let other = match self.random.pick(&same) {
             Some(other) => *other,
             None => self.handle(mode, false, true),

@@ -63,9 +63,6 @@ impl Maker<'_> {
             1 => u16::MAX,
             _ => random.number() as u16,
         };
-        Call::weaken(
-            mask & width.flat() | above & !width.flat(),
-            self.presented(&handle),
-        )
+        Call::weaken(mask & width.flat() | above & !width.flat(), self.presented(&handle))
     }
 }

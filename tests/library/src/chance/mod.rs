@@ -56,11 +56,7 @@ pub fn bit(random: &mut Random, width: Width) -> u16 {
 
 /// Tries `case` as often as told, each time with chance of its own. An `Err` comes back with the
 /// number of its case, which the seed repeats.
-pub fn cases(
-    seed: u64,
-    count: u64,
-    mut case: impl FnMut(&mut Random) -> Result<(), String>,
-) -> Result<(), String> {
+pub fn cases(seed: u64, count: u64, mut case: impl FnMut(&mut Random) -> Result<(), String>) -> Result<(), String> {
     let mut seeds = Random::from_seed(seed);
     for at in 1..=count {
         let mut random = Random::from_seed(seeds.number());

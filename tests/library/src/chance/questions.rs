@@ -16,8 +16,8 @@ use model::store::{Cluster, Mode, Segment, Store};
 pub const EVENLY: [u8; 13] = [1, 2, 3, 4, 5, 6, 7, 8, 9, 10, 11, VALIDATION, LOOK];
 /// Codes for rows of calls: what fills the store comes more often than what empties it.
 pub const FILLING: [u8; 34] = [
-    1, 1, 1, 2, 3, 3, 3, 3, 3, 4, 5, 5, 5, 5, 6, 6, 6, 6, 7, 7, 8, 8, 9, 9, 10, 10, 11, 11, 11,
-    VALIDATION, LOOK, LOOK, LOOK, LOOK,
+    1, 1, 1, 2, 3, 3, 3, 3, 3, 4, 5, 5, 5, 5, 6, 6, 6, 6, 7, 7, 8, 8, 9, 9, 10, 10, 11, 11, 11, VALIDATION, LOOK, LOOK,
+    LOOK, LOOK,
 ];
 
 /// Modes are numbered from 1.
@@ -52,12 +52,7 @@ impl Maker<'_> {
             _ => self.validate(),
         };
         let buffer_bytes = self.buffer_bytes(&call);
-        Question {
-            call,
-            beyond: self.beyond(),
-            buffer: bytes(self.random, buffer_bytes),
-            behind: self.behind(),
-        }
+        Question { call, beyond: self.beyond(), buffer: bytes(self.random, buffer_bytes), behind: self.behind() }
     }
 
     /// Zeros, as in a handle that was given, or anything.
@@ -110,12 +105,7 @@ impl Maker<'_> {
     }
 
     pub(super) fn handle(&mut self, mode: Mode, primary: bool, segments: bool) -> Handle {
-        let wish = Wish {
-            mode,
-            primary,
-            segments,
-            width: None,
-        };
+        let wish = Wish { mode, primary, segments, width: None };
         handles::handle(self.random, self.store, self.given, wish)
     }
 
@@ -158,10 +148,7 @@ impl Maker<'_> {
     /// Often just what a gap of the node has room for, or one byte more.
     fn size(&mut self, handle: &Handle) -> u32 {
         let node = usize::from(handle.node) % NODES;
-        let gap = self
-            .random
-            .pick(&gaps(self.store, node))
-            .map(|gap| gap.length);
+        let gap = self.random.pick(&gaps(self.store, node)).map(|gap| gap.length);
         let likely = match (self.random.below(8), gap) {
             (0, Some(gap)) => gap,
             (1, Some(gap)) => gap + 1,
@@ -214,11 +201,7 @@ impl Maker<'_> {
     fn delete_segment(&mut self) -> Call {
         let handle = self.handle(Mode::Write, true, true);
         let present = !self.random.one_in(8);
-        Call::delete_segment(
-            self.current_node(&handle),
-            self.segment(&handle, present),
-            self.presented(&handle),
-        )
+        Call::delete_segment(self.current_node(&handle), self.segment(&handle, present), self.presented(&handle))
     }
 
     fn read(&mut self) -> Call {

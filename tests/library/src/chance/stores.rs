@@ -32,13 +32,7 @@ pub enum Fill {
 }
 
 impl Fill {
-    pub const ALL: [Fill; 5] = [
-        Fill::Empty,
-        Fill::Partial,
-        Fill::NoByteFree,
-        Fill::NoSegmentAbsent,
-        Fill::AtWords,
-    ];
+    pub const ALL: [Fill; 5] = [Fill::Empty, Fill::Partial, Fill::NoByteFree, Fill::NoSegmentAbsent, Fill::AtWords];
 
     /// One of them, the partial one most often.
     pub fn by_chance(random: &mut Random) -> Fill {
@@ -100,10 +94,7 @@ fn freeze_one_of_each(random: &mut Random, store: &mut Store) {
 pub fn held(random: &mut Random, store: &Store) -> Held {
     let mut memory = [0; MEMORY_BYTES];
     fill(random, &mut memory);
-    Held {
-        image: encode(store),
-        memory,
-    }
+    Held { image: encode(store), memory }
 }
 
 fn partial(random: &mut Random, clusters: &mut [Cluster; CLUSTERS]) {
@@ -171,9 +162,8 @@ pub fn active_of(random: &mut Random, width: Width) -> Cluster {
 
 /// The active clusters' segments, as local number and segment, in any order.
 fn places(random: &mut Random, clusters: &[Cluster; CLUSTERS]) -> Vec<(usize, usize)> {
-    let mut places: Vec<(usize, usize)> = (0..CLUSTERS)
-        .flat_map(|local| segments_of(&clusters[local]).map(move |segment| (local, segment)))
-        .collect();
+    let mut places: Vec<(usize, usize)> =
+        (0..CLUSTERS).flat_map(|local| segments_of(&clusters[local]).map(move |segment| (local, segment))).collect();
     random.shuffle(&mut places);
     places
 }
@@ -237,9 +227,7 @@ pub fn segments(store: &Store) -> Vec<(usize, usize, usize)> {
 
 /// The present segments of a node in the order of their bases.
 pub fn extents(store: &Store, node: usize) -> Vec<Extent> {
-    let segments = store.clusters[node]
-        .iter()
-        .flat_map(|cluster| &cluster.segments);
+    let segments = store.clusters[node].iter().flat_map(|cluster| &cluster.segments);
     let mut extents: Vec<Extent> = segments.filter_map(Segment::extent).collect();
     extents.sort();
     extents
@@ -249,10 +237,7 @@ pub fn extents(store: &Store, node: usize) -> Vec<Extent> {
 pub fn gaps(store: &Store, node: usize) -> Vec<Extent> {
     let mut base = 0;
     let mut gaps = Vec::new();
-    let end = Extent {
-        base: NODE_BYTES,
-        length: 0,
-    };
+    let end = Extent { base: NODE_BYTES, length: 0 };
     for taken in extents(store, node).into_iter().chain([end]) {
         if base < taken.base {
             let length = taken.base - base;

@@ -65,13 +65,7 @@ impl Count {
     }
 
     /// The copies were `stores` before the call.
-    pub(super) fn note(
-        &mut self,
-        pair: &Pair,
-        stores: &[Store; 2],
-        question: &Question,
-        answer: &Answer,
-    ) {
+    pub(super) fn note(&mut self, pair: &Pair, stores: &[Store; 2], question: &Question, answer: &Answer) {
         self.note_passwords(stores, question, answer);
         self.note_widths(pair, stores, question, answer);
         let done = answer.reply.is_done();
@@ -98,13 +92,7 @@ impl Count {
         kept.apart += u64::from(pair.kept_by_the_passwords(question, answer));
     }
 
-    fn note_widths(
-        &mut self,
-        pair: &Pair,
-        [store, _]: &[Store; 2],
-        question: &Question,
-        answer: &Answer,
-    ) {
+    fn note_widths(&mut self, pair: &Pair, [store, _]: &[Store; 2], question: &Question, answer: &Answer) {
         let (node, local) = pair.apart;
         let cluster = &store.clusters[node][local];
         let made_from = |handle: &Handle| {
@@ -149,77 +137,37 @@ impl Count {
             (self.done, "a call done"),
             (self.naming, "a call that names the cluster set apart"),
             (self.looks.done, "a look that shows something"),
-            (
-                self.looks.apart,
-                "a look that the password alone keeps from the cluster set apart",
-            ),
+            (self.looks.apart, "a look that the password alone keeps from the cluster set apart"),
             (self.freezes.done, "a freeze done"),
-            (
-                self.freezes.apart,
-                "a freeze that the password alone keeps from the cluster set apart",
-            ),
+            (self.freezes.apart, "a freeze that the password alone keeps from the cluster set apart"),
             (self.joins.done, "a join done"),
-            (
-                self.joins.apart,
-                "a join that the two passwords alone keep from the cluster set apart",
-            ),
+            (self.joins.apart, "a join that the two passwords alone keep from the cluster set apart"),
             (self.renewals.done, "a new password done"),
-            (
-                self.renewals.apart,
-                "a new password that the password alone keeps from the cluster set apart",
-            ),
-            (
-                self.by_the_first,
-                "a join of which the first handle alone names the cluster set apart",
-            ),
-            (
-                self.by_the_second,
-                "a join of which the second handle alone names the cluster set apart",
-            ),
+            (self.renewals.apart, "a new password that the password alone keeps from the cluster set apart"),
+            (self.by_the_first, "a join of which the first handle alone names the cluster set apart"),
+            (self.by_the_second, "a join of which the second handle alone names the cluster set apart"),
             (self.frozen, "a call refused with 22 (frozen)"),
-            (
-                self.frozen_apart,
-                "a cluster set apart with a frozen segment",
-            ),
-            (
-                self.equal_in_one,
-                "a cluster set apart with equal passwords in one copy alone",
-            ),
-            (
-                self.guessed,
-                "a new password that the cluster set apart has in one copy alone",
-            ),
+            (self.frozen_apart, "a cluster set apart with a frozen segment"),
+            (self.equal_in_one, "a cluster set apart with equal passwords in one copy alone"),
+            (self.guessed, "a new password that the cluster set apart has in one copy alone"),
             (self.made_equal, "a new password that makes two equal"),
-            (
-                self.by_both,
-                "a call done by a handle that opens both modes",
-            ),
+            (self.by_both, "a call done by a handle that opens both modes"),
         ];
         let widths = Width::ALL.into_iter().flat_map(|width| {
             let (at, segments) = (width as usize, width.segments());
             [
-                (
-                    self.widths[at],
-                    format!("a cluster set apart of width {segments}"),
-                ),
+                (self.widths[at], format!("a cluster set apart of width {segments}")),
                 (
                     self.other_width[at],
-                    format!(
-                        "right but for its width, a handle of a cluster set apart of {segments}"
-                    ),
+                    format!("right but for its width, a handle of a cluster set apart of {segments}"),
                 ),
-                (
-                    self.by_width[at],
-                    format!("a call done by a handle of width {segments}"),
-                ),
+                (self.by_width[at], format!("a call done by a handle of width {segments}")),
             ]
         });
         let no_length = (self.no_length, "a length that no handle has".to_string());
         let due = due.map(|(count, what)| (count, what.to_string()));
         let due = due.into_iter().chain(widths).chain([no_length]);
         let missing = due.filter(|(count, _)| *count == 0);
-        missing
-            .map(|(_, what)| format!("not tried: two copies, {what}"))
-            .collect()
+        missing.map(|(_, what)| format!("not tried: two copies, {what}")).collect()
     }
 }

@@ -56,10 +56,7 @@ fn by_chance(random: &mut Random) -> Pair {
     for part in parts_of(&store, apart) {
         fill(random, &mut second.memory[part]);
     }
-    Pair {
-        copies: [first, second],
-        apart,
-    }
+    Pair { copies: [first, second], apart }
 }
 
 impl Pair {
@@ -68,18 +65,13 @@ impl Pair {
     fn question(&self, random: &mut Random, stores: &[Store; 2], given: &[Handle]) -> Question {
         loop {
             let store = &stores[below(random, stores.len())];
-            let maker = &mut Maker {
-                random,
-                store,
-                given,
-            };
+            let maker = &mut Maker { random, store, given };
             let mut question = maker.question(&FILLING);
             if random.one_in(4) {
                 self.aim(random, store, &mut question);
             }
             let weakening = matches!(question.call, Call::Weaken { .. });
-            let opens =
-                |handle: Handle| self.is_apart(&handle) && validates(stores, &handle, &Mode::ALL);
+            let opens = |handle: Handle| self.is_apart(&handle) && validates(stores, &handle, &Mode::ALL);
             if weakening || !question.call.presented().any(opens) {
                 return question;
             }
@@ -121,12 +113,7 @@ impl Pair {
             password[0] ^= 1;
             password
         };
-        let choices = [
-            password(random),
-            near(cluster.read),
-            near(cluster.write),
-            cluster.read,
-        ];
+        let choices = [password(random), near(cluster.read), near(cluster.write), cluster.read];
         if !cluster.has_width(handle.width()) {
             let primary = [cluster.read, cluster.write][below(random, 2)];
             handle.password = derive(&primary, &handle.selector);
@@ -142,11 +129,7 @@ impl Pair {
         let (Some(store), VIOLATED_PROTECTION) = (decode(&copy.image), answer.reply.number) else {
             return false;
         };
-        let Some(mode) = question
-            .call
-            .needed_mode()
-            .filter(|_| self.names_apart(question))
-        else {
+        let Some(mode) = question.call.needed_mode().filter(|_| self.names_apart(question)) else {
             return false;
         };
         let primary = *store.clusters[self.apart.0][self.apart.1].primary(mode);
@@ -175,11 +158,7 @@ impl Pair {
         let record = record_at(self.apart.0, self.apart.1);
         for (before, after) in start.iter().zip(&self.copies) {
             let (image, memory) = (&before.image, &before.memory);
-            same_bytes(
-                "records set apart",
-                &image[record.clone()],
-                &after.image[record.clone()],
-            )?;
+            same_bytes("records set apart", &image[record.clone()], &after.image[record.clone()])?;
             for part in own {
                 let now = &after.memory[part.clone()];
                 same_bytes("segments set apart", &memory[part.clone()], now)?;

@@ -67,8 +67,7 @@ pub fn every_byte(judge: Judge, seed: u64) -> Result<u64, String> {
             let kept = held.image[at];
             for value in values(fill, at) {
                 held.image[at] = value;
-                same(judge, &mut held)
-                    .map_err(|what| format!("{fill:?} with byte {at} made {value}: {what}"))?;
+                same(judge, &mut held).map_err(|what| format!("{fill:?} with byte {at} made {value}: {what}"))?;
                 judged += 1;
             }
             held.image[at] = kept;
@@ -84,12 +83,9 @@ pub fn pairs_at_words(judge: Judge, seed: u64) -> Result<(u64, u64), String> {
     let (mut judged, mut sound) = (0, 0);
     cases(seed, 1, |random| {
         for (first, second) in pairs() {
-            let mut held = Held {
-                image: encode(&with_both(random, first, second)),
-                memory: [0; MEMORY_BYTES],
-            };
-            let is_sound = same(judge, &mut held)
-                .map_err(|what| format!("segments at {first:?} and {second:?}: {what}"))?;
+            let mut held = Held { image: encode(&with_both(random, first, second)), memory: [0; MEMORY_BYTES] };
+            let is_sound =
+                same(judge, &mut held).map_err(|what| format!("segments at {first:?} and {second:?}: {what}"))?;
             judged += 1;
             sound += u64::from(is_sound);
         }
@@ -99,19 +95,10 @@ pub fn pairs_at_words(judge: Judge, seed: u64) -> Result<(u64, u64), String> {
 }
 
 fn pairs() -> impl Iterator<Item = (Extent, Extent)> {
-    let bases = WORDS
-        .into_iter()
-        .flat_map(|word| Beside::ALL.map(|beside| beside.byte_of(word)));
-    let extents: Vec<Extent> = bases
-        .flat_map(|base| LENGTHS.map(|length| Extent { base, length }))
-        .collect();
+    let bases = WORDS.into_iter().flat_map(|word| Beside::ALL.map(|beside| beside.byte_of(word)));
+    let extents: Vec<Extent> = bases.flat_map(|base| LENGTHS.map(|length| Extent { base, length })).collect();
     let others = extents.clone();
-    extents.into_iter().flat_map(move |first| {
-        others
-            .clone()
-            .into_iter()
-            .map(move |second| (first, second))
-    })
+    extents.into_iter().flat_map(move |first| others.clone().into_iter().map(move |second| (first, second)))
 }
 
 /// A store with two segments and no more, in one cluster of a node or in two of them, which have room for sixteen.
@@ -138,9 +125,7 @@ fn same(judge: Judge, held: &mut Held) -> Result<bool, String> {
     let found = judge(&mut held.image);
     match found == expected && held.image == before {
         true => Ok(expected),
-        false => Err(format!(
-            "sound is {expected} in the model, {found} in the library"
-        )),
+        false => Err(format!("sound is {expected} in the model, {found} in the library")),
     }
 }
 
@@ -207,14 +192,7 @@ impl LoneSegment {
         let cluster = &mut store.clusters[node][local];
         *cluster = active_of(random, width);
         cluster.segments[segment] = present(extent.base, extent.length);
-        LoneSegment {
-            cluster: *cluster,
-            held: stores::held(random, &store),
-            node,
-            local,
-            width,
-            segment,
-        }
+        LoneSegment { cluster: *cluster, held: stores::held(random, &store), node, local, width, segment }
     }
 
     fn handle(&self, mode: Mode) -> Handle {
@@ -255,8 +233,5 @@ fn narrow(number: usize) -> u32 {
 
 /// At most one of the two is more than four bytes hold.
 fn wide(call: Call, current: usize, segment: usize) -> Question {
-    Question {
-        beyond: current.max(segment),
-        ..Question::of(call)
-    }
+    Question { beyond: current.max(segment), ..Question::of(call) }
 }

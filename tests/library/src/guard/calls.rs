@@ -18,13 +18,8 @@ impl Lent<'_> {
         let [mut first, mut second] = [gelmuszta_handle::UNWRITTEN; 2];
         let given = (&mut first, &mut second);
         // SAFETY: see the head of `guard`.
-        let number = unsafe {
-            ffi::gelmuszta_new_cluster(image, node, local, width, read, write, given.0, given.1)
-        };
-        Reply {
-            second: second.told(),
-            ..with_handle(number, &first)
-        }
+        let number = unsafe { ffi::gelmuszta_new_cluster(image, node, local, width, read, write, given.0, given.1) };
+        Reply { second: second.told(), ..with_handle(number, &first) }
     }
 
     pub(super) fn delete_cluster(self, current: usize, handle: &gelmuszta_handle) -> Reply {
@@ -33,24 +28,13 @@ impl Lent<'_> {
         bare(unsafe { ffi::gelmuszta_delete_cluster(image, current, handle) })
     }
 
-    pub(super) fn new_segment(
-        self,
-        current: usize,
-        segment: usize,
-        size: usize,
-        handle: &gelmuszta_handle,
-    ) -> Reply {
+    pub(super) fn new_segment(self, current: usize, segment: usize, size: usize, handle: &gelmuszta_handle) -> Reply {
         let (image, memory) = (image_of(self.image), memory_of(self.memory));
         // SAFETY: see the head of `guard`.
         bare(unsafe { ffi::gelmuszta_new_segment(image, memory, current, segment, size, handle) })
     }
 
-    pub(super) fn delete_segment(
-        self,
-        current: usize,
-        segment: usize,
-        handle: &gelmuszta_handle,
-    ) -> Reply {
+    pub(super) fn delete_segment(self, current: usize, segment: usize, handle: &gelmuszta_handle) -> Reply {
         let image = image_of(self.image);
         // SAFETY: see the head of `guard`.
         bare(unsafe { ffi::gelmuszta_delete_segment(image, current, segment, handle) })
@@ -61,13 +45,8 @@ impl Lent<'_> {
         let (buffer, bytes) = (self.buffer.as_mut_ptr(), self.buffer.len());
         let mut length = UNWRITTEN_NUMBER;
         // SAFETY: see the head of `guard`.
-        let number = unsafe {
-            ffi::gelmuszta_read(image, memory, segment, handle, buffer, bytes, &mut length)
-        };
-        Reply {
-            length: u32::try_from(length).unwrap_or(u32::MAX),
-            ..bare(number)
-        }
+        let number = unsafe { ffi::gelmuszta_read(image, memory, segment, handle, buffer, bytes, &mut length) };
+        Reply { length: u32::try_from(length).unwrap_or(u32::MAX), ..bare(number) }
     }
 
     pub(super) fn write(self, segment: usize, handle: &gelmuszta_handle) -> Reply {
@@ -83,12 +62,7 @@ impl Lent<'_> {
         giving(|given| unsafe { ffi::gelmuszta_reduce(image, mode, handle, given) })
     }
 
-    pub(super) fn new_password(
-        self,
-        mode: usize,
-        handle: &gelmuszta_handle,
-        password: &Password,
-    ) -> Reply {
+    pub(super) fn new_password(self, mode: usize, handle: &gelmuszta_handle, password: &Password) -> Reply {
         let (image, password) = (image_of(self.image), password_of(password));
         // SAFETY: see the head of `guard`.
         giving(|given| unsafe { ffi::gelmuszta_new_password(image, mode, handle, password, given) })
@@ -100,12 +74,7 @@ impl Lent<'_> {
         bare(unsafe { ffi::gelmuszta_freeze(image, current, segment, handle) })
     }
 
-    pub(super) fn join(
-        self,
-        mode: usize,
-        handle: &gelmuszta_handle,
-        other: &gelmuszta_handle,
-    ) -> Reply {
+    pub(super) fn join(self, mode: usize, handle: &gelmuszta_handle, other: &gelmuszta_handle) -> Reply {
         let image = image_of(self.image);
         // SAFETY: see the head of `guard`.
         giving(|given| unsafe { ffi::gelmuszta_join(image, mode, handle, other, given) })
@@ -116,12 +85,8 @@ impl Lent<'_> {
         let (mut from, mut length) = (UNWRITTEN_NUMBER, UNWRITTEN_NUMBER);
         let part = (&mut from, &mut length);
         // SAFETY: see the head of `guard`.
-        let number =
-            unsafe { ffi::gelmuszta_look(image, current, segment, handle, part.0, part.1) };
-        Reply {
-            shown: Part { from, length },
-            ..bare(number)
-        }
+        let number = unsafe { ffi::gelmuszta_look(image, current, segment, handle, part.0, part.1) };
+        Reply { shown: Part { from, length }, ..bare(number) }
     }
 
     pub(super) fn validate(self, mode: usize, handle: &gelmuszta_handle) -> Reply {
@@ -135,10 +100,7 @@ pub(super) fn weaken(mask: u16, handle: &gelmuszta_handle) -> Reply {
     let mut count = UNWRITTEN;
     // SAFETY: see the head of `guard`.
     let reply = giving(|given| unsafe { ffi::gelmuszta_weaken(handle, mask, given, &mut count) });
-    Reply {
-        count: count.into(),
-        ..reply
-    }
+    Reply { count: count.into(), ..reply }
 }
 
 /// A reply that gives nothing but its number.
@@ -154,8 +116,5 @@ fn giving(call: impl FnOnce(&mut gelmuszta_handle) -> u8) -> Reply {
 }
 
 fn with_handle(number: u8, first: &gelmuszta_handle) -> Reply {
-    Reply {
-        first: first.told(),
-        ..bare(number)
-    }
+    Reply { first: first.told(), ..bare(number) }
 }

@@ -63,22 +63,14 @@ pub fn handle_of(bytes: &[u8]) -> (u8, gelmuszta_handle) {
 }
 
 pub fn convert(password: &Password, parameter: u16) -> Password {
-    let mut converted = gelmuszta_password {
-        bytes: [UNWRITTEN; PASSWORD_BYTES],
-    };
+    let mut converted = gelmuszta_password { bytes: [UNWRITTEN; PASSWORD_BYTES] };
     // SAFETY: see the head of this file.
     unsafe { ffi::gelmuszta_convert(password_of(password), parameter, &mut converted) }
     converted.bytes
 }
 
 /// Validates the handles of one width that stand in `handles` one after the other; gives how many were judged.
-pub fn validate_all(
-    held: &mut Held,
-    mode: usize,
-    width: usize,
-    handles: &[u8],
-    numbers: &mut [u8],
-) -> usize {
+pub fn validate_all(held: &mut Held, mode: usize, width: usize, handles: &[u8], numbers: &mut [u8]) -> usize {
     // SAFETY: see the head of this file.
     unsafe {
         ffi::gelmuszta_validate_all(
@@ -96,11 +88,7 @@ pub fn validate_all(
 /// Puts a question to the library.
 pub fn ask(held: &mut Held, question: &Question) -> Answer {
     let mut buffer = question.buffer.clone();
-    let lent = Lent {
-        image: &mut held.image,
-        memory: &mut held.memory,
-        buffer: &mut buffer,
-    };
+    let lent = Lent { image: &mut held.image, memory: &mut held.memory, buffer: &mut buffer };
     let presented = Presented::of(&question.call, &question.behind);
     let reply = lent.run(&question.call, &presented, question.beyond);
     Answer { reply, buffer }
@@ -110,16 +98,10 @@ pub fn ask(held: &mut Held, question: &Question) -> Answer {
 /// memory of another length cannot be lent, nor a handle whose length is no byte: the model answers then.
 pub fn run(store: &mut Store, memory: &mut [u8], buffer: &mut [u8], call: &Call) -> Reply {
     let mut lengths = call.presented_bytes().map(<[u8]>::len);
-    let (true, Ok(lent)) = (
-        lengths.all(|length| u8::try_from(length).is_ok()),
-        Memory::try_from(&*memory),
-    ) else {
+    let (true, Ok(lent)) = (lengths.all(|length| u8::try_from(length).is_ok()), Memory::try_from(&*memory)) else {
         return model::model::run(store, memory, buffer, call);
     };
-    let mut held = Held {
-        image: encode(store),
-        memory: lent,
-    };
+    let mut held = Held { image: encode(store), memory: lent };
     let mut question = Question::of(call.clone());
     question.buffer = buffer.to_vec();
     let answer = ask(&mut held, &question);

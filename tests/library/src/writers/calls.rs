@@ -75,17 +75,10 @@ impl Asking {
         given: &[Handle],
         at: u64,
     ) -> Question {
-        let reads =
-            |handle: Handle| pair.is_apart(&handle) && validates(stores, &handle, &[Mode::Read]);
+        let reads = |handle: Handle| pair.is_apart(&handle) && validates(stores, &handle, &[Mode::Read]);
         loop {
             let store = &stores[below(random, stores.len())];
-            let question = Made {
-                random,
-                pair,
-                store,
-                given,
-            }
-            .question(&self.codes(at));
+            let question = Made { random, pair, store, given }.question(&self.codes(at));
             let call = &question.call;
             if call.needed_mode() != Some(Mode::Read) || !call.presented().any(reads) {
                 return question;
@@ -115,11 +108,7 @@ impl Made<'_> {
             }
             _ => {
                 let (random, store, given) = (self.random, self.store, self.given);
-                let maker = &mut Maker {
-                    random,
-                    store,
-                    given,
-                };
+                let maker = &mut Maker { random, store, given };
                 maker.question(&FILLING)
             }
         }
@@ -155,11 +144,7 @@ impl Made<'_> {
         let mut known = Store::starting();
         known.clusters[place.0][place.1] = self.store.clusters[place.0][place.1];
         let given = self.given.iter().filter(|handle| names(handle, place));
-        let maker = &mut Maker {
-            random: self.random,
-            store: &known,
-            given: &given.copied().collect::<Vec<Handle>>(),
-        };
+        let maker = &mut Maker { random: self.random, store: &known, given: &given.copied().collect::<Vec<Handle>>() };
         let mut question = maker.question(codes);
         if let (Call::NewSegment { size, .. }, true) = (&mut question.call, self.random.one_in(2)) {
             let gap = self.random.pick(&gaps(self.store, place.0)).copied();
@@ -209,11 +194,7 @@ impl Made<'_> {
 }
 
 /// The part of the memory that a write to a segment of the cluster is about.
-pub(super) fn written_part(
-    store: &Store,
-    pair: &Pair,
-    question: &Question,
-) -> Option<Range<usize>> {
+pub(super) fn written_part(store: &Store, pair: &Pair, question: &Question) -> Option<Range<usize>> {
     let Call::Write { segment, handle } = &question.call else {
         return None;
     };

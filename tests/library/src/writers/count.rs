@@ -113,13 +113,7 @@ pub(super) struct Watch<'a> {
 
 impl Watch<'_> {
     pub fn of<'a>(count: &'a mut Count, pair: &Pair, [store, _]: &[Store; 2]) -> Watch<'a> {
-        Watch {
-            count,
-            freed: Freed::new(pair.apart),
-            width: cluster_of(pair, store).width,
-            anew: false,
-            guess: false,
-        }
+        Watch { count, freed: Freed::new(pair.apart), width: cluster_of(pair, store).width, anew: false, guess: false }
     }
 
     /// What can be told of a question only before it is asked.
@@ -133,13 +127,7 @@ impl Watch<'_> {
     }
 
     /// The copies were the first two stores before the call, and are the others since.
-    pub fn note(
-        &mut self,
-        pair: &Pair,
-        [before, after]: [&[Store; 2]; 2],
-        question: &Question,
-        answer: &Answer,
-    ) {
+    pub fn note(&mut self, pair: &Pair, [before, after]: [&[Store; 2]; 2], question: &Question, answer: &Answer) {
         let call = &question.call;
         self.count.calls += 1;
         if let Some(deed) = of_cluster(pair, before, call, answer.reply.number) {
@@ -191,11 +179,9 @@ impl Watch<'_> {
         let weaker = call.presented().any(|handle| !handle.selector.is_primary());
         self.anew |= deed == Deed::MadeAnew;
         let more = match deed {
-            Deed::Written => vec![
-                (weaker, Deed::WrittenByAWeaker),
-                (self.guess, Deed::WrittenGuess),
-                (self.anew, Deed::WrittenAnew),
-            ],
+            Deed::Written => {
+                vec![(weaker, Deed::WrittenByAWeaker), (self.guess, Deed::WrittenGuess), (self.anew, Deed::WrittenAnew)]
+            }
             Deed::Deleted => vec![(self.anew, Deed::DeletedAnew)],
             Deed::Guessed => vec![(true, Deed::NewPassword)],
             _ => vec![],
@@ -208,9 +194,8 @@ impl Watch<'_> {
     /// The copies are these stores at the end.
     pub fn note_end(self, pair: &Pair, stores: &[Store; 2]) {
         let [first, second] = &pair.copies;
-        let bytes = parts_of(&stores[0], pair.apart)
-            .into_iter()
-            .any(|part| first.memory[part.clone()] != second.memory[part]);
+        let bytes =
+            parts_of(&stores[0], pair.apart).into_iter().any(|part| first.memory[part.clone()] != second.memory[part]);
         let [one, other] = stores.each_ref().map(|store| cluster_of(pair, store).read);
         self.count.differing += u64::from(bytes && one != other);
     }
@@ -242,9 +227,7 @@ fn of_cluster(pair: &Pair, stores: &[Store; 2], call: &Call, number: u8) -> Opti
         (_, LENGTH) if call.needed_mode() == Some(Mode::Read) => {
             let [read, _] = stores.each_ref().map(|store| cluster_of(pair, store).read);
             let made_from = |handle: Handle| handle.is_made_from(&read);
-            call.presented()
-                .any(made_from)
-                .then_some(Deed::ReaderOfAnotherWidth)
+            call.presented().any(made_from).then_some(Deed::ReaderOfAnotherWidth)
         }
         (Call::Write { .. }, FROZEN) => Some(Deed::FrozenNotWritten),
         (Call::DeleteCluster { .. }, FROZEN) => Some(Deed::FrozenNotDeleted),
@@ -267,12 +250,10 @@ fn done(pair: &Pair, stores: &[Store; 2], call: &Call) -> Option<Deed> {
         Call::DeleteSegment { .. } => Some(Deed::Deleted),
         Call::Write { .. } => Some(Deed::Written),
         Call::Reduce { .. } => Some(Deed::Reduced),
-        Call::NewPassword { password, .. } => {
-            match in_one(pair, stores, |cluster| cluster.read == *password) {
-                true => Some(Deed::Guessed),
-                false => Some(Deed::NewPassword),
-            }
-        }
+        Call::NewPassword { password, .. } => match in_one(pair, stores, |cluster| cluster.read == *password) {
+            true => Some(Deed::Guessed),
+            false => Some(Deed::NewPassword),
+        },
         Call::Freeze { .. } => Some(Deed::Frozen),
         Call::Join { .. } => Some(Deed::Joined),
         Call::Validate { .. } => Some(Deed::Validated),
@@ -282,8 +263,6 @@ fn done(pair: &Pair, stores: &[Store; 2], call: &Call) -> Option<Deed> {
 
 /// Whether this is so of the cluster in one copy and not in the other.
 fn in_one(pair: &Pair, stores: &[Store; 2], is_so: impl Fn(&Cluster) -> bool) -> bool {
-    let [one, other] = stores
-        .each_ref()
-        .map(|store| is_so(cluster_of(pair, store)));
+    let [one, other] = stores.each_ref().map(|store| is_so(cluster_of(pair, store)));
     one != other
 }

@@ -20,20 +20,11 @@ pub(super) struct Freed {
 
 impl Freed {
     pub fn new(apart: (usize, usize)) -> Freed {
-        Freed {
-            apart,
-            bytes: vec![false; MEMORY_BYTES],
-            made: Vec::new(),
-        }
+        Freed { apart, bytes: vec![false; MEMORY_BYTES], made: Vec::new() }
     }
 
     /// What a call that was done comes to in such memory, if anything. A read or a look has shown these bytes.
-    pub fn note(
-        &mut self,
-        [before, after]: [&Store; 2],
-        call: &Call,
-        shown: &[u8],
-    ) -> Option<Deed> {
+    pub fn note(&mut self, [before, after]: [&Store; 2], call: &Call, shown: &[u8]) -> Option<Deed> {
         let kept = parts_of(after, self.apart);
         for part in parts_of(before, self.apart) {
             if !kept.contains(&part) {

@@ -24,12 +24,7 @@ use std::ops::Range;
 /// Calls of one list.
 pub const LIST_CALLS: u64 = 100;
 /// In stores without a free byte, new segments lie where others were.
-const FILLS: [Fill; 4] = [
-    Fill::Partial,
-    Fill::Partial,
-    Fill::NoByteFree,
-    Fill::AtWords,
-];
+const FILLS: [Fill; 4] = [Fill::Partial, Fill::Partial, Fill::NoByteFree, Fill::AtWords];
 
 pub fn compare(guard: Guard, seed: u64, pairs: u64) -> Result<Count, String> {
     let mut count = Count::default();
@@ -80,16 +75,12 @@ fn by_chance(random: &mut Random, asking: Asking) -> Pair {
         let parts = [&mut first, &mut second].map(|held| &mut held.memory[part.clone()]);
         differ(random, parts);
     }
-    Pair {
-        copies: [first, second],
-        apart,
-    }
+    Pair { copies: [first, second], apart }
 }
 
 /// The parts of the memory that are no segment's.
 fn free(store: &Store) -> Vec<Range<usize>> {
-    let gaps =
-        (0..NODES).flat_map(|node| gaps(store, node).into_iter().map(move |gap| (node, gap)));
+    let gaps = (0..NODES).flat_map(|node| gaps(store, node).into_iter().map(move |gap| (node, gap)));
     gaps.map(|(node, gap)| gap.in_memory(node)).collect()
 }
 

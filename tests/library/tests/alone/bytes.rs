@@ -43,16 +43,9 @@ fn bytes_of_each_width() {
         let end = hexadecimal::encode(&handle[19..]);
         let bytes = hexadecimal::decode(selector).expect("it is hexadecimal");
         let parts: Vec<u16> = match width {
-            Width::Four => vec![
-                (bytes[0] % 16).into(),
-                (bytes[0] / 16).into(),
-                (bytes[1] % 16).into(),
-            ],
+            Width::Four => vec![(bytes[0] % 16).into(), (bytes[0] / 16).into(), (bytes[1] % 16).into()],
             Width::Eight => bytes[..3].iter().map(|byte| u16::from(*byte)).collect(),
-            Width::Sixteen => bytes[..6]
-                .chunks(2)
-                .map(|pair| 256 * u16::from(pair[0]) + u16::from(pair[1]))
-                .collect(),
+            Width::Sixteen => bytes[..6].chunks(2).map(|pair| 256 * u16::from(pair[0]) + u16::from(pair[1])).collect(),
         };
         for parameter in parts {
             password = guard::convert(&password, parameter);
@@ -62,10 +55,7 @@ fn bytes_of_each_width() {
         assert_eq!(handle[3..19], password);
         for handle in taken {
             let mode = READ_MODE;
-            assert_eq!(
-                asked(&held, &Call::Validate { mode, handle }).0,
-                Reply::DONE
-            );
+            assert_eq!(asked(&held, &Call::Validate { mode, handle }).0, Reply::DONE);
         }
     }
 }
@@ -75,13 +65,7 @@ fn bytes_of_each_width() {
 fn the_record_of_a_new_cluster() {
     let before = held();
     for width in Width::ALL {
-        let call = Call::NewCluster {
-            node: 3,
-            local: 5,
-            width: width.segments(),
-            read: READ,
-            write: WRITE,
-        };
+        let call = Call::NewCluster { node: 3, local: 5, width: width.segments(), read: READ, write: WRITE };
         let (reply, after) = asked(&before, &call);
         assert_eq!(reply.number, 0);
         let mut made = before.clone();
@@ -181,10 +165,7 @@ fn batches_of_one_width() {
             right.weaken(0b0110).expect("all are flat"),
             Handle { local: 7, ..right },
             Handle { node: 4, ..right },
-            Handle {
-                local: local(Width::ALL[(width as usize + 1) % 3]) as u8,
-                ..right
-            },
+            Handle { local: local(Width::ALL[(width as usize + 1) % 3]) as u8, ..right },
         ];
         let mut joined = handles.map(|handle| handle.to_bytes()).concat();
         joined.extend([0; 20]);
@@ -211,9 +192,7 @@ fn lengths_that_no_handle_has() {
         inflict(random, &mut damaged, damage, LAST_PLACE);
         damaged
     });
-    let right = primary(Width::Eight, WRITE)
-        .weaken(1)
-        .expect("all are flat");
+    let right = primary(Width::Eight, WRITE).weaken(1).expect("all are flat");
     for length in (0..=255).filter(|length| ![21, 23, 27].contains(length)) {
         let mut wrong = right.to_bytes();
         wrong.resize(length, 0xff);
@@ -260,15 +239,7 @@ fn handles_as_they_are_given() {
 fn handles_as_they_are_taken() {
     let behind: [u8; 27] = std::array::from_fn(|at| 101 + at as u8);
     let bytes: Vec<u8> = (1..=255).collect();
-    for (length, own) in [
-        (0, 0),
-        (1, 1),
-        (21, 21),
-        (26, 26),
-        (27, 27),
-        (28, 27),
-        (255, 27),
-    ] {
+    for (length, own) in [(0, 0), (1, 1), (21, 21), (26, 26), (27, 27), (28, 27), (255, 27)] {
         let taken = gelmuszta_handle::of(&bytes[..length], &behind);
         assert_eq!(usize::from(taken.length), length);
         assert_eq!(taken.bytes[..own], bytes[..own]);

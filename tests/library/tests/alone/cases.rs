@@ -21,12 +21,8 @@ const TIMES: usize = 200;
 #[test]
 fn images_have_the_header_s_size_and_read_back() {
     assert_eq!(IMAGE_BYTES, 3648);
-    assert!(HEADER.contains(&format!(
-        "gelmuszta_image {{ uint8_t bytes[{IMAGE_BYTES}]; }}"
-    )));
-    assert!(HEADER.contains(&format!(
-        "gelmuszta_memory {{ uint8_t bytes[{MEMORY_BYTES}]; }}"
-    )));
+    assert!(HEADER.contains(&format!("gelmuszta_image {{ uint8_t bytes[{IMAGE_BYTES}]; }}")));
+    assert!(HEADER.contains(&format!("gelmuszta_memory {{ uint8_t bytes[{MEMORY_BYTES}]; }}")));
     assert!(HEADER.contains(&format!("#define GELMUSZTA_HANDLE_MAX {HANDLE_MAX}\n")));
     assert_eq!(size_of::<gelmuszta_handle>(), 28);
     assert_eq!(encode(&Store::starting()), [0; IMAGE_BYTES]);
@@ -105,10 +101,7 @@ fn about_a_word(byte: usize) -> bool {
 fn damage_is_damage_whatever_it_is_done_to() {
     let mut random = Random::from_seed(3);
     for _ in 0..TIMES {
-        for (fill, damage) in Fill::ALL
-            .iter()
-            .flat_map(|fill| Damage::ALL.map(|damage| (fill, damage)))
-        {
+        for (fill, damage) in Fill::ALL.iter().flat_map(|fill| Damage::ALL.map(|damage| (fill, damage))) {
             let store = store(&mut random, *fill);
             let mut held = held(&mut random, &store);
             let place = match random.one_in(4) {
@@ -124,13 +117,7 @@ fn damage_is_damage_whatever_it_is_done_to() {
 #[test]
 fn what_is_not_reached_is_told() {
     let faults = Tally::default().faults();
-    assert_eq!(
-        faults
-            .iter()
-            .filter(|fault| fault.starts_with("not reached"))
-            .count(),
-        127
-    );
+    assert_eq!(faults.iter().filter(|fault| fault.starts_with("not reached")).count(), 127);
     for fault in [
         "not reached: new segment with 16 (no room)",
         "not tried: new password with mode 258",
@@ -214,25 +201,15 @@ fn what_is_not_reached_is_told() {
     }
     let mut tally = Tally::default();
     tally.pairs.insert((7, 1), 1);
-    assert!(tally
-        .faults()
-        .contains(&"not allowed: weaken with 1 (unsound)".to_string()));
+    assert!(tally.faults().contains(&"not allowed: weaken with 1 (unsound)".to_string()));
     tally.pairs.insert((10, 22), 1);
-    assert!(tally
-        .faults()
-        .contains(&"not allowed: freeze with 22 (frozen)".to_string()));
+    assert!(tally.faults().contains(&"not allowed: freeze with 22 (frozen)".to_string()));
     tally.pairs.insert((11, 10), 1);
-    assert!(tally
-        .faults()
-        .contains(&"not allowed: join with 10 (not primary)".to_string()));
+    assert!(tally.faults().contains(&"not allowed: join with 10 (not primary)".to_string()));
     tally.pairs.insert((1, 25), 1);
-    assert!(tally
-        .faults()
-        .contains(&"not allowed: new cluster with 25 (length)".to_string()));
+    assert!(tally.faults().contains(&"not allowed: new cluster with 25 (length)".to_string()));
     tally.pairs.insert((LOOK, 15), 1);
-    assert!(tally
-        .faults()
-        .contains(&"not allowed: look with 15 (short)".to_string()));
+    assert!(tally.faults().contains(&"not allowed: look with 15 (short)".to_string()));
 }
 
 #[test]
@@ -254,8 +231,7 @@ fn what_two_copies_do_not_come_to_is_told() {
         told("new password that the password alone keeps from"),
         told("join of which the second handle alone names"),
         "not tried: two copies, a cluster set apart with equal passwords in one copy alone".into(),
-        "not tried: two copies, a new password that the cluster set apart has in one copy alone"
-            .into(),
+        "not tried: two copies, a new password that the cluster set apart has in one copy alone".into(),
         "not tried: two copies, a call done by a handle of width 8".into(),
         "not tried: two copies, a length that no handle has".into(),
     ];

@@ -46,10 +46,7 @@ fn what_is_frozen_stays() {
 fn two_copies_come_to_joins_to_equal_passwords_and_to_every_width() {
     let count = copies::compare(&guard::ask, 4, 60).expect("the copies agree");
     assert!(count.joins.done > 10 && count.joins.apart > 5, "{count:?}");
-    assert!(
-        count.by_the_first > 4 && count.by_the_second > 4,
-        "{count:?}"
-    );
+    assert!(count.by_the_first > 4 && count.by_the_second > 4, "{count:?}");
     assert!(count.equal_in_one > 3 && count.by_both > 50, "{count:?}");
     assert!(count.guessed > 1 && count.made_equal > 3, "{count:?}");
     for counted in [count.widths, count.other_width, count.by_width] {

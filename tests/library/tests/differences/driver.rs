@@ -216,13 +216,7 @@ fn other_words_are_no_complaint() {
     let wrong = on(READ, 14, |after| after.reply.number = 9);
     let words = [Word::Call(READ), Word::Right(14), Word::Gives(9), REPLIES];
     assert_eq!(told(words).judge(&wrong, 1), Ok(()));
-    for other in [
-        Word::Call(WRITE),
-        Word::Right(9),
-        Word::Gives(14),
-        IMAGES,
-        Word::Either(&[]),
-    ] {
+    for other in [Word::Call(WRITE), Word::Right(9), Word::Gives(14), IMAGES, Word::Either(&[])] {
         let told = by(By::Single, [other]).judge(&wrong, 1);
         assert!(told.is_err_and(|told| told.contains("in other words")));
     }

@@ -186,9 +186,7 @@ table! {
 
 /// The handle made from the read password, where the call is in mode 2.
 fn from_the_read_password(seen: &Seen, made: impl FnOnce(&Password) -> Handle) -> Option<Reply> {
-    let cluster = seen
-        .cluster()
-        .filter(|_| seen.mode() == Some(Mode::Write))?;
+    let cluster = seen.cluster().filter(|_| seen.mode() == Some(Mode::Write))?;
     Some(Reply::with_handle(&made(&cluster.read)))
 }
 
@@ -252,10 +250,7 @@ fn telling(mode: Mode, has_to_open: bool) -> Wrong {
 }
 
 fn refuse(_: &mut Held, question: &Question) -> Answer {
-    Answer {
-        reply: Reply::refused(9),
-        buffer: question.buffer.clone(),
-    }
+    Answer { reply: Reply::refused(9), buffer: question.buffer.clone() }
 }
 
 // What is told to those who read is not found out: no list has a call that asks for reading by a handle that reads.

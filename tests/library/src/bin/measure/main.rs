@@ -76,10 +76,7 @@ fn conversion() {
         || second = convert(black_box(&second), black_box(3)),
         || third = convert(black_box(&third), black_box(3)),
     );
-    assert!(
-        first == second && second == third,
-        "all give the same password"
-    );
+    assert!(first == second && second == third, "all give the same password");
     report("conversion", times);
 }
 
@@ -113,10 +110,7 @@ fn one_call(row: &Row) {
         || third.by_model(black_box(call)),
     );
     assert_eq!(first.reply.number, DONE, "{name} is done");
-    assert!(
-        first.reply == second.reply && second.reply == third.reply,
-        "all reply the same"
-    );
+    assert!(first.reply == second.reply && second.reply == third.reply, "all reply the same");
     assert!(first.buffer == second.buffer && second.buffer == third.buffer);
     assert!(first.held.memory == second.held.memory && second.held.memory == third.memory);
     report(name, times);
@@ -168,10 +162,7 @@ fn batch(name: &str, width: Width) {
 fn main() {
     println!("Nanoseconds a call: the best of {ROUNDS} rounds of {CALLS} calls, {BATCH_ROUNDS} of a batch.");
     println!("{PREFACE}\n");
-    println!(
-        "{:<44}{:>10}{:>10}{:>7}{:>10}{:>7}",
-        "", "library", "on image", "ratio", "records", "ratio"
-    );
+    println!("{:<44}{:>10}{:>10}{:>7}{:>10}{:>7}", "", "library", "on image", "ratio", "records", "ratio");
     conversion();
     one_call(&weakening("7 weaken, primary, of four", Width::Four));
     one_call(&weakening("7 weaken, primary", Width::Eight));

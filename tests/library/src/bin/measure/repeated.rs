@@ -44,11 +44,7 @@ impl OnImage {
     }
 
     pub fn by_library(&mut self, call: &Call) {
-        let lent = Lent {
-            image: &mut self.held.image,
-            memory: &mut self.held.memory,
-            buffer: &mut self.buffer,
-        };
+        let lent = Lent { image: &mut self.held.image, memory: &mut self.held.memory, buffer: &mut self.buffer };
         self.reply = lent.run(call, black_box(&self.handles), 0);
         self.put_back();
     }

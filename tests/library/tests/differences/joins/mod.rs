@@ -142,11 +142,7 @@ fn noting(handle: Handle, password: &Password, segments: u16) -> HandleBytes {
     let mut selector = Selector::primary(handle.width());
     selector.subselectors[0] = segments;
     let password = guard::convert(password, segments);
-    let noting = Handle {
-        password,
-        selector,
-        ..handle
-    };
+    let noting = Handle { password, selector, ..handle };
     noting.to_bytes()
 }
 
@@ -163,10 +159,7 @@ fn by_rows(held: &mut Held, question: &Question, rows: &[Row], given: Given) -> 
     let refusal = rows.iter().find(|(_, applies)| applies(&asked));
     let reply = match refusal {
         Some((number, _)) => Reply::refused(*number),
-        None => Reply {
-            first: given(&asked),
-            ..Reply::DONE
-        },
+        None => Reply { first: given(&asked), ..Reply::DONE },
     };
     let buffer = question.buffer.clone();
     Answer { reply, buffer }

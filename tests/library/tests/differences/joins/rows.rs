@@ -125,15 +125,12 @@ fn secret(held: &Held, handle: &Handle, has_to_open: bool) -> u32 {
     let Some(cluster) = store.and_then(|store| store.cluster(node, local).copied()) else {
         return 0;
     };
-    let validates = Mode::ALL
-        .iter()
-        .any(|mode| handle.validates(&cluster, *mode));
+    let validates = Mode::ALL.iter().any(|mode| handle.validates(&cluster, *mode));
     let opens = cluster.active && !handle.selector.is_gapped() && validates;
     match opens || !has_to_open {
-        true => [cluster.read, cluster.write]
-            .concat()
-            .iter()
-            .fold(0, |sum, byte| (sum * 31 + u32::from(*byte)) % 65_521),
+        true => {
+            [cluster.read, cluster.write].concat().iter().fold(0, |sum, byte| (sum * 31 + u32::from(*byte)) % 65_521)
+        }
         false => 0,
     }
 }
@@ -145,9 +142,7 @@ fn telling(handles: &'static [usize], has_to_open: bool) -> Wrong {
             let both = it.question.call.presented_bytes().enumerate();
             let meant = both.filter(|(at, _)| handles.contains(at));
             let read = meant.filter_map(|(_, bytes)| Handle::from_bytes(bytes));
-            it.reply.count = read
-                .map(|handle| secret(it.held, &handle, has_to_open))
-                .sum();
+            it.reply.count = read.map(|handle| secret(it.held, &handle, has_to_open)).sum();
         }
     })
 }

@@ -169,9 +169,7 @@ fn left(code: u8, length: usize) -> Wrong {
 /// The length of the handle that was presented.
 fn of_the_handle(it: &mut After) {
     let gives = [REDUCE, NEW_PASSWORD, JOIN, WEAKEN].contains(&it.question.code());
-    if let (true, false, Some(handle)) =
-        (gives, it.reply.is_done(), it.question.call.handle_bytes())
-    {
+    if let (true, false, Some(handle)) = (gives, it.reply.is_done(), it.question.call.handle_bytes()) {
         it.reply.first = vec![0; handle.len()];
     }
 }
@@ -220,9 +218,7 @@ mod of_another_length {
 
 /// Takes the width of a batch in this way.
 fn batch_of(taken: fn(usize) -> usize) -> Wrong {
-    batch(move |held, (mode, width), handles, numbers| {
-        validate_all(held, (mode, taken(width)), handles, numbers)
-    })
+    batch(move |held, (mode, width), handles, numbers| validate_all(held, (mode, taken(width)), handles, numbers))
 }
 
 /// Slots of a length of their own, and handles as long as the width says at the beginning of each.
