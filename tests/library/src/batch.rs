@@ -56,8 +56,7 @@ pub fn compare(guard: BatchGuard, seed: u64, batches: u64, tally: &mut Tally) ->
         sound = !sound;
         let damage = if sound { None } else { damages.next() };
         let batch = by_chance(random, damage, tally);
-        tally.note_mode(BATCH, narrow(batch.mode));
-        tally.note_width(BATCH, batch.width);
+        tally.note_batch(narrow(batch.mode), batch.width);
         validations += batch.expected_count() as u64;
         one(guard, &batch, tally)
     })?;

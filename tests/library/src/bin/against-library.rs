@@ -1,17 +1,9 @@
 //! Compares the proved C library with the model on cases made by chance.
 
-use library::batch;
-use library::copies;
-use library::edges;
-use library::guard;
-use library::laws;
-use library::published;
 use library::runs::{self, RUN_CALLS};
-use library::single;
-use library::stays;
 use library::tally::Tally;
-use library::untold;
-use library::writers;
+use library::{batch, copies, edges, guard, laws, published, single, stays, untold, writers};
+use model::met::Met;
 use std::process::ExitCode;
 
 const USAGE: &str = "usage: against-library [SEED] [CALLS]";
@@ -46,9 +38,8 @@ fn named(what: &'static str) -> impl Fn(String) -> String {
     move |case| format!("{what}, {case}")
 }
 
-/// Every comparison in turn, up to the first difference. Gives what had to be tried and was not, save for what
-/// the tally tells.
-fn compare(task: &Task, tally: &mut Tally) -> Result<Vec<String>, String> {
+/// Every comparison in turn, up to the first difference. Gives what was met, save for what the tally tells.
+fn compare(task: &Task, tally: &mut Tally) -> Result<Vec<Met>, String> {
     let Task { seed, calls } = *task;
     single::compare(&guard::ask, seed, calls, tally).map_err(named("single calls"))?;
     println!("single calls: {calls}, each with a soundness and a conversion");
@@ -57,50 +48,25 @@ fn compare(task: &Task, tally: &mut Tally) -> Result<Vec<String>, String> {
     runs::compare(&guard::ask, seed, count, tally).map_err(named("long rows"))?;
     let in_rows = count * RUN_CALLS;
     println!("long rows: {count}, with {in_rows} calls");
-    let not_frozen = what_is_frozen(task)?;
-
     edges(seed)?;
 
     let joins = calls.div_ceil(CALLS_PER_JOIN);
     let done = laws::compare(&guard::ask, seed, joins).map_err(named("laws of joins"))?;
     println!("laws of joins: {joins} joins, {done} of them done");
-    let not_told = new_passwords(task)?;
 
     let count = calls.div_ceil(CALLS_PER_BATCH);
     let validations = batch::compare(&guard::validate_all, seed, count, tally).map_err(named("batches"))?;
     println!("batches: {count}, with {validations} validations");
 
-    let not_copied = two_copies(task)?;
-    let not_written = writers(task)?;
+    let frozen = stays::compare(&guard::ask, seed, calls.div_ceil(RUN_CALLS)).map_err(named("what is frozen stays"))?;
+    let count = calls.div_ceil(CALLS_PER_IMAGES);
+    let told = untold::compare(&guard::ask, seed, count).map_err(named("new passwords in two images"))?;
+    let copied = copies::compare(&guard::ask, seed, calls.div_ceil(CALLS_PER_PAIR)).map_err(named("two copies"))?;
+    let written = writers::compare(&guard::ask, seed, calls.div_ceil(CALLS_PER_WRITERS)).map_err(named("writers"))?;
 
     let lines = published::confirm(published::TEXT)?;
     println!("published handles: {lines} lines confirmed");
-    Ok([not_frozen, not_told, not_copied, not_written].concat())
-}
-
-fn what_is_frozen(task: &Task) -> Result<Vec<String>, String> {
-    let rows = task.calls.div_ceil(RUN_CALLS);
-    let count = stays::compare(&guard::ask, task.seed, rows).map_err(named("what is frozen stays"))?;
-    println!(
-        "what is frozen stays: {rows} rows, with {} frozen segments, {} calls done, {} refused with 22",
-        count.frozen, count.done, count.refused
-    );
-    Ok(count.faults())
-}
-
-fn new_passwords(task: &Task) -> Result<Vec<String>, String> {
-    let pairs = task.calls.div_ceil(CALLS_PER_IMAGES);
-    let count = untold::compare(&guard::ask, task.seed, pairs).map_err(named("new passwords in two images"))?;
-    println!(
-        "new passwords in two images: {pairs} pairs, with {} calls, {} of them done, {} refused with 12",
-        count.asked, count.done, count.old
-    );
-    println!("new passwords in two images, done for clusters of 4, 8 and 16: {:?}", count.widths);
-    println!(
-        "new passwords in two images, done for reading and for writing: {:?} the other mode's, {:?} with the two equal in one image",
-        count.guessed, count.equal
-    );
-    Ok(count.faults())
+    Ok(vec![frozen, told, copied, written])
 }
 
 fn edges(seed: u64) -> Result<(), String> {
@@ -133,52 +99,6 @@ fn edges_of_widths(seed: u64) -> Result<(), String> {
     Ok(())
 }
 
-fn two_copies(task: &Task) -> Result<Vec<String>, String> {
-    let pairs = task.calls.div_ceil(CALLS_PER_PAIR);
-    let count = copies::compare(&guard::ask, task.seed, pairs).map_err(named("two copies"))?;
-    println!(
-        "two copies: {pairs} pairs, with {} calls, {} of them done, {} naming the cluster set apart",
-        count.calls, count.done, count.naming
-    );
-    for (what, kept) in
-        [("looks", count.looks), ("freezes", count.freezes), ("joins", count.joins), ("new passwords", count.renewals)]
-    {
-        println!(
-            "{what} in two copies: {} done, {} kept from the cluster set apart by passwords alone",
-            kept.done, kept.apart
-        );
-    }
-    println!(
-        "joins in two copies: in {} the first handle alone names the cluster set apart, in {} the second",
-        count.by_the_first, count.by_the_second
-    );
-    println!(
-        "frozen in two copies: {} calls refused with 22, {} clusters set apart with some",
-        count.frozen, count.frozen_apart
-    );
-    println!(
-        "widths in two copies: {:?} clusters set apart of 4, 8 and 16, {:?} calls refused for the width alone, {:?} done, {} handles of no length",
-        count.widths, count.other_width, count.by_width, count.no_length
-    );
-    println!(
-        "passwords in two copies: {} clusters set apart with equal ones in one copy, {} guessed in one copy, {} made equal, {} calls by a handle of both modes",
-        count.equal_in_one, count.guessed, count.made_equal, count.by_both
-    );
-    Ok(count.faults())
-}
-
-fn writers(task: &Task) -> Result<Vec<String>, String> {
-    let pairs = task.calls.div_ceil(CALLS_PER_WRITERS);
-    let count = writers::compare(&guard::ask, task.seed, pairs).map_err(named("writers"))?;
-    println!(
-        "writers: {pairs} pairs, with {} calls, {} of them done, {} by handles that open the cluster for writing",
-        count.calls, count.done, count.by_writers
-    );
-    println!("writers: {} pairs whose segments and read passwords differ to the end", count.differing);
-    println!("writers: {:?}", count.deeds);
-    Ok(count.faults())
-}
-
 fn main() -> ExitCode {
     let Some(task) = task() else {
         eprintln!("{USAGE}");
@@ -186,15 +106,16 @@ fn main() -> ExitCode {
     };
     println!("seed {}", task.seed);
     let mut tally = Tally::default();
-    let not_tried = match compare(&task, &mut tally) {
-        Ok(faults) => faults,
+    let laws = match compare(&task, &mut tally) {
+        Ok(laws) => laws,
         Err(difference) => {
             println!("{difference}");
             return ExitCode::FAILURE;
         }
     };
     println!("{tally}");
-    let faults = [tally.faults(), not_tried].concat();
+    laws.iter().for_each(|met| println!("{met}"));
+    let faults: Vec<String> = tally.faults().into_iter().chain(laws.iter().flat_map(Met::faults)).collect();
     for fault in &faults {
         println!("{fault}");
     }

@@ -11,9 +11,10 @@ use crate::compare::{by_model, same_bytes, Guard};
 use crate::image::{decode, passwords_at, record_at};
 use crate::pairs::{ask_both, parts_of, set_apart, validates, Pair};
 use crate::question::{change_handle, Answer, Held, Question};
-pub use count::{Count, Kept};
+pub use count::met;
 use model::call::Call;
 use model::handle::{derive, Handle, Password};
+use model::met::Met;
 use model::random::Random;
 use model::store::{Cluster, Mode, Store};
 use model::table::VIOLATED_PROTECTION;
@@ -22,15 +23,15 @@ use std::ops::Range;
 /// Calls of one list.
 pub const LIST_CALLS: u64 = 100;
 
-pub fn compare(guard: Guard, seed: u64, pairs: u64) -> Result<Count, String> {
-    let mut count = Count::default();
-    cases(seed, pairs, |random| one(guard, random, &mut count))?;
-    Ok(count)
+pub fn compare(guard: Guard, seed: u64, pairs: u64) -> Result<Met, String> {
+    let mut met = met();
+    cases(seed, pairs, |random| one(guard, random, &mut met))?;
+    Ok(met)
 }
 
-fn one(guard: Guard, random: &mut Random, count: &mut Count) -> Result<(), String> {
+fn one(guard: Guard, random: &mut Random, met: &mut Met) -> Result<(), String> {
     let mut pair = by_chance(random);
-    count.note_pair(&pair);
+    count::note_pair(met, &pair);
     let own = parts_of(&pair.stores()?[0], pair.apart);
     let start = pair.copies.clone();
     let mut given = Vec::new();
@@ -39,7 +40,7 @@ fn one(guard: Guard, random: &mut Random, count: &mut Count) -> Result<(), Strin
         let question = pair.question(random, &stores, &given);
         let answer = ask_both(guard, &mut pair.copies, &question, |_| Ok(()))
             .map_err(|what| format!("call {at} of the list: {what}"))?;
-        count.note(&pair, &stores, &question, &answer);
+        count::note(met, &pair, &stores, &question, &answer);
         given.extend(answer.handles(&question));
     }
     pair.agree(&own)?;

@@ -1,6 +1,6 @@
 //! Memory that was the cluster's when it was given back, and what is made there afterwards.
 
-use super::Deed;
+use super::count::Deed;
 use crate::pairs::{names, parts_of};
 use model::call::Call;
 use model::handle::Handle;
@@ -45,7 +45,7 @@ impl Freed {
             }
             (Call::Read { .. } | Call::Look { .. }, Some(named)) => {
                 let zeros = shown.iter().all(|byte| *byte == 0);
-                (zeros && self.made.contains(&named)).then_some(Deed::ReadByAnother)
+                (zeros && self.made.contains(&named)).then_some("ReadByAnother")
             }
             _ => None,
         }
@@ -60,10 +60,10 @@ impl Freed {
             return None;
         }
         if (node, local) == self.apart {
-            return Some(Deed::MadeAgain);
+            return Some("MadeAgain");
         }
         self.made.push((node, local, segment));
-        Some(Deed::MadeByAnother)
+        Some("MadeByAnother")
     }
 }
 

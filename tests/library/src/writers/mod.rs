@@ -14,8 +14,9 @@ use crate::image::{decode, password_at};
 use crate::pairs::{ask_both, parts_of, set_apart, Pair};
 use crate::question::Held;
 use calls::Asking;
+pub use count::met;
 use count::Watch;
-pub use count::{Count, Deed};
+use model::met::Met;
 use model::random::Random;
 use model::sizes::NODES;
 use model::store::{Mode, Store};
@@ -26,20 +27,20 @@ pub const LIST_CALLS: u64 = 100;
 /// In stores without a free byte, new segments lie where others were.
 const FILLS: [Fill; 4] = [Fill::Partial, Fill::Partial, Fill::NoByteFree, Fill::AtWords];
 
-pub fn compare(guard: Guard, seed: u64, pairs: u64) -> Result<Count, String> {
-    let mut count = Count::default();
-    cases(seed, pairs, |random| one(guard, random, &mut count))?;
-    Ok(count)
+pub fn compare(guard: Guard, seed: u64, pairs: u64) -> Result<Met, String> {
+    let mut met = met();
+    cases(seed, pairs, |random| one(guard, random, &mut met))?;
+    Ok(met)
 }
 
 /// A list may end after any of its calls, so that the copies have to agree after each.
-fn one(guard: Guard, random: &mut Random, count: &mut Count) -> Result<(), String> {
+fn one(guard: Guard, random: &mut Random, met: &mut Met) -> Result<(), String> {
     let asking = Asking::by_chance(random);
     let mut pair = by_chance(random, asking);
     let apart = pair.apart;
     let mut stores = pair.stores()?;
     let mut given = Vec::new();
-    let mut watch = Watch::of(count, &pair, &stores);
+    let mut watch = Watch::of(met, &pair, &stores);
     for at in 1..=LIST_CALLS {
         let question = asking.question(random, &pair, &stores, &given, at);
         watch.expect(&pair, &stores, &question);
