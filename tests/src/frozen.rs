@@ -1,11 +1,8 @@
 //! What is frozen and has to stay, for those who watch a row of calls; and what calls come to where something
 //! is frozen.
 
-use crate::call::Call;
 use crate::listed;
-use crate::sizes::{CLUSTERS, NODES, SEGMENTS};
-use crate::store::{Cluster, Place, Store};
-use crate::table::{Found, DONE, FROZEN, NOT_PRIMARY, NOT_REFERENCED, PRESENT, VIOLATED_PROTECTION};
+use crate::words::*;
 use std::collections::BTreeMap;
 
 /// Node, local number and segment.

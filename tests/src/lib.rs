@@ -43,3 +43,14 @@ pub mod table;
 pub mod vectors;
 pub mod width;
 pub mod widths;
+
+/// What nearly every file speaks of.
+pub mod words {
+    pub use crate::call::*;
+    pub use crate::handle::*;
+    pub use crate::random::Random;
+    pub use crate::sizes::*;
+    pub use crate::store::*;
+    pub use crate::table::*;
+    pub use crate::width::*;
+}

@@ -1,13 +1,9 @@
 //! Lists of calls: records of 64 bytes, the chain through them, and the text that comes out.
 
-use crate::call::{self, Call, Reply};
-use crate::handle::{HandleBytes, Password};
+use crate::call;
 use crate::hexadecimal;
 use crate::model;
-use crate::sizes::{MEMORY_BYTES, NODE_BYTES, PASSWORD_BYTES};
-use crate::store::Store;
-use crate::table::{refusal_above, Found, FIELD, LINK, LIST_LENGTH, LOOP};
-use crate::width::Width;
+use crate::words::*;
 
 /// The one width of a list's clusters and handles.
 pub const WIDTH: Width = Width::Eight;

@@ -1,11 +1,10 @@
 //! Situations, each by its name: how often each was met, and which of those that are due was not.
 
-use crate::call::Call;
 use crate::frozen::Case;
 use crate::joins::Meeting;
 use crate::nothing::Way;
 use crate::renewals::Renewal;
-use crate::table::Found;
+use crate::words::*;
 use std::collections::{BTreeMap, HashMap};
 use std::fmt;
 

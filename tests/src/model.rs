@@ -1,10 +1,6 @@
 //! The eleven calls, looks and validation, carried out on a store, a memory and a buffer that are lent.
 
-use crate::call::{Call, Reply};
-use crate::handle::{Handle, Password};
-use crate::store::{Cluster, Mode, Segment, Store};
-use crate::table::{refusal, Found};
-use crate::width::Width;
+use crate::words::*;
 use std::ops::Range;
 
 /// Runs one call. `buffer` is a read's buffer or a write's data, and is not looked at otherwise.

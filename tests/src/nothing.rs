@@ -1,10 +1,8 @@
 //! Ways to nothing: where a weakening would leave no segment, what stands next to that, and what is
 //! still done with a handle that references none. What is made by chance has to come to each.
 
-use crate::call::Call;
-use crate::handle::Handle;
 use crate::listed;
-use crate::table::{DONE, EMPTY, GAPPED, NO_SUCH_PLACE};
+use crate::words::*;
 
 listed! {
     pub enum Way {

@@ -2,10 +2,7 @@
 //! what is done by a handle that opens both modes, as every handle of such a cluster does. What is made by chance has
 //! to come to each.
 
-use crate::call::Call;
-use crate::handle::Password;
-use crate::store::{Cluster, Mode};
-use crate::table::{Found, DONE, NOT_PRIMARY, OLD_PASSWORD, VIOLATED_PROTECTION};
+use crate::words::*;
 use Use::{Change, Join, Look, Read, Reduce, Validate, Write};
 
 /// What a handle that opens both modes is good for, with the mode where the call names one.

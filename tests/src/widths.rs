@@ -2,11 +2,7 @@
 //! that no handle has, segments and masks beside the width. What is made by chance has to come to each; lists have one
 //! width alone.
 
-use crate::call::Call;
-use crate::handle::Handle;
-use crate::store::Cluster;
-use crate::table::{Found, DONE, EMPTY, FIELD, LENGTH};
-use crate::width::Width;
+use crate::words::*;
 
 /// A length that no handle has.
 #[derive(Clone, Copy, Debug, PartialEq, Eq, PartialOrd, Ord)]

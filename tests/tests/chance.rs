@@ -4,8 +4,7 @@ use model::frozen::Watch;
 use model::generate;
 use model::list::{chain, output, reachable, records, request, run, Request, Session, CODE_AT};
 use model::met::{due_in_lists, situations, way, Met};
-use model::random::Random;
-use model::sizes::MEMORY_BYTES;
+use model::words::*;
 use std::collections::BTreeSet;
 
 const LISTS: usize = 300;

@@ -3,9 +3,8 @@
 mod support;
 
 use model::aes::encrypt;
-use model::handle::{convert, derive, Handle, Password, Selector, Width};
 use model::hexadecimal::{decode, encode};
-use model::random::Random;
+use model::words::*;
 use support::naive::{flat, has, referenced_and_kept, sets};
 use support::{others, segments};
 

@@ -2,8 +2,7 @@
 
 mod support;
 
-use model::call::Call;
-use model::table::{numbers_of, numbers_of_calls, word, DONE, FROZEN, LENGTH};
+use model::words::*;
 use std::collections::BTreeMap;
 use support::every::{every, Rest};
 use support::{new_cluster, reader};

@@ -1,15 +1,10 @@
 //! What is counted of joins and of widths is met by what is made by chance, in stores with clusters of every width.
 
-use model::call::Call;
 use model::generate::joins::join_of_widths;
-use model::handle::{Handle, HandleBytes, Width};
 use model::joins::Meeting;
 use model::model::run;
-use model::random::Random;
-use model::sizes::{CLUSTERS, MEMORY_BYTES, NODES};
-use model::store::{Cluster, Segment, Store};
-use model::table::{refusal, Found};
 use model::widths::Sight;
+use model::words::*;
 use std::collections::BTreeSet;
 
 const STORES: usize = 1_000;

@@ -1,9 +1,6 @@
 //! Placement examples P10 to P14, and placement against its own definition.
 
-use model::handle::Width;
-use model::random::Random;
-use model::sizes::{CLUSTERS, MEMORY_BYTES, NODE_BYTES};
-use model::store::{Cluster, Extent, Segment, Store};
+use model::words::*;
 
 /// A store whose node 0 has the given segments, in as many clusters of the width as they need.
 fn store_of(width: Width, extents: &[(u16, u16)]) -> Store {

@@ -2,8 +2,7 @@
 
 mod support;
 
-use model::call::{Call, Reply};
-use model::handle::{convert, derive, Handle, Width};
+use model::words::*;
 use support::{eight, Bench};
 
 const FLAT: u16 = 255;

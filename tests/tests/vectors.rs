@@ -1,12 +1,9 @@
 //! The published handles are those of the model, and are what the calls give.
 
-use model::call::Call;
-use model::handle::{Handle, Password, Width};
 use model::hexadecimal::decode;
 use model::model::run;
-use model::sizes::{CLUSTERS, MEMORY_BYTES, NODES};
-use model::store::{Cluster, Store};
 use model::vectors::text;
+use model::words::*;
 use std::collections::HashMap;
 
 const PUBLISHED: &str = include_str!("../../docs/vectors/handles.txt");

@@ -2,8 +2,7 @@
 
 mod support;
 
-use model::handle::{convert, Handle, Password, Selector, Width};
-use model::random::Random;
+use model::words::*;
 use support::naive::{flat, has, number, sets};
 use support::segments;
 

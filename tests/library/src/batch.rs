@@ -9,11 +9,7 @@ use crate::damages::Where;
 use crate::guard;
 use crate::question::{Held, Question, BATCH, BEYOND, READ_MODE, WRITE_MODE};
 use crate::tally::Tally;
-use model::call::Call;
-use model::handle::Width;
-use model::random::Random;
-use model::sizes::{CLUSTERS, NODES, SEGMENTS};
-use model::store::{Mode, Store};
+use model::words::*;
 
 /// Something that validates many handles, given the mode and the width; [`guard::validate_all`] is the one to be
 /// compared.

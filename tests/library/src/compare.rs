@@ -2,10 +2,8 @@
 
 use crate::image::{decode, encode};
 use crate::question::{Answer, Held, Question};
-use model::call::{Call, Reply};
 use model::model::run;
-use model::store::Store;
-use model::table::{refusal_above, Found, UNSOUND};
+use model::words::*;
 
 /// Something that answers questions; [`crate::guard::ask`] is the one to be compared.
 pub type Guard<'a> = &'a dyn Fn(&mut Held, &Question) -> Answer;

@@ -1,8 +1,6 @@
 //! The records of all clusters as the bytes that the header lays out.
 
-use model::handle::Password;
-use model::sizes::{CLUSTERS, NODES, PASSWORD_BYTES, SEGMENTS};
-use model::store::{Cluster, Mode, Place, Segment, Store};
+use model::words::*;
 use std::ops::Range;
 
 pub const WIDTH_AT: usize = 1;

@@ -5,9 +5,7 @@ use crate::chance::questions::Maker;
 use crate::chance::stores::{self, Fill};
 use crate::compare::Guard;
 use crate::question::{Answer, Held, Question};
-use model::call::{Call, Reply, JOIN};
-use model::handle::{Handle, HandleBytes};
-use model::random::Random;
+use model::words::*;
 
 /// Gives how many joins were done.
 pub fn compare(guard: Guard, seed: u64, joins: u64) -> Result<u64, String> {

@@ -4,11 +4,7 @@ use crate::chance::handles;
 use crate::compare::{same_answer, same_shown, Guard};
 use crate::image::decode;
 use crate::question::{Answer, Held, Question};
-use model::call::Call;
-use model::handle::Handle;
-use model::random::Random;
-use model::store::{Mode, Segment, Store};
-use model::table::{refusal, Found};
+use model::words::*;
 use std::ops::Range;
 
 /// A pair of copies and the place of the cluster that is set apart.

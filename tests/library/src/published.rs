@@ -3,12 +3,8 @@
 use crate::guard;
 use crate::image::encode;
 use crate::question::{Held, Question, READ_MODE, WRITE_MODE};
-use model::call::{Call, Reply};
-use model::handle::{HandleBytes, Password, Width};
 use model::hexadecimal::decode;
-use model::sizes::MEMORY_BYTES;
-use model::store::{Cluster, Store};
-use model::table::{APART, DONE, EMPTY, LENGTH, SPENT, WHOLE};
+use model::words::*;
 use std::collections::HashMap;
 
 /// What `docs/vectors/README.md` explains.

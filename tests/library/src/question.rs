@@ -3,10 +3,8 @@
 use crate::ffi::HANDLE_MAX;
 use crate::guard::handles::Behind;
 use crate::image::{encode, Image};
-use model::call::{self, Call, Reply, CALLS};
-use model::handle::{Handle, HandleBytes};
-use model::sizes::MEMORY_BYTES;
-use model::store::Store;
+use model::call;
+use model::words::*;
 use std::fmt;
 
 /// The number of a call's argument that stands for [`Question::beyond`].

@@ -10,9 +10,7 @@ use crate::question::Held;
 use crate::stays::seen;
 use crate::tally::Tally;
 use model::frozen::Watch;
-use model::random::Random;
-use model::sizes::MEMORY_BYTES;
-use model::store::Store;
+use model::words::*;
 
 /// Calls of one row.
 pub const RUN_CALLS: u64 = 400;

@@ -4,15 +4,7 @@
 use crate::compare::by_model;
 use crate::image::decode;
 use crate::question::{name, Answer, Held, Question, BEYOND, LOOK, VALIDATION};
-use model::call::{
-    Call, Reply, DELETE_CLUSTER, DELETE_SEGMENT, FREEZE, JOIN, NEW_PASSWORD, NEW_SEGMENT, READ, REDUCE, WRITE,
-};
-use model::handle::Handle;
-use model::sizes::{MEMORY_BYTES, NODES, NODE_BYTES, SEGMENTS};
-use model::table::{
-    refusal_below, Found, ABSENT, APART, ELSEWHERE, FIELD, FROZEN, GAPPED, INACTIVE, LENGTH, NOT_PRIMARY,
-    NOT_REFERENCED, NO_SUCH_PLACE, SHORT, UNSOUND, VIOLATED_PROTECTION, WHOLE,
-};
+use model::words::*;
 
 /// Nothing but the current node is wrong: another one, or one above 3. The next two are right in the lowest byte or the
 /// lowest two alone, and the last is one that no four bytes hold.

@@ -9,10 +9,7 @@ use crate::damages::Where;
 use crate::guard;
 use crate::question::{Held, Question};
 use crate::tally::Tally;
-use model::call::Call;
-use model::handle::convert;
-use model::random::Random;
-use model::sizes::{CLUSTERS, NODES};
+use model::words::*;
 
 pub fn compare(guard: Guard, seed: u64, calls: u64, tally: &mut Tally) -> Result<(), String> {
     cases(seed, calls, |random| one(guard, random, tally))

@@ -7,12 +7,9 @@ use crate::chance::{cases, handles};
 use crate::compare::Guard;
 use crate::image::decode;
 use crate::question::{Held, Question};
-use model::call::Call;
 use model::frozen::Watch;
 use model::met::Met;
-use model::random::Random;
-use model::store::{Cluster, Mode, Store};
-use model::table::FROZEN;
+use model::words::*;
 
 /// Calls of one row.
 pub const ROW_CALLS: u64 = 100;

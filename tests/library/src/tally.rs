@@ -7,14 +7,9 @@ use crate::damages::{self, Where};
 use crate::image::decode;
 use crate::question::{name, Answer, Held, Question, BATCH, BEYOND, LOOK, VALIDATION};
 use crate::{sights, widths};
-use model::call::{self, Call};
+use model::call;
 use model::met::{self, Met};
-use model::sizes::SUBSELECTORS;
-use model::table::{
-    word, Found, ABSENT, APART, DONE, ELSEWHERE, EMPTY, FIELD, FROZEN, GAPPED, INACTIVE, IN_USE, LENGTH, NOT_PRIMARY,
-    NOT_REFERENCED, NO_ROOM, NO_SUCH_PLACE, OLD_PASSWORD, PRESENT, SHORT, SPENT, TWINS, UNSOUND, VIOLATED_PROTECTION,
-    WHOLE,
-};
+use model::words::*;
 use std::collections::BTreeMap;
 use std::fmt;
 

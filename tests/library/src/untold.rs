@@ -8,13 +8,8 @@ use crate::compare::{same_bytes, Guard};
 use crate::image::password_at;
 use crate::pairs::ask_both;
 use crate::question::{Held, Question};
-use model::call::Call;
-use model::handle::{HandleBytes, Password, Width};
 use model::met::Met;
-use model::random::Random;
-use model::sizes::{CLUSTERS, NODES};
-use model::store::{Mode, Store};
-use model::table::{DONE, OLD_PASSWORD};
+use model::words::*;
 
 const OLD: &str = "one refused with 12 (old password)";
 

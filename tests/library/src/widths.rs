@@ -4,13 +4,8 @@
 use crate::chance::handles::MOST_BYTES;
 use crate::image::decode;
 use crate::question::{name, Answer, Held, Question, BATCH, LOOK, VALIDATION};
-use model::call::{
-    Call, DELETE_CLUSTER, DELETE_SEGMENT, FREEZE, JOIN, NEW_CLUSTER, NEW_PASSWORD, NEW_SEGMENT, READ, REDUCE, WEAKEN,
-    WRITE,
-};
-use model::handle::Width;
-use model::table::{refusal_below, Found, DONE, FIELD, LENGTH, NO_SUCH_PLACE, UNSOUND};
 use model::widths::Sight as Seen;
+use model::words::*;
 
 /// What takes a handle: alone, or in a batch.
 #[rustfmt::skip]

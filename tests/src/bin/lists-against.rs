@@ -1,13 +1,11 @@
 //! Runs a program on lists made by chance and compares what it prints with what the model prints. A program that tells
 //! a fault, or ends by a signal or with another status than 0, differs too. The lists have to reach all that lists can.
 
-use model::call::CALLS;
 use model::generate;
 use model::list::{reachable, request, run, Request, CODE_AT};
 use model::met::{due_in_lists, situations, table, way, Met};
 use model::program::{Outcome, Program};
-use model::random::Random;
-use model::table::{word, APART, EMPTY, LIST_LENGTH, LOOP, SPENT};
+use model::words::*;
 use std::collections::BTreeMap;
 use std::ffi::OsString;
 use std::io;

@@ -2,15 +2,12 @@
 
 use super::handles::{self, is_inactive, Wish};
 use super::joins;
-use crate::call::{self, Reply};
-use crate::handle::{Handle, Password};
+use crate::call;
 use crate::list::{
     Record, Session, CODE_AT, DATA_AT, DATA_LENGTH_AT, FIRST_PASSWORD_AT, HANDLE_AT, HANDLE_BYTES, MODE_AT,
     MOST_DATA_BYTES, NODE_AT, OTHER_HANDLE_AT, RECORD_BYTES, SECOND_PASSWORD_AT, SEGMENT_AT, SIZE_AT, WIDTH,
 };
-use crate::random::Random;
-use crate::sizes::{CLUSTERS, NODES, NODE_BYTES, PASSWORD_BYTES};
-use crate::store::Mode;
+use crate::words::*;
 
 const SEGMENTS: usize = WIDTH.segments();
 /// A mask that keeps everything.

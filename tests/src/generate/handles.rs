@@ -1,11 +1,7 @@
 //! Handles by chance: right ones for the store as it is, old ones, and ones with something wrong.
 
-use crate::handle::{Handle, HandleBytes, Selector};
 use crate::list;
-use crate::random::Random;
-use crate::sizes::{CLUSTERS, NODES, SUBSELECTORS};
-use crate::store::{Cluster, Mode, Store};
-use crate::width::Width;
+use crate::words::*;
 
 /// What the call that a handle is made for would like.
 #[derive(Clone, Copy)]

@@ -2,10 +2,7 @@
 //! of one cluster, each of them valid: none, one or two things are made wrong in them.
 
 use super::handles::{bits, gapped, is_inactive, noting, of_no_length, place, width_of};
-use crate::handle::{Handle, HandleBytes, Selector, Width};
-use crate::random::Random;
-use crate::sizes::{CLUSTERS, NODES, PASSWORD_BYTES};
-use crate::store::{Cluster, Mode, Store};
+use crate::words::*;
 
 /// What a join is asked with.
 pub struct Join {

@@ -3,10 +3,7 @@
 
 mod refused;
 
-use crate::call::Call;
-use crate::handle::Handle;
-use crate::store::Mode;
-use crate::table::{Found, APART, DONE, FIELD, GAPPED, INACTIVE, NO_SUCH_PLACE, UNSOUND, VIOLATED_PROTECTION, WHOLE};
+use crate::words::*;
 use refused::Asked;
 use Whose::{Both, Call as Itself, First, Second};
 

@@ -2,9 +2,7 @@
 
 use super::Whose::{Both, Call as Itself, First, Second};
 use super::{Applied, Meeting, Whose, AFTER_NO_LENGTH, AFTER_OTHER_WIDTH, BEFORE};
-use crate::handle::Handle;
-use crate::store::{Cluster, Mode};
-use crate::table::{Found, APART, FIELD, GAPPED, INACTIVE, LENGTH, NO_SUCH_PLACE, UNSOUND, VIOLATED_PROTECTION, WHOLE};
+use crate::words::*;
 
 /// A join that is refused.
 pub struct Asked<'a> {

@@ -1,8 +1,7 @@
 //! A list cut into pieces.
 
 use crate::list::{MOST_LIST_BYTES, RECORD_BYTES};
-use crate::random::Random;
-use crate::sizes::NODE_BYTES;
+use crate::words::*;
 
 /// A record more than a list has: any list is one piece, and of a longer input `benchrun` reads no more than this.
 const SPACE: usize = MOST_LIST_BYTES + RECORD_BYTES;

@@ -2,9 +2,8 @@
 
 use super::tables::{joined, whole, Pair};
 use super::{Cluster, Family};
-use crate::handle::{Handle, Password};
 use crate::hexadecimal::encode;
-use crate::table::{APART, WHOLE};
+use crate::words::*;
 
 /// The pairs of one family.
 pub fn of(family: &Family, primary: Handle) -> String {

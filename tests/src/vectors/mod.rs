@@ -6,9 +6,8 @@ mod tables;
 mod validations;
 mod widths;
 
-use crate::handle::{convert, Handle, Password, Width};
 use crate::hexadecimal::encode;
-use crate::table::{word, EMPTY, SPENT};
+use crate::words::*;
 use tables::paths;
 
 const HEADER: &str = "\

@@ -3,9 +3,8 @@
 use super::tables::WIDE_PATHS_OF_EIGHT;
 use super::validations::validation_in;
 use super::{conversions, families, joins, refused, validations, Cluster, Family, CLUSTERS};
-use crate::handle::{Handle, HandleBytes, Selector, Width};
 use crate::hexadecimal::encode;
-use crate::table::LENGTH;
+use crate::words::*;
 
 const OTHERS: [Cluster; 2] = [
     Cluster {

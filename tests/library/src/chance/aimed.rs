@@ -6,11 +6,7 @@ use super::questions::Maker;
 use super::stores::segments_of;
 use super::{below, bits, near};
 use crate::question::BEYOND;
-use model::call::Call;
-use model::handle::{Handle, HandleBytes};
-use model::random::Random;
-use model::sizes::NODES;
-use model::store::{Cluster, Mode, Segment, Store};
+use model::words::*;
 
 /// What a call about one segment of a node is asked with.
 struct Aimed {

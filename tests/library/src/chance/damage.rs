@@ -5,8 +5,7 @@ use super::faults::fault;
 use crate::image::{decode, encode, record_at, segment_at, MARK_AT, SEGMENTS_AT};
 use crate::question::Held;
 use model::listed;
-use model::random::Random;
-use model::sizes::{CLUSTERS, NODES, SEGMENTS};
+use model::words::*;
 
 /// The node and the local number of the last record.
 pub const LAST_PLACE: (usize, usize) = (NODES - 1, CLUSTERS - 1);

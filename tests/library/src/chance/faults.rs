@@ -4,10 +4,7 @@ use super::damage::Damage;
 use super::stores::{active, extents, gaps, present};
 use super::words::{self, Beside};
 use super::{below, width};
-use model::handle::Width;
-use model::random::Random;
-use model::sizes::{CLUSTERS, NODE_BYTES, PASSWORD_BYTES, SEGMENTS};
-use model::store::{Cluster, Extent, Segment, Store};
+use model::words::*;
 
 /// The numbers that two bytes can hold.
 const TWO_BYTES: usize = 1 << 16;

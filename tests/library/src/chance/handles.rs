@@ -2,10 +2,7 @@
 
 use super::{below, bit, bits, bytes, near, password, width};
 use model::generate::to_nothing;
-use model::handle::{derive, Handle, HandleBytes, Selector, Width};
-use model::random::Random;
-use model::sizes::{CLUSTERS, NODES, PASSWORD_BYTES, SUBSELECTORS};
-use model::store::{Cluster, Mode, Store};
+use model::words::*;
 
 /// Bytes that are presented for a handle mostly have at most so many; a length byte tells up to 255.
 pub const MOST_BYTES: usize = 40;

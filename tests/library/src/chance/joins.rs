@@ -3,10 +3,8 @@
 
 use super::questions::Maker;
 use crate::question::{BEYOND, WRITE_MODE};
-use model::call::Call;
 use model::generate::joins;
-use model::handle::Handle;
-use model::random::Random;
+use model::words::*;
 
 impl Maker<'_> {
     pub(super) fn join(&mut self) -> Call {

@@ -3,8 +3,7 @@
 use super::handles;
 use super::questions::Maker;
 use super::{below, bit, bits, password, width};
-use model::call::Call;
-use model::sizes::{CLUSTERS, NODES, SEGMENTS};
+use model::words::*;
 
 impl Maker<'_> {
     pub(super) fn new_cluster(&mut self) -> Call {

@@ -10,9 +10,7 @@ pub mod questions;
 pub mod stores;
 pub mod words;
 
-use model::handle::{Password, Width};
-use model::random::Random;
-use model::sizes::PASSWORD_BYTES;
+use model::words::*;
 
 /// Few passwords, so that equal ones meet; sixteen zero bytes are one of them.
 const PASSWORDS: u64 = 5;

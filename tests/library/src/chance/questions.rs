@@ -6,11 +6,8 @@ use super::{below, bytes, fill, near, password};
 use crate::ffi::HANDLE_MAX;
 use crate::guard::handles::Behind;
 use crate::question::{Question, BEYOND, LOOK, READ_MODE, VALIDATION, WRITE_MODE};
-use model::call::{self, Call};
-use model::handle::{Handle, HandleBytes, Password};
-use model::random::Random;
-use model::sizes::{NODES, NODE_BYTES, SEGMENTS};
-use model::store::{Cluster, Mode, Segment, Store};
+use model::call;
+use model::words::*;
 
 /// Codes for single calls: all alike.
 pub const EVENLY: [u8; 13] = [1, 2, 3, 4, 5, 6, 7, 8, 9, 10, 11, VALIDATION, LOOK];

@@ -5,10 +5,7 @@ use super::words::WORD;
 use super::{below, fill, passwords, width};
 use crate::image::encode;
 use crate::question::Held;
-use model::handle::Width;
-use model::random::Random;
-use model::sizes::{CLUSTERS, MEMORY_BYTES, NODE_BYTES};
-use model::store::{Cluster, Extent, Segment, Store};
+use model::words::*;
 use std::collections::BTreeSet;
 use std::ops::Range;
 

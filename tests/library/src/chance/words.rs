@@ -2,9 +2,7 @@
 //! of 64.
 
 use super::below;
-use model::random::Random;
-use model::sizes::NODE_BYTES;
-use model::store::Extent;
+use model::words::*;
 
 pub const WORD: usize = 64;
 const WORDS: usize = NODE_BYTES / WORD;

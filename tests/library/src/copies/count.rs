@@ -2,12 +2,9 @@
 
 use crate::pairs::Pair;
 use crate::question::{Answer, Question};
-use model::call::Call;
-use model::handle::{Handle, Width};
 use model::met::Met;
 use model::renewals::Renewal;
-use model::store::{Mode, Store};
-use model::table::{Found, FROZEN, LENGTH};
+use model::words::*;
 
 /// Calls of which some have to be done, and some to be kept from the cluster set apart by passwords alone: with
 /// passwords that open it for each handle, the call would be done.

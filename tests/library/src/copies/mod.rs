@@ -12,12 +12,8 @@ use crate::image::{decode, passwords_at, record_at};
 use crate::pairs::{ask_both, parts_of, set_apart, validates, Pair};
 use crate::question::{change_handle, Answer, Held, Question};
 pub use count::met;
-use model::call::Call;
-use model::handle::{derive, Handle, Password};
 use model::met::Met;
-use model::random::Random;
-use model::store::{Cluster, Mode, Store};
-use model::table::VIOLATED_PROTECTION;
+use model::words::*;
 use std::ops::Range;
 
 /// Calls of one list.

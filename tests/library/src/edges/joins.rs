@@ -5,11 +5,7 @@ use crate::chance::stores::{self, segments_of, Fill};
 use crate::chance::{below, cases};
 use crate::compare::{ask, Guard, Sides};
 use crate::question::{Held, Question, READ_MODE, WRITE_MODE};
-use model::call::Call;
-use model::handle::{Handle, Selector, Width};
-use model::random::Random;
-use model::sizes::{CLUSTERS, NODES};
-use model::store::{Mode, Segment};
+use model::words::*;
 
 /// Modes are numbered from 1.
 const MODES: usize = WRITE_MODE as usize + 1;

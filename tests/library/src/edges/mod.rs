@@ -15,11 +15,7 @@ use crate::image::{encode, Image, READ_AT, RECORD_BYTES, SEGMENTS_AT};
 use crate::question::{Held, Question, BEYOND};
 pub use handles::{handles, Maker};
 pub use joins::joins;
-use model::call::Call;
-use model::handle::{Handle, Width};
-use model::random::Random;
-use model::sizes::{CLUSTERS, MEMORY_BYTES, NODES, NODE_BYTES, SEGMENTS};
-use model::store::{Cluster, Extent, Mode, Store};
+use model::words::*;
 pub use widths::{lengths, masks, new_clusters, segments};
 
 /// Something that tells whether an image holds a sound store; [`crate::guard::is_sound`] is the one

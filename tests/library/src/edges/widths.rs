@@ -8,11 +8,7 @@ use crate::chance::{bytes, cases, fill};
 use crate::compare::{ask, Guard, Sides};
 use crate::image::record_at;
 use crate::question::{Held, Question, READ_MODE};
-use model::call::Call;
-use model::handle::{derive, Handle, Selector, Width};
-use model::random::Random;
-use model::sizes::{NODES, PASSWORD_BYTES, SEGMENTS};
-use model::store::{Mode, Store};
+use model::words::*;
 
 /// Widths are tried from 0 up to so many: one more byte is begun.
 const MOST_WIDTH: usize = 300;

@@ -2,8 +2,7 @@
 
 use super::{image_of, memory_of, password_of, Lent, UNWRITTEN, UNWRITTEN_NUMBER};
 use crate::ffi::{self, gelmuszta_handle};
-use model::call::{Part, Reply};
-use model::handle::Password;
+use model::words::*;
 
 impl Lent<'_> {
     pub(super) fn new_cluster(

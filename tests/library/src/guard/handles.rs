@@ -2,8 +2,7 @@
 
 use super::UNWRITTEN;
 use crate::ffi::{gelmuszta_handle, HANDLE_MAX};
-use model::call::Call;
-use model::handle::HandleBytes;
+use model::words::*;
 
 /// What lies behind the length of the handles that a call is lent, from there on.
 pub type Behind = [u8; HANDLE_MAX];

@@ -15,10 +15,7 @@ use crate::image::{decode, encode, Image};
 use crate::question::{Answer, Held, Memory, Question, BEYOND};
 use calls::weaken;
 use handles::Presented;
-use model::call::{Call, Reply};
-use model::handle::Password;
-use model::sizes::PASSWORD_BYTES;
-use model::store::Store;
+use model::words::*;
 use std::ptr::{from_mut, from_ref};
 
 /// What outputs hold before the call, so that one that is not written is seen.

@@ -6,11 +6,7 @@ use crate::chance::stores::gaps;
 use crate::chance::{below, near, passwords, width};
 use crate::pairs::{does, names, validates, Pair};
 use crate::question::{Question, LOOK, VALIDATION};
-use model::call::{Call, DELETE_CLUSTER, FREEZE};
-use model::handle::{derive, Handle};
-use model::random::Random;
-use model::sizes::CLUSTERS;
-use model::store::{Mode, Store};
+use model::words::*;
 use std::ops::Range;
 
 /// What writers do at any time.

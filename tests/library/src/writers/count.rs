@@ -4,11 +4,8 @@ use super::calls::written_part;
 use super::freed::Freed;
 use crate::pairs::{parts_of, validates, Pair};
 use crate::question::{Answer, Held, Question};
-use model::call::Call;
-use model::handle::{Handle, Width};
 use model::met::Met;
-use model::store::{Cluster, Mode, Store};
-use model::table::{DONE, FROZEN, INACTIVE, LENGTH, VIOLATED_PROTECTION};
+use model::words::*;
 
 /// What the freedom of writers allows, by name.
 pub type Deed = &'static str;

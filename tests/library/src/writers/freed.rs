@@ -2,10 +2,7 @@
 
 use super::count::Deed;
 use crate::pairs::{names, parts_of};
-use model::call::Call;
-use model::handle::Handle;
-use model::sizes::MEMORY_BYTES;
-use model::store::Store;
+use model::words::*;
 
 /// A segment as node, local number and segment.
 type Named = (usize, usize, usize);

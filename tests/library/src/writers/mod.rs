@@ -17,9 +17,7 @@ use calls::Asking;
 pub use count::met;
 use count::Watch;
 use model::met::Met;
-use model::random::Random;
-use model::sizes::NODES;
-use model::store::{Mode, Store};
+use model::words::*;
 use std::ops::Range;
 
 /// Calls of one list.

@@ -9,12 +9,8 @@ use library::ffi::gelmuszta_handle;
 use library::guard;
 use library::image::{encode, record_at, segment_at, MARK_AT, WIDTH_AT};
 use library::question::{Held, READ_MODE, WRITE_MODE};
-use model::call::{Call, Reply};
-use model::handle::{Handle, HandleBytes, Width};
 use model::hexadecimal;
-use model::random::Random;
-use model::sizes::SEGMENTS;
-use model::store::Store;
+use model::words::*;
 
 fn given(held: &Held, call: Call) -> HandleBytes {
     let (reply, _) = asked(held, &call);

@@ -11,9 +11,7 @@ use library::question::LOOK;
 use library::tally::Tally;
 use library::{copies, stays, untold, writers};
 use model::met::Met;
-use model::random::Random;
-use model::sizes::{CLUSTERS, MEMORY_BYTES, NODES, NODE_BYTES};
-use model::store::Store;
+use model::words::*;
 
 const HEADER: &str = include_str!("../../../../include/gelmuszta.h");
 const TIMES: usize = 200;

@@ -6,10 +6,7 @@ use crate::support::{joint, renewed};
 use crate::wide::{asked, held, primary, refused, READ};
 use library::chance::damage::{inflict, Damage, LAST_PLACE};
 use library::chance::{below, stores};
-use model::call::{Call, Reply};
-use model::handle::{Handle, Selector, Width};
-use model::random::Random;
-use model::store::Store;
+use model::words::*;
 
 const KINDS: [Kind; 9] = [
     Kind::DeleteCluster,

@@ -4,10 +4,7 @@ use crate::support::every::Rest;
 use library::guard;
 use library::image::encode;
 use library::question::{Held, Question};
-use model::call::{Call, Reply};
-use model::handle::{Handle, Password, Width};
-use model::sizes::MEMORY_BYTES;
-use model::store::{Cluster, Segment, Store};
+use model::words::*;
 
 pub const READ: Password = [0x11; 16];
 pub const WRITE: Password = [0x22; 16];

@@ -5,10 +5,7 @@ use crate::stores::{
     SEGMENT, TYPICAL_CLUSTERS,
 };
 use library::question::READ_MODE;
-use model::call::Call;
-use model::handle::{Handle, Selector, Width};
-use model::sizes::NODES;
-use model::store::{Mode, Store};
+use model::words::*;
 
 /// The segment that is made where the cluster has two.
 const THIRD: usize = 2;

@@ -6,10 +6,8 @@ use library::guard::handles::Presented;
 use library::guard::Lent;
 use library::image::{decode, encode, record_at, RECORD_BYTES};
 use library::question::{Held, Memory};
-use model::call::{Call, Reply};
 use model::model::run;
-use model::sizes::NODE_BYTES;
-use model::store::{Cluster, Store};
+use model::words::*;
 use std::hint::black_box;
 use std::ops::Range;
 

@@ -2,9 +2,7 @@
 
 use library::image::encode;
 use library::question::{Held, Memory};
-use model::handle::Width;
-use model::sizes::{CLUSTERS, NODES, NODE_BYTES};
-use model::store::{Cluster, Segment, Store};
+use model::words::*;
 
 /// The cluster that calls are about, and one that a call can make.
 pub const PLACE: (usize, usize) = (2, 3);
