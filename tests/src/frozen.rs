@@ -59,8 +59,7 @@ listed! {
         Again,
         /// 22 for call 2: by segment 0 alone, by the last of its width alone, by others and not by segment 0.
         FirstAlone,
-        LastAlone,
-        NotTheFirst,
+        LastAlone, NotTheFirst,
         /// Something of the cluster is frozen, and for call 2 there is 9 or 10 before 22.
         ClusterViolatedFirst,
         ClusterNotPrimaryFirst,
@@ -70,8 +69,7 @@ listed! {
         Present,
         /// The segment is frozen, and there is 9, 10 or 11 before 22.
         ViolatedFirst,
-        NotPrimaryFirst,
-        NotReferencedFirst,
+        NotPrimaryFirst, NotReferencedFirst,
         /// 22 for call 6 with data that is short, and with data that is not.
         Short,
         LongEnough,

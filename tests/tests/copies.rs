@@ -1,6 +1,6 @@
 //! Nothing of a cluster is told to those who have no handle of it. Two states begin alike but for the bytes of one
-//! cluster's segments and its two passwords, and no call presents a handle that opens it in either state; one of another
-//! width does not. Then both reply the same, stay alike in all else, and each keeps that cluster as it was.
+//! cluster's segments and its two passwords, and no call presents a handle that opens it in either state; one of
+//! another width does not. Then both reply the same, stay alike in all else, and each keeps that cluster as it was.
 
 mod support;
 

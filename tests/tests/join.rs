@@ -94,7 +94,8 @@ fn what_either_references_whichever_comes_first() {
             done += 1;
         }
         assert_eq!(bench, before);
-        // Each segment is the first one's, the second one's or both's; but for all of both's, every pair would come twice.
+        // Each segment is the first one's, the second one's or both's; but for all of both's, every pair would come
+        // twice.
         let expected = 3_usize.pow(width.number().into()).div_ceil(2);
         match width {
             Width::Sixteen => assert!(done > 10_000 && whole > 10, "{done} {whole}"),

@@ -41,8 +41,8 @@ fn first_free(extents: &[Extent], size: usize) -> Option<usize> {
         .find(|&base| extents.iter().all(|extent| extent.end() <= base || base + size <= extent.base))
 }
 
-/// Segments with gaps between them, by chance, in no order of their numbers; as many as the width allows, or as there is
-/// room for.
+/// Segments with gaps between them, by chance, in no order of their numbers; as many as the width allows, or as there
+/// is room for.
 fn scattered(random: &mut Random, width: Width) -> Store {
     let mut extents = Vec::new();
     let mut end = 0;

@@ -1,5 +1,5 @@
-//! New passwords: 12 by the current one of the mode and by no other, so that the two of a cluster may become equal. What
-//! one handle is good for then, and how that ends.
+//! New passwords: 12 by the current one of the mode and by no other, so that the two of a cluster may become equal.
+//! What one handle is good for then, and how that ends.
 
 mod support;
 

@@ -12,8 +12,8 @@ use support::*;
 const ROWS: usize = 60;
 const ROW_CALLS: usize = 500;
 
-/// Counts the calls that came to 22, those of them by a handle that opens both modes, and those by handles of each width;
-/// gives how many segments were frozen.
+/// Counts the calls that came to 22, those of them by a handle that opens both modes, and those by handles of each
+/// width; gives how many segments were frozen.
 fn row(random: &mut Random, refused: &mut BTreeMap<&'static str, usize>) -> usize {
     let (mut bench, mut watch) = (Bench::starting(), Watch::default());
     for _ in 0..ROW_CALLS {

@@ -1,6 +1,6 @@
-//! Those who write learn nothing of what lies there. Two states begin alike but for the bytes of one cluster's segments,
-//! its read password, and memory that is no segment's; no call reads by a handle of that cluster. Then both reply the
-//! same, and stay alike but for these.
+//! Those who write learn nothing of what lies there. Two states begin alike but for the bytes of one cluster's
+//! segments, its read password, and memory that is no segment's; no call reads by a handle of that cluster. Then both
+//! reply the same, and stay alike but for these.
 
 mod support;
 

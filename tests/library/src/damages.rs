@@ -8,10 +8,7 @@ use std::collections::BTreeSet;
 listed! {
     /// Where damage was done, as seen from the call that came upon it.
     pub enum Where {
-        LastRecord,
-        ItsRecord,
-        ItsNode,
-        Elsewhere,
+        LastRecord, ItsRecord, ItsNode, Elsewhere,
     }
 }
 

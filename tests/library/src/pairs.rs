@@ -58,8 +58,8 @@ pub fn does(store: &Store, call: &Call, buffer_bytes: usize) -> bool {
     refusal(call, &found).is_none()
 }
 
-/// Whether the handle validates in one of the modes in one of the stores, as the model judges. One of another width than
-/// its cluster's does not.
+/// Whether the handle validates in one of the modes in one of the stores, as the model judges. One of another width
+/// than its cluster's does not.
 pub fn validates(stores: &[Store; 2], handle: &Handle, modes: &[Mode]) -> bool {
     let validates = |store: &Store, mode: u32| {
         let handle = handle.to_bytes();
@@ -69,8 +69,8 @@ pub fn validates(stores: &[Store; 2], handle: &Handle, modes: &[Mode]) -> bool {
     stores.any(|store| modes.iter().any(|mode| validates(store, mode.number())))
 }
 
-/// Puts the question to both copies. Gives the answer that both get, or tells in what they differ: in the answer, in the
-/// bytes shown, or in what `agree` looks at afterwards.
+/// Puts the question to both copies. Gives the answer that both get, or tells in what they differ: in the answer, in
+/// the bytes shown, or in what `agree` looks at afterwards.
 pub fn ask_both(
     guard: Guard,
     copies: &mut [Held; 2],

@@ -10,7 +10,8 @@ use model::words::*;
 /// What takes a handle: alone, or in a batch.
 #[rustfmt::skip]
 const WITH_A_HANDLE: [u8; 12] = [
-    DELETE_CLUSTER, NEW_SEGMENT, DELETE_SEGMENT, READ, WRITE, WEAKEN, REDUCE, NEW_PASSWORD, FREEZE, JOIN, VALIDATION, LOOK,
+    DELETE_CLUSTER, NEW_SEGMENT, DELETE_SEGMENT, READ, WRITE, WEAKEN, REDUCE, NEW_PASSWORD, FREEZE, JOIN,
+    VALIDATION, LOOK,
 ];
 /// What takes a segment, and what takes a current node or a second handle, which can be nowhere.
 const WITH_A_SEGMENT: [u8; 6] = [NEW_SEGMENT, DELETE_SEGMENT, READ, WRITE, FREEZE, LOOK];

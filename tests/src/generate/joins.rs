@@ -2,6 +2,7 @@
 //! of one cluster, each of them valid: none, one or two things are made wrong in them.
 
 use super::handles::{bits, gapped, is_inactive, noting, of_no_length, place, width_of};
+use crate::listed;
 use crate::words::*;
 
 /// What a join is asked with.
@@ -12,17 +13,11 @@ pub struct Join {
     pub handles: [HandleBytes; 2],
 }
 
-/// In the order in which two of them are put into one join.
-#[derive(Clone, Copy)]
-enum Fault {
-    Inactive,
-    Apart,
-    OtherWidth,
-    Gapped,
-    NotValid,
-    Nowhere,
-    NoMode,
-    NoLength,
+listed! {
+    /// In the order in which two of them are put into one join.
+    enum Fault {
+        Inactive, Apart, OtherWidth, Gapped, NotValid, Nowhere, NoMode, NoLength,
+    }
 }
 
 /// Which of the two handles it is done to.
@@ -37,17 +32,6 @@ enum To {
 const IN_LISTS: [Fault; 6] =
     [Fault::Inactive, Fault::Apart, Fault::Gapped, Fault::NotValid, Fault::Nowhere, Fault::NoMode];
 
-const ALL: [Fault; 8] = [
-    Fault::Inactive,
-    Fault::Apart,
-    Fault::OtherWidth,
-    Fault::Gapped,
-    Fault::NotValid,
-    Fault::Nowhere,
-    Fault::NoMode,
-    Fault::NoLength,
-];
-
 /// A join of a list; none where no cluster is active. Sometimes the cluster is one whose handles open both modes.
 pub fn join(random: &mut Random, store: &Store) -> Option<Join> {
     join_with(random, store, &IN_LISTS)
@@ -55,7 +39,7 @@ pub fn join(random: &mut Random, store: &Store) -> Option<Join> {
 
 /// The same with handles of every width, of another width than their cluster's and of lengths that no handle has.
 pub fn join_of_widths(random: &mut Random, store: &Store) -> Option<Join> {
-    join_with(random, store, &ALL)
+    join_with(random, store, &Fault::ALL)
 }
 
 fn join_with(random: &mut Random, store: &Store, faults: &[Fault]) -> Option<Join> {

@@ -18,8 +18,8 @@ const PAUSE: Duration = Duration::from_millis(2);
 /// How many pieces come with pauses, about.
 const PAUSED_PIECES: usize = 4;
 
-/// One read gets one piece: each is a datagram, and an empty one is the end. A read has to ask for as much as a piece has,
-/// or for as much as is wanted at all, as those of `benchrun` do: the rest of a datagram is lost.
+/// One read gets one piece: each is a datagram, and an empty one is the end. A read has to ask for as much as a piece
+/// has, or for as much as is wanted at all, as those of `benchrun` do: the rest of a datagram is lost.
 fn piece_by_piece(program: &Program, pieces: &[&[u8]]) -> io::Result<Outcome> {
     let (ours, theirs) = UnixDatagram::pair()?;
     let mut command = program.command();

@@ -6,6 +6,7 @@ use super::questions::Maker;
 use super::stores::segments_of;
 use super::{below, bits, near};
 use crate::question::BEYOND;
+use model::listed;
 use model::words::*;
 
 /// What a call about one segment of a node is asked with.
@@ -17,35 +18,14 @@ struct Aimed {
     has_length: bool,
 }
 
-/// In the order in which two of them are put into one call.
-#[derive(Clone, Copy)]
-enum Fault {
-    Absent,
-    /// By a handle that is not primary either.
-    NotReferenced,
-    NotValid,
-    OtherWidth,
-    Inactive,
-    Elsewhere,
-    Gapped,
-    NoSegment,
-    NoNode,
-    NoLength,
-}
-
-impl Fault {
-    const ALL: [Fault; 10] = [
-        Fault::Absent,
-        Fault::NotReferenced,
-        Fault::NotValid,
-        Fault::OtherWidth,
-        Fault::Inactive,
-        Fault::Elsewhere,
-        Fault::Gapped,
-        Fault::NoSegment,
-        Fault::NoNode,
-        Fault::NoLength,
-    ];
+listed! {
+    /// In the order in which two of them are put into one call.
+    enum Fault {
+        Absent,
+        /// By a handle that is not primary either.
+        NotReferenced,
+        NotValid, OtherWidth, Inactive, Elsewhere, Gapped, NoSegment, NoNode, NoLength,
+    }
 }
 
 impl Maker<'_> {

@@ -12,46 +12,32 @@ pub const LAST_PLACE: (usize, usize) = (NODES - 1, CLUSTERS - 1);
 
 listed! {
     pub enum Damage {
-        ActiveByteTwo,
-        ActiveByteAbove,
+        ActiveByteTwo, ActiveByteAbove,
         /// The image's form of a present segment of length zero.
         AbsentWithBase,
-        InactiveWithReadPassword,
-        InactiveWithWritePassword,
+        InactiveWithReadPassword, InactiveWithWritePassword,
         /// The byte before the segments.
         InactiveWithLastPasswordByte,
-        InactiveWithBase,
-        InactiveWithSegment,
+        InactiveWithBase, InactiveWithSegment,
         /// The last byte of the record: a mark of 1 on its last segment.
         InactiveWithLastByte,
-        InactiveWithMark,
-        InactiveWithMarkAbove,
+        InactiveWithMark, InactiveWithMarkAbove,
         /// A mark of 1 on an absent segment, and one that is no mark.
-        AbsentWithMark,
-        AbsentWithMarkAbove,
+        AbsentWithMark, AbsentWithMarkAbove,
         /// On a present segment.
-        MarkTwo,
-        MarkAbove,
+        MarkTwo, MarkAbove,
         /// An active cluster whose width is 0, and one whose width is another that is none of the three.
-        ActiveOfNoWidth,
-        ActiveOfAnotherWidth,
+        ActiveOfNoWidth, ActiveOfAnotherWidth,
         /// An inactive cluster with one of the three, and with another.
-        InactiveWithWidth,
-        InactiveWithAnotherWidth,
+        InactiveWithWidth, InactiveWithAnotherWidth,
         /// A segment is present, and its number is the width, or above it.
-        PresentAtTheWidth,
-        PresentAboveTheWidth,
-        BaseAbove,
-        LengthAbove,
-        EndAbove,
+        PresentAtTheWidth, PresentAboveTheWidth,
+        BaseAbove, LengthAbove, EndAbove,
         /// Base 4,095 and length 2.
         LastByteAndOneMore,
-        OverlapInACluster,
-        OverlapOfClusters,
+        OverlapInACluster, OverlapOfClusters,
         /// One byte is shared, at a multiple of 64; the next two have it beside one.
-        OverlapAtAWord,
-        OverlapBeforeAWord,
-        OverlapAfterAWord,
+        OverlapAtAWord, OverlapBeforeAWord, OverlapAfterAWord,
         /// A segment is in the midst of a longer one.
         OverlapInsideWords,
         /// One of the two is the whole node.

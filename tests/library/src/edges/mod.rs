@@ -125,8 +125,8 @@ fn same(judge: Judge, held: &mut Held) -> Result<bool, String> {
     }
 }
 
-/// Each stretch in each node, in a cluster of each width, looked at with every argument where it changes. Gives how many
-/// looks there were, and how many of them showed something.
+/// Each stretch in each node, in a cluster of each width, looked at with every argument where it changes. Gives how
+/// many looks there were, and how many of them showed something.
 pub fn looks(guard: Guard, seed: u64) -> Result<(u64, u64), String> {
     around_segments(guard, seed, |lone, current, segment| {
         let primary = lone.handle(Mode::Read);

@@ -88,8 +88,8 @@ fn put(guard: Guard, held: &Held, question: &Question, asked: &mut Asked) -> Res
     Ok(())
 }
 
-/// Every call with every length byte in every handle that it takes, alone and, of two, in both; what a handle of 28 bytes
-/// has behind its length is anything.
+/// Every call with every length byte in every handle that it takes, alone and, of two, in both; what a handle of 28
+/// bytes has behind its length is anything.
 pub fn lengths(guard: Guard, seed: u64) -> Result<Asked, String> {
     let mut asked = (0, 0);
     with_each(seed, |random, _, known| {

@@ -12,8 +12,7 @@ pub mod handles;
 
 use crate::ffi::{self, gelmuszta_handle, gelmuszta_image, gelmuszta_memory, gelmuszta_password};
 use crate::image::{decode, encode, Image};
-use crate::question::{Answer, Held, Memory, Question, BEYOND};
-use calls::weaken;
+use crate::question::{Answer, Held, Memory, Question};
 use handles::Presented;
 use model::words::*;
 use std::ptr::{from_mut, from_ref};
@@ -114,40 +113,4 @@ pub struct Lent<'a> {
     pub image: &'a mut Image,
     pub memory: &'a mut Memory,
     pub buffer: &'a mut [u8],
-}
-
-impl Lent<'_> {
-    /// Runs one call by the handles that it presents, with `beyond` in the place of arguments that are [`BEYOND`].
-    pub fn run(self, call: &Call, presented: &Presented, beyond: usize) -> Reply {
-        let wide = |number: &u32| match *number {
-            BEYOND => beyond,
-            number => number as usize,
-        };
-        let Presented { handle, other } = presented;
-        #[rustfmt::skip]
-        let reply = match call {
-            Call::NewCluster { node, local, width, read, write } => {
-                self.new_cluster((wide(node), wide(local)), *width, read, write)
-            }
-            Call::DeleteCluster { node, .. } => self.delete_cluster(wide(node), handle),
-            Call::NewSegment { node, segment, size, .. } => {
-                self.new_segment(wide(node), wide(segment), wide(size), handle)
-            }
-            Call::DeleteSegment { node, segment, .. } => {
-                self.delete_segment(wide(node), wide(segment), handle)
-            }
-            Call::Read { segment, .. } => self.read(wide(segment), handle),
-            Call::Write { segment, .. } => self.write(wide(segment), handle),
-            Call::Weaken { mask, .. } => weaken(*mask, handle),
-            Call::Reduce { mode, .. } => self.reduce(wide(mode), handle),
-            Call::NewPassword { mode, password, .. } => {
-                self.new_password(wide(mode), handle, password)
-            }
-            Call::Freeze { node, segment, .. } => self.freeze(wide(node), wide(segment), handle),
-            Call::Join { mode, .. } => self.join(wide(mode), handle, other),
-            Call::Look { node, segment, .. } => self.look(wide(node), wide(segment), handle),
-            Call::Validate { mode, .. } => self.validate(wide(mode), handle),
-        };
-        reply
-    }
 }

@@ -18,7 +18,8 @@ const DEEDS: [Deed; 30] = [
     "WrittenByAWeaker", "WrittenGuess",
     // A segment of the cluster that lies where one of it was before.
     "MadeAgain",
-    // A new write password that is the read password of one copy alone; anything by handles that open both modes in one.
+    // A new write password that is the read password of one copy alone; anything by handles that open both modes in
+    // one.
     "Guessed", "ByBothInOne",
     // Call 1 for the cluster, which was deleted; a write and a deletion from then on; at another width than it had.
     "MadeAnew", "WrittenAnew", "DeletedAnew", "MadeWider", "MadeSmaller",

@@ -1,6 +1,6 @@
-//! Two copies of a store that differ in what lies in one cluster's segments, in its read password, and in memory that is
-//! no segment's: whoever does not read by handles of that cluster gets the same from both, also by handles that open it
-//! for writing. Judged by the library's side alone; what a list may not have is judged by the model.
+//! Two copies of a store that differ in what lies in one cluster's segments, in its read password, and in memory that
+//! is no segment's: whoever does not read by handles of that cluster gets the same from both, also by handles that open
+//! it for writing. Judged by the library's side alone; what a list may not have is judged by the model.
 
 mod calls;
 mod count;

@@ -76,7 +76,8 @@ table! {
     a_refusal_for_the_byte_that_is_there_delete: kept_by(DELETE_SEGMENT, is_odd) => writers(DELETE_SEGMENT, REPLIES);
     a_refusal_for_the_byte_that_is_there_freeze: kept_by(FREEZE, is_odd) => writers(FREEZE, REPLIES);
     a_cluster_that_is_not_deleted_while_something_lies_there:
-        kept_by(DELETE_CLUSTER, |seen| !seen.in_the_cluster().into_iter().all(is_zero)) => writers(DELETE_CLUSTER, REPLIES);
+        kept_by(DELETE_CLUSTER, |seen| !seen.in_the_cluster().into_iter().all(is_zero))
+        => writers(DELETE_CLUSTER, REPLIES);
     a_segment_that_is_not_deleted_while_something_lies_there: kept_by(DELETE_SEGMENT, is_not_zero)
         => writers(DELETE_SEGMENT, REPLIES);
     a_write_that_gives_back_what_was_there: written(|it, there| it.buffer[..there.len()].copy_from_slice(there))
@@ -173,7 +174,8 @@ fn a_byte_more(it: &mut After) {
 table! {
     a_new_segment_that_is_not_cleared: not_cleared(|_, _| true) => writers(NEW_SEGMENT, SEGMENTS);
     a_new_segment_that_is_not_cleared_first: not_cleared(|at, _| at == 0) => writers(NEW_SEGMENT, SEGMENTS);
-    a_new_segment_that_is_not_cleared_last: not_cleared(|at, length| at + 1 == length) => writers(NEW_SEGMENT, SEGMENTS);
+    a_new_segment_that_is_not_cleared_last:
+        not_cleared(|at, length| at + 1 == length) => writers(NEW_SEGMENT, SEGMENTS);
     a_new_segment_that_is_not_cleared_from_64_on: not_cleared(|at, _| at >= 64) => writers(NEW_SEGMENT, SEGMENTS);
     a_new_segment_that_keeps_off_what_lies_there: on(NEW_SEGMENT, 0, in_clean_memory) => writers(NEW_SEGMENT, RECORDS);
     a_new_segment_that_keeps_off_what_lies_there_refused: instead(NEW_SEGMENT, 0, no_room)

@@ -75,13 +75,16 @@ table! {
     whole_where_one_is_primary_alone: other(WHOLE, (23, |it| it.is_primary(0) || it.is_primary(1))) => joins(23);
     whole_where_neither_is_primary_alone:
         other(WHOLE, (23, |it| it.is_whole() && !it.is_primary(0) && !it.is_primary(1))) => joins(23);
-    whole_where_the_first_is_not_primary_alone: other(WHOLE, (23, |it| it.is_whole() && !it.is_primary(0))) => joins(23);
-    whole_where_the_second_is_not_primary_alone: other(WHOLE, (23, |it| it.is_whole() && !it.is_primary(1))) => joins(23);
+    whole_where_the_first_is_not_primary_alone:
+        other(WHOLE, (23, |it| it.is_whole() && !it.is_primary(0))) => joins(23);
+    whole_where_the_second_is_not_primary_alone:
+        other(WHOLE, (23, |it| it.is_whole() && !it.is_primary(1))) => joins(23);
     two_primary_handles_joined:
         other(WHOLE, (23, |it| it.is_whole() && !(it.is_primary(0) && it.is_primary(1)))) => joins(23);
     whole_by_what_both_reference: other(WHOLE, (23, |it| it.referenced()[0] & it.referenced()[1] == it.flat()))
         => joins(23);
-    all_but_one_taken_for_all: other(WHOLE, (23, |it| it.union().count_ones() + 1 >= it.flat().count_ones())) => joins(0);
+    all_but_one_taken_for_all:
+        other(WHOLE, (23, |it| it.union().count_ones() + 1 >= it.flat().count_ones())) => joins(0);
     all_of_the_first_eight_taken_for_all:
         other(WHOLE, (23, |it| it.union() & it.flat() & 0x00ff == it.flat() & 0x00ff)) => joins(0);
     all_of_eight_alone: other(WHOLE, (23, |it| it.is_whole() && it.flat() == 0x00ff)) => joins(23);

@@ -109,7 +109,8 @@ fn first_in(code: u8) -> Wrong {
 table! {
     after_1: unsound_first(|code| code != WEAKEN, |held| !is_sound(held)) => unsound();
     after_1_on_damage: unsound_first(|code| code != WEAKEN, is_damaged) => unsound();
-    after_1_on_no_damage: unsound_first(|code| code != WEAKEN, |held| !is_damaged(held) && !is_sound(held)) => unsound();
+    after_1_on_no_damage:
+        unsound_first(|code| code != WEAKEN, |held| !is_damaged(held) && !is_sound(held)) => unsound();
 }
 
 mod after_1_in_one_call {
