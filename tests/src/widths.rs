@@ -174,10 +174,7 @@ fn other(call: &Call, handle: &Handle, cluster: &Cluster) -> Vec<Sight> {
     let segment = call.segment().filter(|segment| is_beyond(*segment));
     let mode = call.needed_mode();
     let made_from = mode.is_some_and(|mode| handle.is_made_from(cluster.primary(mode)));
-    let password = match made_from {
-        true => Sight::OtherMadeFrom,
-        false => Sight::OtherForged,
-    };
+    let password = if made_from { Sight::OtherMadeFrom } else { Sight::OtherForged };
     let segment = segment.map(|_| Sight::SegmentOfTheHandle);
     segment.into_iter().chain([Sight::Other(width, own), password]).collect()
 }

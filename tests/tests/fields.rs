@@ -110,10 +110,7 @@ fn whatever_the_cluster_s_width() {
             let mut gapped = forged;
             gapped.selector.subselectors[1] = 1;
             for segment in 0..20 {
-                let number = match segments(other).contains(&segment) {
-                    true => 25,
-                    false => 3,
-                };
+                let number = if segments(other).contains(&segment) { 25 } else { 3 };
                 for call in calls(segment, forged, forged) {
                     assert_eq!(state.number(&call), number, "{call:?}");
                 }

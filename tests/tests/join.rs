@@ -141,10 +141,7 @@ fn with_itself_and_with_less() {
             let selector = Selector::new(width, parts);
             let handle = Handle::converted(0, 2, &READ_SECRET, selector);
             let reduction = bench.reply(Call::reduce(READ_MODE, handle));
-            let expected = match selector.is_primary() {
-                true => Reply::refused(23),
-                false => reduction,
-            };
+            let expected = if selector.is_primary() { Reply::refused(23) } else { reduction };
             let less = reduced_of(width, selector.referenced() & 0x5a5a);
             let nothing = reduced_of(width, 0);
             for other in [handle, less, nothing] {

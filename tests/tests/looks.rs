@@ -164,10 +164,7 @@ fn elsewhere_is_every_other_node() {
         let handle = Handle::primary(Width::Four, node as u16, 2, READ_SECRET);
         let unknown = Handle::primary(Width::Four, node as u16, 2, [9; 16]);
         for current in 0..NODES as u32 {
-            let (known, other) = match current == node {
-                true => (None, Err(9)),
-                false => (Some(5), Err(5)),
-            };
+            let (known, other) = if current == node { (None, Err(9)) } else { (Some(5), Err(5)) };
             assert_eq!(bench.look(current, 0, handle).err(), known);
             assert_eq!(bench.look(current, 0, unknown), other);
         }

@@ -48,10 +48,7 @@ fn every_meeting_of_two_handles() {
                 continue;
             };
             let [handle, other] = join.handles;
-            let mode = match join.is_a_mode {
-                true => join.mode.number(),
-                false => 0,
-            };
+            let mode = if join.is_a_mode { join.mode.number() } else { 0 };
             let call = Call::join(mode, handle, other);
             let found = Found { store: &store, memory_bytes: memory_bytes(random), buffer_bytes: 0 };
             let number = refusal(&call, &found).unwrap_or(0);

@@ -81,15 +81,9 @@ fn numbers_of_weakening_in_their_order() {
             };
             let mut handle = Handle::converted(0, 2, &READ_SECRET, Selector::new(width, parts));
             handle.node += 4 * u16::from(nowhere);
-            let handle = match cut_off {
-                true => cut(handle, set as usize),
-                false => handle.into(),
-            };
+            let handle = if cut_off { cut(handle, set as usize) } else { handle.into() };
             let last = flat - (flat >> 1);
-            let mask = match empty {
-                true => !two,
-                false => last | !flat,
-            };
+            let mask = if empty { !two } else { last | !flat };
             let numbers = [(cut_off, 25), (nowhere, 2), (gapped, 4), (empty, 21), (spent, 17)];
             let first = numbers.iter().find(|(applies, _)| *applies);
             let mut state = Bench::starting();

@@ -126,10 +126,7 @@ fn by_chance(random: &mut Random, damage: Option<Damage>, tally: &mut Tally) -> 
     let store = stores::store(random, fill);
     let mut held = stores::held(random, &store);
     if let Some(damage) = damage {
-        let place = match random.one_in(2) {
-            true => LAST_PLACE,
-            false => (below(random, NODES), below(random, CLUSTERS)),
-        };
+        let place = if random.one_in(2) { LAST_PLACE } else { (below(random, NODES), below(random, CLUSTERS)) };
         inflict(random, &mut held, damage, place);
         tally.note_damage(BATCH, damage, Where::seen_from(None, place));
     }
@@ -150,10 +147,7 @@ fn by_chance(random: &mut Random, damage: Option<Damage>, tally: &mut Tally) -> 
 }
 
 fn mode(random: &mut Random) -> usize {
-    let mode = match random.one_in(2) {
-        true => READ_MODE as usize,
-        false => WRITE_MODE as usize,
-    };
+    let mode = if random.one_in(2) { READ_MODE as usize } else { WRITE_MODE as usize };
     match random.below(16) {
         0 => random.byte().into(),
         // Right in the lowest byte, the lowest two, or the lowest four, alone.
@@ -188,10 +182,7 @@ fn handles(random: &mut Random, store: &Store, width: Width, count: usize) -> Ve
             width: Some(width).filter(|_| !random.one_in(8)),
         };
         let handle = handle(random, store, &[], wish);
-        let handle = match handle.width() == width {
-            true => handle,
-            false => at_width(&handle, width),
-        };
+        let handle = if handle.width() == width { handle } else { at_width(&handle, width) };
         joined.extend(handle.to_bytes());
     }
     let more = below(random, width.handle_bytes());

@@ -79,10 +79,7 @@ fn same_soundness(held: &mut Held) -> Result<(), String> {
 }
 
 fn same_conversion(random: &mut Random) -> Result<(), String> {
-    let parameter = match random.one_in(2) {
-        true => random.byte().into(),
-        false => random.number() as u16,
-    };
+    let parameter = if random.one_in(2) { random.byte().into() } else { random.number() as u16 };
     let password = password(random);
     let expected = convert(&password, parameter);
     let found = guard::convert(&password, parameter);

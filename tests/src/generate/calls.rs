@@ -228,10 +228,7 @@ impl Maker {
     /// Call 11. One in four has handles as other calls have them, the second mostly one that was given for the
     /// cluster of the first.
     fn join(&mut self, record: &mut Record) {
-        let aimed = match self.random.one_in(4) {
-            true => None,
-            false => joins::join(&mut self.random, &self.session.store),
-        };
+        let aimed = if self.random.one_in(4) { None } else { joins::join(&mut self.random, &self.session.store) };
         let Some(join) = aimed else {
             self.call_with_mode(record);
             return self.put_other(record);

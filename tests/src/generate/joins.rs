@@ -43,15 +43,9 @@ pub fn join_of_widths(random: &mut Random, store: &Store) -> Option<Join> {
 }
 
 fn join_with(random: &mut Random, store: &Store, faults: &[Fault]) -> Option<Join> {
-    let equal = match random.one_in(5) {
-        true => place(random, store, Cluster::has_equal_passwords),
-        false => None,
-    };
+    let equal = if random.one_in(5) { place(random, store, Cluster::has_equal_passwords) } else { None };
     let (node, local) = equal.or_else(|| place(random, store, |cluster| cluster.active))?;
-    let mode = match random.one_in(2) {
-        true => Mode::Read,
-        false => Mode::Write,
-    };
+    let mode = if random.one_in(2) { Mode::Read } else { Mode::Write };
     let mut making =
         Making { mode, is_a_mode: true, handles: two(random, store, (node, local), mode), has_length: [true; 2] };
     let mut faults = chosen(random, faults);

@@ -124,10 +124,7 @@ impl Family<'_> {
     /// Each weakening, and each of its outcomes reduced.
     fn weakenings(&self, mut handle: Handle, masks: &[u16]) -> String {
         let all: Vec<String> = masks.iter().map(|mask| digits(handle.width(), *mask)).collect();
-        let between = match all.iter().all(|digits| digits.len() == 2) {
-            true => "",
-            false => " ",
-        };
+        let between = if all.iter().all(|digits| digits.len() == 2) { "" } else { " " };
         let mut text = format!("# Masks {}.\n", all.join(between));
         for &mask in masks {
             let Some(weaker) = handle.weaken(mask) else {

@@ -99,10 +99,7 @@ pub fn of(kind: Kind, width: Width) -> impl Iterator<Item = Faulty> {
     });
     let can_meet = |set: &Vec<u8>| !(set.contains(&14) && set.contains(&22));
     sets.filter(can_meet).flat_map(move |set| {
-        let marks = match numbers.contains(&22) {
-            true => vec![set.contains(&22)],
-            false => vec![false, true],
-        };
+        let marks = if numbers.contains(&22) { vec![set.contains(&22)] } else { vec![false, true] };
         let faulty = move |frozen| with(kind, width, set.clone(), frozen);
         marks.into_iter().map(faulty)
     })
@@ -138,10 +135,7 @@ fn store(kind: Kind, width: Width, low: usize, frozen: bool) -> Store {
 /// A call with the faults that stand for these numbers, each of them something of its own.
 fn with(kind: Kind, width: Width, faults: Vec<u8>, frozen: bool) -> Faulty {
     let has = |number: u8| faults.contains(&number);
-    let own = match has(OTHER_WIDTH) {
-        true => others(width).nth(faults.len() % 2).expect("there are two"),
-        false => width,
-    };
+    let own = if has(OTHER_WIDTH) { others(width).nth(faults.len() % 2).expect("there are two") } else { width };
     let low = own.segments().min(width.segments()) - 4;
     let node = match (has(2), has(5)) {
         (true, _) => 4,
@@ -155,10 +149,7 @@ fn with(kind: Kind, width: Width, faults: Vec<u8>, frozen: bool) -> Faulty {
         (false, true) => low + 1,
         (true, true) => low,
     };
-    let asked = match has(3) {
-        true => own.number().into(),
-        false => segment as u32,
-    };
+    let asked = if has(3) { own.number().into() } else { segment as u32 };
     let mut store = store(kind, width, low, frozen);
     if has(1) {
         make_unsound(&mut store);

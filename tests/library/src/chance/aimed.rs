@@ -41,10 +41,7 @@ impl Maker<'_> {
 
     /// What needs a write handle needs a primary one.
     fn aimed(&mut self, mode: Mode) -> Aimed {
-        let right = match self.random.one_in(2) {
-            true => right(self.random, self.store, mode),
-            false => None,
-        };
+        let right = if self.random.one_in(2) { right(self.random, self.store, mode) } else { None };
         match right {
             Some(aimed) => with_faults(self.random, self.store, aimed),
             None => self.any(mode),
@@ -120,10 +117,7 @@ impl Aimed {
             }
             // Where the two passwords are equal, the other mode's is no fault.
             Fault::NotValid if random.one_in(2) && self.handle.selector.is_primary() && !own.has_equal_passwords() => {
-                self.handle.password = match self.handle.password == own.read {
-                    true => own.write,
-                    false => own.read,
-                };
+                self.handle.password = if self.handle.password == own.read { own.write } else { own.read };
             }
             Fault::NotValid => self.handle.password = near(random, self.handle.password),
             Fault::OtherWidth => self.handle = of_another_width(random, store, self.handle),

@@ -203,16 +203,10 @@ fn put_both(random: &mut Random, store: &mut Store, both: [Extent; 2], place: (u
     for extent in both {
         make_room(store, place.0, extent);
     }
-    let [first, second] = match random.one_in(2) {
-        true => both,
-        false => [both[1], both[0]],
-    };
+    let [first, second] = if random.one_in(2) { both } else { [both[1], both[0]] };
     let at = below(random, SEGMENTS);
     let other = (at + 1 + below(random, SEGMENTS - 1)) % SEGMENTS;
-    let second_place = match random.one_in(2) {
-        true => place,
-        false => other_cluster(random, place),
-    };
+    let second_place = if random.one_in(2) { place } else { other_cluster(random, place) };
     *segment_of(random, store, place, at) = present(first.base, first.length);
     *segment_of(random, store, second_place, other) = present(second.base, second.length);
 }

@@ -8,19 +8,13 @@ use model::words::*;
 
 impl Maker<'_> {
     pub(super) fn join(&mut self) -> Call {
-        let aimed = match self.random.one_in(4) {
-            true => None,
-            false => joins::join_of_widths(self.random, self.store),
-        };
+        let aimed = if self.random.one_in(4) { None } else { joins::join_of_widths(self.random, self.store) };
         let Some(join) = aimed else {
             return self.as_other_calls();
         };
         let [handle, other] = join.handles;
         let right = join.mode.number();
-        let mode = match join.is_a_mode {
-            true => right,
-            false => no_mode(self.random, right),
-        };
+        let mode = if join.is_a_mode { right } else { no_mode(self.random, right) };
         Call::join(mode, handle, other)
     }
 

@@ -14,10 +14,7 @@ impl Maker<'_> {
         let any = (below(self.random, NODES), below(self.random, CLUSTERS));
         let (node, local) = inactive.unwrap_or(any);
         let read = password(self.random);
-        let write = match self.random.one_in(6) {
-            true => read,
-            false => password(self.random),
-        };
+        let write = if self.random.one_in(6) { read } else { password(self.random) };
         Call::NewCluster {
             node: self.near(node, NODES),
             local: self.near(local, CLUSTERS),

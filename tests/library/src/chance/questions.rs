@@ -63,10 +63,7 @@ impl Maker<'_> {
 
     /// A number that no `u32` holds. In fewer bytes some of them would be small.
     fn beyond(&mut self) -> usize {
-        let bound = match self.random.one_in(2) {
-            true => NODES,
-            false => SEGMENTS + 1,
-        };
+        let bound = if self.random.one_in(2) { NODES } else { SEGMENTS + 1 };
         let small = below(self.random, bound);
         match self.random.below(4) {
             0 => usize::MAX,
@@ -91,10 +88,7 @@ impl Maker<'_> {
 
     /// A mode, and mostly its number.
     pub(super) fn mode(&mut self) -> (Mode, u32) {
-        let (mode, number) = match self.random.one_in(2) {
-            true => (Mode::Read, READ_MODE),
-            false => (Mode::Write, WRITE_MODE),
-        };
+        let (mode, number) = if self.random.one_in(2) { (Mode::Read, READ_MODE) } else { (Mode::Write, WRITE_MODE) };
         match self.random.one_in(20) {
             true => (mode, self.random.byte().into()),
             false => (mode, self.near(number as usize, MODES)),

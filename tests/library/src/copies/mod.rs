@@ -84,10 +84,7 @@ impl Pair {
             aimed.remove(below(random, 2));
         }
         // As wide as the cluster, as a rule, so that nothing but passwords speaks against it.
-        let wide = match random.one_in(4) {
-            true => width(random),
-            false => cluster.known_width().expect("it is active"),
-        };
+        let wide = if random.one_in(4) { width(random) } else { cluster.known_width().expect("it is active") };
         for bytes in aimed {
             change_handle(bytes, |handle| {
                 handle.node = self.apart.0 as u16;

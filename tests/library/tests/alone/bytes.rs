@@ -84,10 +84,7 @@ fn widths_of_records() {
         for width in 0..=u8::MAX {
             let mut held = before.clone();
             held.image[record_at(node, place).start + WIDTH_AT] = width;
-            let sound = match active {
-                true => [4, 8, 16].contains(&width),
-                false => width == 0,
-            };
+            let sound = if active { [4, 8, 16].contains(&width) } else { width == 0 };
             assert_eq!(guard::is_sound(&mut held.image), sound);
             let number = match (sound, active && width != 8) {
                 (false, _) => 1,

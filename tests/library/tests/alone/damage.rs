@@ -29,10 +29,7 @@ fn beside(random: &mut Random, (store, call): &(Store, Call), damage: Damage, pl
     let mut held = stores::held(random, store);
     inflict(random, &mut held, damage, place);
     let mut lengths = call.presented_bytes().map(<[u8]>::len);
-    let number = match lengths.all(|length| [21, 23, 27].contains(&length)) {
-        true => 1,
-        false => 25,
-    };
+    let number = if lengths.all(|length| [21, 23, 27].contains(&length)) { 1 } else { 25 };
     refused(&held, call, number);
 }
 

@@ -225,10 +225,7 @@ fn both_replaced_where_equal(cluster: &mut Cluster, it: &Asked) {
 
 /// The first that the search meets.
 fn one_replaced_where_equal(cluster: &mut Cluster, it: &Asked, first: Mode) {
-    let mode = match cluster.has_equal_passwords() {
-        true => first,
-        false => it.mode,
-    };
+    let mode = if cluster.has_equal_passwords() { first } else { it.mode };
     *cluster.primary_mut(mode) = it.password;
 }
 
