@@ -3,13 +3,10 @@
 use crate::chance::damage::{inflict, Damage, LAST_PLACE};
 use crate::chance::handles::{at_width, handle, Wish};
 use crate::chance::stores::{self, Fill};
-use crate::chance::{below, bytes, cases, width};
-use crate::compare::{ask, same_bytes, Sides};
 use crate::damages::Where;
 use crate::guard;
-use crate::question::{Held, Question, BATCH, BEYOND, READ_MODE, WRITE_MODE};
 use crate::tally::Tally;
-use model::words::*;
+use crate::words::*;
 
 /// Something that validates many handles, given the mode and the width; [`guard::validate_all`] is the one to be
 /// compared.

@@ -1,11 +1,8 @@
 //! What holds of joins whatever they join, judged by the library's side alone.
 
-use crate::chance::cases;
 use crate::chance::questions::Maker;
 use crate::chance::stores::{self, Fill};
-use crate::compare::Guard;
-use crate::question::{Answer, Held, Question};
-use model::words::*;
+use crate::words::*;
 
 /// Gives how many joins were done.
 pub fn compare(guard: Guard, seed: u64, joins: u64) -> Result<u64, String> {

@@ -34,3 +34,12 @@ pub mod tally;
 pub mod untold;
 pub mod widths;
 pub mod writers;
+
+/// What nearly every file speaks of.
+pub mod words {
+    pub use crate::chance::*;
+    pub use crate::compare::*;
+    pub use crate::image::*;
+    pub use crate::question::*;
+    pub use model::words::*;
+}

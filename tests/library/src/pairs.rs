@@ -1,10 +1,6 @@
 //! Two copies of a store and the cluster that is set apart in them: what comparisons of copies share.
 
-use crate::chance::handles;
-use crate::compare::{same_answer, same_shown, Guard};
-use crate::image::decode;
-use crate::question::{Answer, Held, Question};
-use model::words::*;
+use crate::words::*;
 use std::ops::Range;
 
 /// A pair of copies and the place of the cluster that is set apart.

@@ -1,10 +1,8 @@
 //! The published handles, each line confirmed through the library on a store made for it.
 
 use crate::guard;
-use crate::image::encode;
-use crate::question::{Held, Question, READ_MODE, WRITE_MODE};
+use crate::words::*;
 use model::hexadecimal::decode;
-use model::words::*;
 use std::collections::HashMap;
 
 /// What `docs/vectors/README.md` explains.

@@ -1,16 +1,12 @@
 //! Long rows of calls from the starting store: handles that were given are weakened, reduced,
 //! revoked and presented again, and each call works on what the last one left. What was frozen on the way stays.
 
-use crate::chance::cases;
 use crate::chance::questions::{Maker, FILLING};
-use crate::compare::{ask, same_bytes, Guard, Sides};
 use crate::guard;
-use crate::image::{decode, encode, IMAGE_BYTES};
-use crate::question::Held;
 use crate::stays::seen;
 use crate::tally::Tally;
+use crate::words::*;
 use model::frozen::Watch;
-use model::words::*;
 
 /// Calls of one row.
 pub const RUN_CALLS: u64 = 400;

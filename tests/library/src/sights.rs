@@ -1,10 +1,7 @@
 //! Which looks and freezes were met: what they came to, and what stood against those that were refused. Beside
 //! them, where 22 and 25 met their neighbours, and each number of a join the next one.
 
-use crate::compare::by_model;
-use crate::image::decode;
-use crate::question::{name, Answer, Held, Question, BEYOND, LOOK, VALIDATION};
-use model::words::*;
+use crate::words::*;
 
 /// Nothing but the current node is wrong: another one, or one above 3. The next two are right in the lowest byte or the
 /// lowest two alone, and the last is one that no four bytes hold.

@@ -3,13 +3,10 @@
 use crate::chance::damage::{inflict, Damage, LAST_PLACE};
 use crate::chance::questions::{Maker, EVENLY};
 use crate::chance::stores::{self, Fill};
-use crate::chance::{below, cases, password};
-use crate::compare::{ask, is_sound, Guard, Sides};
 use crate::damages::Where;
 use crate::guard;
-use crate::question::{Held, Question};
 use crate::tally::Tally;
-use model::words::*;
+use crate::words::*;
 
 pub fn compare(guard: Guard, seed: u64, calls: u64, tally: &mut Tally) -> Result<(), String> {
     cases(seed, calls, |random| one(guard, random, tally))

@@ -3,13 +3,9 @@
 
 use crate::chance::questions::Maker;
 use crate::chance::stores::{self, Fill};
-use crate::chance::{cases, handles};
-use crate::compare::Guard;
-use crate::image::decode;
-use crate::question::{Held, Question};
+use crate::words::*;
 use model::frozen::Watch;
 use model::met::Met;
-use model::words::*;
 
 /// Calls of one row.
 pub const ROW_CALLS: u64 = 100;

@@ -4,12 +4,10 @@
 use crate::chance::damage::Damage;
 use crate::chance::stores::Fill;
 use crate::damages::{self, Where};
-use crate::image::decode;
-use crate::question::{name, Answer, Held, Question, BATCH, BEYOND, LOOK, VALIDATION};
+use crate::words::*;
 use crate::{sights, widths};
 use model::call;
 use model::met::{self, Met};
-use model::words::*;
 use std::collections::BTreeMap;
 use std::fmt;
 

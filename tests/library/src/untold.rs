@@ -3,13 +3,9 @@
 
 use crate::chance::handles::{self, Wish};
 use crate::chance::stores::{self, active, Fill};
-use crate::chance::{below, bits, cases, password};
-use crate::compare::{same_bytes, Guard};
-use crate::image::password_at;
 use crate::pairs::ask_both;
-use crate::question::{Held, Question};
+use crate::words::*;
 use model::met::Met;
-use model::words::*;
 
 const OLD: &str = "one refused with 12 (old password)";
 

@@ -2,10 +2,8 @@
 //! width than their cluster's, segments about the width, and bits of masks that do not matter.
 
 use crate::chance::handles::MOST_BYTES;
-use crate::image::decode;
-use crate::question::{name, Answer, Held, Question, BATCH, LOOK, VALIDATION};
+use crate::words::*;
 use model::widths::Sight as Seen;
-use model::words::*;
 
 /// What takes a handle: alone, or in a batch.
 #[rustfmt::skip]

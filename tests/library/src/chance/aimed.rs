@@ -5,9 +5,8 @@ use super::handles::{self, gapped, of_another_width, of_no_length};
 use super::questions::Maker;
 use super::stores::segments_of;
 use super::{below, bits, near};
-use crate::question::BEYOND;
+use crate::words::*;
 use model::listed;
-use model::words::*;
 
 /// What a call about one segment of a node is asked with.
 struct Aimed {

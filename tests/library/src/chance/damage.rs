@@ -2,10 +2,8 @@
 
 use super::below;
 use super::faults::fault;
-use crate::image::{decode, encode, record_at, segment_at, MARK_AT, SEGMENTS_AT};
-use crate::question::Held;
+use crate::words::*;
 use model::listed;
-use model::words::*;
 
 /// The node and the local number of the last record.
 pub const LAST_PLACE: (usize, usize) = (NODES - 1, CLUSTERS - 1);

@@ -2,9 +2,8 @@
 //! that a list cannot name besides.
 
 use super::questions::Maker;
-use crate::question::{BEYOND, WRITE_MODE};
+use crate::words::*;
 use model::generate::joins;
-use model::words::*;
 
 impl Maker<'_> {
     pub(super) fn join(&mut self) -> Call {

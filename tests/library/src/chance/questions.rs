@@ -5,9 +5,8 @@ use super::stores::gaps;
 use super::{below, bytes, fill, near, password};
 use crate::ffi::HANDLE_MAX;
 use crate::guard::handles::Behind;
-use crate::question::{Question, BEYOND, LOOK, READ_MODE, VALIDATION, WRITE_MODE};
+use crate::words::*;
 use model::call;
-use model::words::*;
 
 /// Codes for single calls: all alike.
 pub const EVENLY: [u8; 13] = [1, 2, 3, 4, 5, 6, 7, 8, 9, 10, 11, VALIDATION, LOOK];

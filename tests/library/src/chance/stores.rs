@@ -3,9 +3,7 @@
 use super::handles::everywhere;
 use super::words::WORD;
 use super::{below, fill, passwords, width};
-use crate::image::encode;
-use crate::question::Held;
-use model::words::*;
+use crate::words::*;
 use std::collections::BTreeSet;
 use std::ops::Range;
 

@@ -1,10 +1,9 @@
 //! What lists of two copies came to, and what they have to come to.
 
 use crate::pairs::Pair;
-use crate::question::{Answer, Question};
+use crate::words::*;
 use model::met::Met;
 use model::renewals::Renewal;
-use model::words::*;
 
 /// Calls of which some have to be done, and some to be kept from the cluster set apart by passwords alone: with
 /// passwords that open it for each handle, the call would be done.

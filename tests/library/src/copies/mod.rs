@@ -6,14 +6,10 @@ mod count;
 use crate::chance::handles::at_width;
 use crate::chance::questions::{Maker, FILLING};
 use crate::chance::stores::{self, Fill};
-use crate::chance::{below, cases, fill, password, passwords, width};
-use crate::compare::{by_model, same_bytes, Guard};
-use crate::image::{decode, passwords_at, record_at};
 use crate::pairs::{ask_both, parts_of, set_apart, validates, Pair};
-use crate::question::{change_handle, Answer, Held, Question};
+use crate::words::*;
 pub use count::met;
 use model::met::Met;
-use model::words::*;
 use std::ops::Range;
 
 /// Calls of one list.

@@ -2,10 +2,7 @@
 
 use super::{around, narrow};
 use crate::chance::stores::{self, segments_of, Fill};
-use crate::chance::{below, cases};
-use crate::compare::{ask, Guard, Sides};
-use crate::question::{Held, Question, READ_MODE, WRITE_MODE};
-use model::words::*;
+use crate::words::*;
 
 /// Modes are numbered from 1.
 const MODES: usize = WRITE_MODE as usize + 1;

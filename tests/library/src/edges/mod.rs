@@ -9,13 +9,9 @@ mod widths;
 
 use crate::chance::stores::{self, active_of, present, Fill};
 use crate::chance::words::{Beside, LENGTHS};
-use crate::chance::{below, cases};
-use crate::compare::{ask, is_sound, Guard, Sides};
-use crate::image::{encode, Image, READ_AT, RECORD_BYTES, SEGMENTS_AT};
-use crate::question::{Held, Question, BEYOND};
+use crate::words::*;
 pub use handles::{handles, Maker};
 pub use joins::joins;
-use model::words::*;
 pub use widths::{lengths, masks, new_clusters, segments};
 
 /// Something that tells whether an image holds a sound store; [`crate::guard::is_sound`] is the one

@@ -4,11 +4,7 @@
 use super::{around, narrow, HIGH};
 use crate::chance::handles::at_width;
 use crate::chance::stores::{self, active_of, present};
-use crate::chance::{bytes, cases, fill};
-use crate::compare::{ask, Guard, Sides};
-use crate::image::record_at;
-use crate::question::{Held, Question, READ_MODE};
-use model::words::*;
+use crate::words::*;
 
 /// Widths are tried from 0 up to so many: one more byte is begun.
 const MOST_WIDTH: usize = 300;

@@ -3,8 +3,7 @@
 use super::handles::Presented;
 use super::{image_of, memory_of, password_of, Lent, UNWRITTEN, UNWRITTEN_NUMBER};
 use crate::ffi::{self, gelmuszta_handle};
-use crate::question::BEYOND;
-use model::words::*;
+use crate::words::*;
 
 impl Lent<'_> {
     /// Runs one call by the handles that it presents, with `beyond` in the place of arguments that are [`BEYOND`].

@@ -11,10 +11,8 @@ mod calls;
 pub mod handles;
 
 use crate::ffi::{self, gelmuszta_handle, gelmuszta_image, gelmuszta_memory, gelmuszta_password};
-use crate::image::{decode, encode, Image};
-use crate::question::{Answer, Held, Memory, Question};
+use crate::words::*;
 use handles::Presented;
-use model::words::*;
 use std::ptr::{from_mut, from_ref};
 
 /// What outputs hold before the call, so that one that is not written is seen.

@@ -3,10 +3,8 @@
 use crate::chance::handles::of_another_width;
 use crate::chance::questions::{Maker, FILLING};
 use crate::chance::stores::gaps;
-use crate::chance::{below, near, passwords, width};
 use crate::pairs::{does, names, validates, Pair};
-use crate::question::{Question, LOOK, VALIDATION};
-use model::words::*;
+use crate::words::*;
 use std::ops::Range;
 
 /// What writers do at any time.

@@ -3,9 +3,8 @@
 use super::calls::written_part;
 use super::freed::Freed;
 use crate::pairs::{parts_of, validates, Pair};
-use crate::question::{Answer, Held, Question};
+use crate::words::*;
 use model::met::Met;
-use model::words::*;
 
 /// What the freedom of writers allows, by name.
 pub type Deed = &'static str;

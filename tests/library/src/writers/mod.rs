@@ -8,16 +8,12 @@ mod freed;
 
 use crate::chance::handles::everywhere;
 use crate::chance::stores::{self, gaps, Fill};
-use crate::chance::{below, cases, fill, password};
-use crate::compare::{is_sound, same_bytes, Guard};
-use crate::image::{decode, password_at};
 use crate::pairs::{ask_both, parts_of, set_apart, Pair};
-use crate::question::Held;
+use crate::words::*;
 use calls::Asking;
 pub use count::met;
 use count::Watch;
 use model::met::Met;
-use model::words::*;
 use std::ops::Range;
 
 /// Calls of one list.

@@ -4,13 +4,10 @@ use crate::support::every::every;
 use crate::support::faults::{self, Kind, LOCAL, NODE};
 use crate::wide::{asked, held, local, primary, refused, READ, REST, WRITE};
 use library::chance::damage::{inflict, Damage, LAST_PLACE};
-use library::chance::stores;
 use library::ffi::gelmuszta_handle;
 use library::guard;
-use library::image::{encode, record_at, segment_at, MARK_AT, WIDTH_AT};
-use library::question::{Held, READ_MODE, WRITE_MODE};
+use library::words::*;
 use model::hexadecimal;
-use model::words::*;
 
 fn given(held: &Held, call: Call) -> HandleBytes {
     let (reply, _) = asked(held, &call);

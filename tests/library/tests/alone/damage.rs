@@ -5,8 +5,7 @@ use crate::support::faults::{self, Kind, LOCAL, NODE};
 use crate::support::{joint, renewed};
 use crate::wide::{asked, held, primary, refused, READ};
 use library::chance::damage::{inflict, Damage, LAST_PLACE};
-use library::chance::{below, stores};
-use model::words::*;
+use library::words::*;
 
 const KINDS: [Kind; 9] = [
     Kind::DeleteCluster,

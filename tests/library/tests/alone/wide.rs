@@ -2,9 +2,7 @@
 
 use crate::support::every::Rest;
 use library::guard;
-use library::image::encode;
-use library::question::{Held, Question};
-use model::words::*;
+use library::words::*;
 
 pub const READ: Password = [0x11; 16];
 pub const WRITE: Password = [0x22; 16];

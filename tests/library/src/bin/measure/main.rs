@@ -7,9 +7,7 @@ mod stores;
 
 use calls::{groups, many_handles, weakening, Row};
 use library::guard;
-use library::image::{decode, Image};
-use library::question::READ_MODE;
-use model::words::*;
+use library::words::*;
 use repeated::{OnImage, OnRecords};
 use std::hint::black_box;
 use std::time::Instant;

@@ -4,10 +4,8 @@ use crate::stores::{held, memory};
 use library::ffi::HANDLE_MAX;
 use library::guard::handles::Presented;
 use library::guard::Lent;
-use library::image::{decode, encode, record_at, RECORD_BYTES};
-use library::question::{Held, Memory};
+use library::words::*;
 use model::model::run;
-use model::words::*;
 use std::hint::black_box;
 use std::ops::Range;
 

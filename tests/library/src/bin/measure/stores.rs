@@ -1,8 +1,6 @@
 //! The stores that calls are measured on.
 
-use library::image::encode;
-use library::question::{Held, Memory};
-use model::words::*;
+use library::words::*;
 
 /// The cluster that calls are about, and one that a call can make.
 pub const PLACE: (usize, usize) = (2, 3);
