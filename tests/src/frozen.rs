@@ -1,8 +1,7 @@
 //! What is frozen and has to stay, for those who watch a row of calls; and what calls come to where something
 //! is frozen.
 
-use crate::listed;
-use crate::words::*;
+use crate::{listed, words::*};
 use std::collections::BTreeMap;
 
 /// Node, local number and segment.

@@ -1,9 +1,6 @@
 //! Lists of calls: records of 64 bytes, the chain through them, and the text that comes out.
 
-use crate::call;
-use crate::hexadecimal;
-use crate::model;
-use crate::words::*;
+use crate::{call, hexadecimal, model, words::*};
 
 /// The one width of a list's clusters and handles.
 pub const WIDTH: Width = Width::Eight;

@@ -1,10 +1,6 @@
 //! Situations, each by its name: how often each was met, and which of those that are due was not.
 
-use crate::frozen::Case;
-use crate::joins::Meeting;
-use crate::nothing::Way;
-use crate::renewals::Renewal;
-use crate::words::*;
+use crate::{frozen::Case, joins::Meeting, nothing::Way, renewals::Renewal, words::*};
 use std::collections::{BTreeMap, HashMap};
 use std::fmt;
 

@@ -1,8 +1,7 @@
 //! Ways to nothing: where a weakening would leave no segment, what stands next to that, and what is
 //! still done with a handle that references none. What is made by chance has to come to each.
 
-use crate::listed;
-use crate::words::*;
+use crate::{listed, words::*};
 
 listed! {
     pub enum Way {

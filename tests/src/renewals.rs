@@ -67,8 +67,7 @@ impl Renewal {
     /// What a call that came to `number` has met, if anything; `found` is what it was put to.
     pub fn of(found: &Found, call: &Call, number: u8) -> Option<Renewal> {
         let handle = call.handle()?;
-        let (node, local) = (usize::from(handle.node), usize::from(handle.local));
-        let cluster = found.store.cluster(node, local)?;
+        let cluster = found.store.cluster_of(&handle)?;
         if let Call::NewPassword { password, .. } = call {
             return renewed(cluster, call.needed_mode()?, password, number);
         }

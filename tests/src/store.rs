@@ -3,7 +3,7 @@
 //! The types hold damaged stores too: any base, any length, a mark on an absent segment, an inactive
 //! cluster with secrets, any width.
 
-use crate::handle::Password;
+use crate::handle::{Handle, Password};
 use crate::sizes::{CLUSTERS, MEMORY_BYTES, NODES, NODE_BYTES, NODE_SEGMENTS, PASSWORD_BYTES, SEGMENTS};
 use crate::width::Width;
 use std::ops::Range;
@@ -238,6 +238,11 @@ impl Store {
 
     pub fn cluster(&self, node: usize, local: usize) -> Option<&Cluster> {
         self.clusters.get(node)?.get(local)
+    }
+
+    /// The cluster that the handle names, if there is such a place.
+    pub fn cluster_of(&self, handle: &Handle) -> Option<&Cluster> {
+        self.cluster(handle.node.into(), handle.local.into())
     }
 
     /// Soundness, for a memory slice of `memory_bytes` bytes.

@@ -49,16 +49,10 @@ pub enum Sight {
     KeptAbove,
 }
 
+#[rustfmt::skip]
 const OTHERS: [Sight; 10] = [
-    Sight::UpperSegment,
-    Sight::SegmentOfTheCluster,
-    Sight::SegmentOfTheHandle,
-    Sight::NoLengthFirst,
-    Sight::OtherMadeFrom,
-    Sight::OtherForged,
-    Sight::UpperClear,
-    Sight::UpperSet,
-    Sight::KeptAbove,
+    Sight::UpperSegment, Sight::SegmentOfTheCluster, Sight::SegmentOfTheHandle, Sight::NoLengthFirst,
+    Sight::OtherMadeFrom, Sight::OtherForged, Sight::UpperClear, Sight::UpperSet, Sight::KeptAbove,
     Sight::NoLength(Wrong::Nothing),
 ];
 
@@ -91,10 +85,7 @@ impl Sight {
             return sights;
         }
         for handle in call.presented() {
-            let (node, local) = (usize::from(handle.node), usize::from(handle.local));
-            let Some(cluster) = found.store.cluster(node, local) else {
-                continue;
-            };
+            let Some(cluster) = found.store.cluster_of(&handle) else { continue };
             sights.extend(match number {
                 DONE => done(call, &handle),
                 FIELD => beyond(call, &handle, cluster).into_iter().collect(),
@@ -167,9 +158,7 @@ fn beyond(call: &Call, handle: &Handle, cluster: &Cluster) -> Option<Sight> {
 
 fn other(call: &Call, handle: &Handle, cluster: &Cluster) -> Vec<Sight> {
     let (width, known) = (handle.width(), cluster.known_width());
-    let Some(own) = known.filter(|own| *own != width) else {
-        return Vec::new();
-    };
+    let Some(own) = known.filter(|own| *own != width) else { return Vec::new() };
     let is_beyond = |segment: u32| segment as usize >= own.segments();
     let segment = call.segment().filter(|segment| is_beyond(*segment));
     let mode = call.needed_mode();

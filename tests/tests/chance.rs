@@ -53,9 +53,7 @@ fn lists_reach_what_can_be_reached() {
 fn refused_calls_change_nothing_and_what_is_sound_or_frozen_stays() {
     let mut frozen = 0;
     for list in lists(2) {
-        let Some(Ok((order, records))) = records(&list).map(|all| Ok::<_, u8>((chain(&all)?, all))) else {
-            continue;
-        };
+        let Some(Ok((order, records))) = records(&list).map(|all| Ok::<_, u8>((chain(&all)?, all))) else { continue };
         let mut session = Session::starting();
         let mut watch = Watch::default();
         for number in order {

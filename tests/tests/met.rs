@@ -1,10 +1,6 @@
 //! What is counted of joins and of widths is met by what is made by chance, in stores with clusters of every width.
 
-use model::generate::joins::join_of_widths;
-use model::joins::Meeting;
-use model::model::run;
-use model::widths::Sight;
-use model::words::*;
+use model::{generate::joins::join_of_widths, joins::Meeting, model::run, widths::Sight, words::*};
 use std::collections::BTreeSet;
 
 const STORES: usize = 1_000;
@@ -44,9 +40,7 @@ fn every_meeting_of_two_handles() {
     for _ in 0..STORES {
         let store = store(random);
         for _ in 0..JOINS {
-            let Some(join) = join_of_widths(random, &store) else {
-                continue;
-            };
+            let Some(join) = join_of_widths(random, &store) else { continue };
             let [handle, other] = join.handles;
             let mode = if join.is_a_mode { join.mode.number() } else { 0 };
             let call = Call::join(mode, handle, other);

@@ -6,8 +6,7 @@ mod support;
 use model::frozen::Watch;
 use model::list::{output, Record, CODE_AT, HANDLE_AT, HANDLE_BYTES, NODE_AT, RECORD_BYTES, SEGMENT_AT};
 use std::collections::BTreeMap;
-use support::valid::valid_call;
-use support::*;
+use support::{valid::valid_call, *};
 
 const ROWS: usize = 60;
 const ROW_CALLS: usize = 500;

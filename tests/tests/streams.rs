@@ -3,8 +3,7 @@
 use model::program::Program;
 use model::random::Random;
 use model::streams::{failures, inputs, outputs, Checked};
-use std::fs;
-use std::path::Path;
+use std::{fs, path::Path};
 
 /// The model's program; in a script it stands as `model`.
 const MODEL: &str = env!("CARGO_BIN_EXE_model-benchrun");

@@ -5,8 +5,7 @@ mod support;
 
 use model::list::{output, Record, RECORD_BYTES};
 use std::collections::BTreeMap;
-use support::naive::sets;
-use support::*;
+use support::{naive::sets, *};
 
 const NEAR: Password = [1, 1, 1, 1, 1, 1, 1, 1, 1, 1, 1, 1, 1, 1, 1, 0];
 /// Few passwords, two of them equal in all bits but one.

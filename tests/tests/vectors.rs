@@ -1,9 +1,6 @@
 //! The published handles are those of the model, and are what the calls give.
 
-use model::hexadecimal::decode;
-use model::model::run;
-use model::vectors::text;
-use model::words::*;
+use model::{hexadecimal::decode, model::run, vectors::text, words::*};
 use std::collections::HashMap;
 
 const PUBLISHED: &str = include_str!("../../docs/vectors/handles.txt");

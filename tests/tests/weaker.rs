@@ -34,9 +34,7 @@ fn weakening_takes_the_excluded_and_nothing_else() {
             for mask in masks(width, random) {
                 let weaker = handle.weaken(mask);
                 assert_eq!(weaker.is_some(), number(width, parts, mask) == 0);
-                let Some(weaker) = weaker else {
-                    continue;
-                };
+                let Some(weaker) = weaker else { continue };
                 let references = |segment: &u32| weaker.selector.references(*segment as usize);
                 let kept = |segment: &u32| handle.selector.references(*segment as usize) && has(mask, *segment);
                 assert!(segments(width).filter(references).eq(segments(width).filter(kept)));

@@ -5,8 +5,7 @@
 mod support;
 
 use std::collections::BTreeMap;
-use support::valid::*;
-use support::*;
+use support::{valid::*, *};
 
 const LISTS: usize = 400;
 const LIST_CALLS: usize = 60;

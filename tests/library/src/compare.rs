@@ -2,8 +2,7 @@
 
 use crate::image::{decode, encode};
 use crate::question::{Answer, Held, Question};
-use model::model::run;
-use model::words::*;
+use model::{model::run, words::*};
 
 /// Something that answers questions; [`crate::guard::ask`] is the one to be compared.
 pub type Guard<'a> = &'a dyn Fn(&mut Held, &Question) -> Answer;

@@ -74,9 +74,7 @@ impl Join<'_> {
             return Ok(());
         }
         let given = &answer.reply.first;
-        let [Some(first), Some(second)] = read else {
-            return told(false, "bytes are joined that are no handle");
-        };
+        let [Some(first), Some(second)] = read else { return told(false, "bytes are joined that are no handle") };
         let is_as_wide = given.len() == one.len() && given.len() == other.len();
         told(is_as_wide, "what is given has another width")?;
         let again = Reply { first: given.clone(), ..Reply::DONE };

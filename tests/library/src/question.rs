@@ -3,8 +3,7 @@
 use crate::ffi::HANDLE_MAX;
 use crate::guard::handles::Behind;
 use crate::image::{encode, Image};
-use model::call;
-use model::words::*;
+use model::{call, words::*};
 use std::fmt;
 
 /// The number of a call's argument that stands for [`Question::beyond`].

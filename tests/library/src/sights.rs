@@ -120,9 +120,7 @@ fn both(held: &Held, question: &Question, number: u8) -> Option<String> {
 /// Whether the same call is done where its handle's node is the current one.
 fn is_done_at_home(held: &Held, question: &Question) -> bool {
     let mut at_home = question.clone();
-    let Some(handle) = question.call.handle() else {
-        return false;
-    };
+    let Some(handle) = question.call.handle() else { return false };
     if let Call::Look { node, .. } | Call::Freeze { node, .. } = &mut at_home.call {
         *node = handle.node.into();
     }

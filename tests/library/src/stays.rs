@@ -4,8 +4,7 @@
 use crate::chance::questions::Maker;
 use crate::chance::stores::{self, Fill};
 use crate::words::*;
-use model::frozen::Watch;
-use model::met::Met;
+use model::{frozen::Watch, met::Met};
 
 /// Calls of one row.
 pub const ROW_CALLS: u64 = 100;

@@ -8,8 +8,7 @@ use crate::words::*;
 use crate::{sights, widths};
 use model::call;
 use model::met::{self, Met};
-use std::collections::BTreeMap;
-use std::fmt;
+use std::{collections::BTreeMap, fmt};
 
 /// The numbers that the table of refusals allows each call, 0 for done among them.
 #[rustfmt::skip]

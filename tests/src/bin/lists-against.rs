@@ -6,11 +6,7 @@ use model::list::{reachable, request, run, Request, CODE_AT};
 use model::met::{due_in_lists, situations, table, way, Met};
 use model::program::{Outcome, Program};
 use model::words::*;
-use std::collections::BTreeMap;
-use std::ffi::OsString;
-use std::io;
-use std::path::PathBuf;
-use std::process::ExitCode;
+use std::{collections::BTreeMap, ffi::OsString, io, path::PathBuf, process::ExitCode};
 
 const USAGE: &str = "usage: lists-against PROGRAM [SEED] [COUNT]";
 const BAD_USAGE: u8 = 2;

@@ -6,9 +6,7 @@ use model::list::{output, MOST_LIST_BYTES, RECORD_BYTES};
 use model::program::Program;
 use model::random::Random;
 use model::streams::{all, failures, inputs, outputs, Checked};
-use std::fs;
-use std::path::PathBuf;
-use std::process::ExitCode;
+use std::{fs, path::PathBuf, process::ExitCode};
 
 const USAGE: &str = "usage: streams-against PROGRAM SEED LIST...";
 const BAD_USAGE: u8 = 2;

@@ -115,8 +115,7 @@ impl Maker {
 
     /// A segment of the handle's cluster that is present, or is not, if there is one.
     fn segment(&mut self, handle: &Handle, present: bool) -> u8 {
-        let (node, local) = (usize::from(handle.node), usize::from(handle.local));
-        let cluster = self.session.store.cluster(node, local);
+        let cluster = self.session.store.cluster_of(handle);
         let referenced_only = !self.random.one_in(4);
         let fits = |segment: &u8| {
             let at = usize::from(*segment);
@@ -216,8 +215,7 @@ impl Maker {
 
     /// Often one of the two that the handle's cluster has.
     fn next_password(&mut self, handle: &Handle) -> Password {
-        let (node, local) = (usize::from(handle.node), usize::from(handle.local));
-        let cluster = self.session.store.cluster(node, local).copied();
+        let cluster = self.session.store.cluster_of(handle).copied();
         match (cluster, self.random.below(5)) {
             (Some(cluster), 0) => cluster.read,
             (Some(cluster), 1) => cluster.write,

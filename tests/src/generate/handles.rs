@@ -1,7 +1,6 @@
 //! Handles by chance: right ones for the store as it is, old ones, and ones with something wrong.
 
-use crate::list;
-use crate::words::*;
+use crate::{list, words::*};
 
 /// What the call that a handle is made for would like.
 #[derive(Clone, Copy)]
@@ -75,9 +74,7 @@ pub fn bit(random: &mut Random, width: Width) -> u16 {
 
 /// A handle that validates, mostly in the mode that is wished for, if any cluster is active.
 fn right(random: &mut Random, store: &Store, wish: Wish) -> Handle {
-    let Some((node, local)) = active_place(random, store, wish) else {
-        return any(random);
-    };
+    let Some((node, local)) = active_place(random, store, wish) else { return any(random) };
     let cluster = &store.clusters[usize::from(node)][usize::from(local)];
     let width = width_of(cluster);
     let mode = match (wish.mode, random.one_in(10)) {

@@ -2,8 +2,7 @@
 //! of one cluster, each of them valid: none, one or two things are made wrong in them.
 
 use super::handles::{bits, gapped, is_inactive, noting, of_no_length, place, width_of};
-use crate::listed;
-use crate::words::*;
+use crate::{listed, words::*};
 
 /// What a join is asked with.
 pub struct Join {

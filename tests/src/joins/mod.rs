@@ -55,82 +55,47 @@ pub enum Meeting {
     OtherWidthBefore(Whose, Applied),
 }
 
+#[rustfmt::skip]
 const DONE_OR_WHOLE: [Meeting; 13] = [
-    Meeting::Disjoint,
-    Meeting::Overlapping,
-    Meeting::FirstInside,
-    Meeting::SecondInside,
-    Meeting::Same,
-    Meeting::OneHandle,
-    Meeting::Nothing,
-    Meeting::FirstOften,
-    Meeting::SecondOften,
-    Meeting::Primaries,
-    Meeting::FirstPrimary,
-    Meeting::SecondPrimary,
-    Meeting::Together,
+    Meeting::Disjoint, Meeting::Overlapping, Meeting::FirstInside, Meeting::SecondInside, Meeting::Same,
+    Meeting::OneHandle, Meeting::Nothing, Meeting::FirstOften, Meeting::SecondOften, Meeting::Primaries,
+    Meeting::FirstPrimary, Meeting::SecondPrimary, Meeting::Together,
 ];
 
+#[rustfmt::skip]
 const GIVEN: [Applied; 10] = [
-    (NO_SUCH_PLACE, First),
-    (NO_SUCH_PLACE, Second),
-    (NO_SUCH_PLACE, Both),
-    (GAPPED, First),
-    (GAPPED, Second),
-    (GAPPED, Both),
-    (INACTIVE, Both),
-    (VIOLATED_PROTECTION, First),
-    (VIOLATED_PROTECTION, Second),
+    (NO_SUCH_PLACE, First), (NO_SUCH_PLACE, Second), (NO_SUCH_PLACE, Both), (GAPPED, First), (GAPPED, Second),
+    (GAPPED, Both), (INACTIVE, Both), (VIOLATED_PROTECTION, First), (VIOLATED_PROTECTION, Second),
     (VIOLATED_PROTECTION, Both),
 ];
 
 /// What a program mixes up that judges one handle whole before the other, or has two numbers in another order.
+#[rustfmt::skip]
 const BEFORE: [(Applied, Applied); 25] = [
-    ((NO_SUCH_PLACE, First), (FIELD, Itself)),
-    ((NO_SUCH_PLACE, Second), (FIELD, Itself)),
-    ((NO_SUCH_PLACE, First), (GAPPED, Second)),
-    ((NO_SUCH_PLACE, Second), (GAPPED, First)),
-    ((NO_SUCH_PLACE, First), (INACTIVE, Second)),
-    ((NO_SUCH_PLACE, Second), (INACTIVE, First)),
-    ((NO_SUCH_PLACE, First), (VIOLATED_PROTECTION, Second)),
-    ((NO_SUCH_PLACE, Second), (VIOLATED_PROTECTION, First)),
-    ((FIELD, Itself), (GAPPED, First)),
-    ((FIELD, Itself), (GAPPED, Second)),
-    ((GAPPED, First), (APART, Itself)),
-    ((GAPPED, Second), (APART, Itself)),
-    ((GAPPED, First), (INACTIVE, Both)),
-    ((GAPPED, Second), (INACTIVE, Both)),
-    ((GAPPED, First), (VIOLATED_PROTECTION, Second)),
-    ((GAPPED, Second), (VIOLATED_PROTECTION, First)),
-    ((APART, Itself), (INACTIVE, First)),
-    ((APART, Itself), (INACTIVE, Second)),
-    ((APART, Itself), (INACTIVE, Both)),
-    ((APART, Itself), (VIOLATED_PROTECTION, First)),
-    ((APART, Itself), (VIOLATED_PROTECTION, Second)),
-    ((INACTIVE, Both), (VIOLATED_PROTECTION, First)),
-    ((INACTIVE, Both), (VIOLATED_PROTECTION, Second)),
-    ((VIOLATED_PROTECTION, First), (WHOLE, Itself)),
-    ((VIOLATED_PROTECTION, Second), (WHOLE, Itself)),
+    ((NO_SUCH_PLACE, First), (FIELD, Itself)), ((NO_SUCH_PLACE, Second), (FIELD, Itself)),
+    ((NO_SUCH_PLACE, First), (GAPPED, Second)), ((NO_SUCH_PLACE, Second), (GAPPED, First)),
+    ((NO_SUCH_PLACE, First), (INACTIVE, Second)), ((NO_SUCH_PLACE, Second), (INACTIVE, First)),
+    ((NO_SUCH_PLACE, First), (VIOLATED_PROTECTION, Second)), ((NO_SUCH_PLACE, Second), (VIOLATED_PROTECTION, First)),
+    ((FIELD, Itself), (GAPPED, First)), ((FIELD, Itself), (GAPPED, Second)), ((GAPPED, First), (APART, Itself)),
+    ((GAPPED, Second), (APART, Itself)), ((GAPPED, First), (INACTIVE, Both)), ((GAPPED, Second), (INACTIVE, Both)),
+    ((GAPPED, First), (VIOLATED_PROTECTION, Second)), ((GAPPED, Second), (VIOLATED_PROTECTION, First)),
+    ((APART, Itself), (INACTIVE, First)), ((APART, Itself), (INACTIVE, Second)), ((APART, Itself), (INACTIVE, Both)),
+    ((APART, Itself), (VIOLATED_PROTECTION, First)), ((APART, Itself), (VIOLATED_PROTECTION, Second)),
+    ((INACTIVE, Both), (VIOLATED_PROTECTION, First)), ((INACTIVE, Both), (VIOLATED_PROTECTION, Second)),
+    ((VIOLATED_PROTECTION, First), (WHOLE, Itself)), ((VIOLATED_PROTECTION, Second), (WHOLE, Itself)),
 ];
 
 const HANDLES: [Whose; 3] = [First, Second, Both];
 
+#[rustfmt::skip]
 const AFTER_NO_LENGTH: [Applied; 8] = [
-    (UNSOUND, Itself),
-    (NO_SUCH_PLACE, First),
-    (NO_SUCH_PLACE, Second),
-    (FIELD, Itself),
-    (GAPPED, First),
-    (GAPPED, Second),
-    (VIOLATED_PROTECTION, First),
-    (VIOLATED_PROTECTION, Second),
+    (UNSOUND, Itself), (NO_SUCH_PLACE, First), (NO_SUCH_PLACE, Second), (FIELD, Itself), (GAPPED, First),
+    (GAPPED, Second), (VIOLATED_PROTECTION, First), (VIOLATED_PROTECTION, Second),
 ];
 
+#[rustfmt::skip]
 const BEFORE_OTHER_WIDTH: [(Applied, Whose); 5] = [
-    ((FIELD, Itself), Both),
-    ((GAPPED, First), Second),
-    ((GAPPED, Second), First),
-    ((APART, Itself), First),
+    ((FIELD, Itself), Both), ((GAPPED, First), Second), ((GAPPED, Second), First), ((APART, Itself), First),
     ((APART, Itself), Second),
 ];
 
@@ -159,9 +124,7 @@ impl Meeting {
 
     /// What a join that came to `number` has met; `found` is what it was put to. Nothing of other calls.
     pub fn of(found: &Found, call: &Call, number: u8) -> Vec<Meeting> {
-        let Call::Join { mode, handle, other } = call else {
-            return Vec::new();
-        };
+        let Call::Join { mode, handle, other } = call else { return Vec::new() };
         let handles = [handle, other].map(|bytes| Handle::from_bytes(bytes));
         match (number, handles) {
             (DONE, [Some(first), Some(second)]) => done(&first, &second),

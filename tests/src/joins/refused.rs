@@ -23,9 +23,7 @@ impl Asked<'_> {
                 (None, None) => Vec::new(),
             };
         }
-        let Some(given) = self.applied(number) else {
-            return Vec::new();
-        };
+        let Some(given) = self.applied(number) else { return Vec::new() };
         let later = BEFORE
             .into_iter()
             .filter(|(first, later)| *first == given && self.applied(later.0).is_some_and(|met| met == *later));
@@ -57,8 +55,7 @@ impl Asked<'_> {
     }
 
     fn cluster_of(&self, handle: &Handle) -> Option<&Cluster> {
-        let (node, local) = (usize::from(handle.node), usize::from(handle.local));
-        self.found.store.cluster(node, local)
+        self.found.store.cluster_of(handle)
     }
 
     fn whose(&self, test: impl Fn(Option<Handle>) -> bool) -> Option<Whose> {
@@ -99,9 +96,7 @@ impl Asked<'_> {
     }
 
     fn apart(&self) -> Option<Meeting> {
-        let [Some(first), Some(second)] = self.handles else {
-            return None;
-        };
+        let [Some(first), Some(second)] = self.handles else { return None };
         match (first.node == second.node, first.local == second.local) {
             (false, true) => Some(Meeting::OtherNode),
             (true, false) => Some(Meeting::OtherLocal),

@@ -84,7 +84,7 @@ impl Found<'_> {
 
     /// The cluster that a handle names, if there is such a place.
     fn cluster_of(&self, handle: &Handle) -> Option<&Cluster> {
-        self.store.cluster(usize::from(handle.node), usize::from(handle.local))
+        self.store.cluster_of(handle)
     }
 }
 

@@ -2,8 +2,7 @@
 
 use super::tables::{joined, whole, Pair};
 use super::{Cluster, Family};
-use crate::hexadecimal::encode;
-use crate::words::*;
+use crate::{hexadecimal::encode, words::*};
 
 /// The pairs of one family.
 pub fn of(family: &Family, primary: Handle) -> String {

@@ -6,8 +6,7 @@ mod tables;
 mod validations;
 mod widths;
 
-use crate::hexadecimal::encode;
-use crate::words::*;
+use crate::{hexadecimal::encode, words::*};
 use tables::paths;
 
 const HEADER: &str = "\

@@ -1,8 +1,7 @@
 //! Validation by itself.
 
 use super::{Cluster, Family};
-use crate::hexadecimal::encode;
-use crate::words::*;
+use crate::{hexadecimal::encode, words::*};
 
 /// Handles of one active cluster with the number that validating them gives in each mode.
 pub fn of(cluster: &Cluster) -> String {

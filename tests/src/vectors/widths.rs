@@ -3,8 +3,7 @@
 use super::tables::WIDE_PATHS_OF_EIGHT;
 use super::validations::validation_in;
 use super::{conversions, families, joins, refused, validations, Cluster, Family, CLUSTERS};
-use crate::hexadecimal::encode;
-use crate::words::*;
+use crate::{hexadecimal::encode, words::*};
 
 const OTHERS: [Cluster; 2] = [
     Cluster {

@@ -11,8 +11,7 @@ pub use model::store::{Cluster, Extent, Mode, Place, Segment, Store};
 use library::guard::run;
 #[cfg(not(of_the_library))]
 use model::model::run;
-use std::borrow::Borrow;
-use std::ops::Range;
+use std::{borrow::Borrow, ops::Range};
 
 pub mod every;
 pub mod faults;

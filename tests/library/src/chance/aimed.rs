@@ -136,9 +136,7 @@ impl Aimed {
     }
 
     fn go_to_an_inactive_cluster(&mut self, random: &mut Random, store: &Store) {
-        let Some((node, local)) = handles::place(random, store, |cluster| !cluster.active) else {
-            return;
-        };
+        let Some((node, local)) = handles::place(random, store, |cluster| !cluster.active) else { return };
         (self.handle.node, self.handle.local) = (node as u16, local as u8);
         self.node = node as u32;
     }

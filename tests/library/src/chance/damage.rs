@@ -1,7 +1,6 @@
 //! Every way in which a store or its image can be damaged.
 
-use super::below;
-use super::faults::fault;
+use super::{below, faults::fault};
 use crate::words::*;
 use model::listed;
 

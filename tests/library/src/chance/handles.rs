@@ -1,8 +1,7 @@
 //! Handles by chance: right ones for the store as it is, old ones, and ones with something wrong, of every width.
 
 use super::{below, bit, bits, bytes, near, password, width};
-use model::generate::to_nothing;
-use model::words::*;
+use model::{generate::to_nothing, words::*};
 
 /// Bytes that are presented for a handle mostly have at most so many; a length byte tells up to 255.
 pub const MOST_BYTES: usize = 40;

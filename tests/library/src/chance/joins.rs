@@ -8,9 +8,7 @@ use model::generate::joins;
 impl Maker<'_> {
     pub(super) fn join(&mut self) -> Call {
         let aimed = if self.random.one_in(4) { None } else { joins::join_of_widths(self.random, self.store) };
-        let Some(join) = aimed else {
-            return self.as_other_calls();
-        };
+        let Some(join) = aimed else { return self.as_other_calls() };
         let [handle, other] = join.handles;
         let right = join.mode.number();
         let mode = if join.is_a_mode { right } else { no_mode(self.random, right) };

@@ -1,8 +1,6 @@
 //! Calls 1 and 7 by chance, in which widths and masks matter.
 
-use super::handles;
-use super::questions::Maker;
-use super::{below, bit, bits, password, width};
+use super::{below, bit, bits, handles, password, questions::Maker, width};
 use model::words::*;
 
 impl Maker<'_> {

@@ -3,9 +3,7 @@
 use super::handles::{self, Wish};
 use super::stores::gaps;
 use super::{below, bytes, fill, near, password};
-use crate::ffi::HANDLE_MAX;
-use crate::guard::handles::Behind;
-use crate::words::*;
+use crate::{ffi::HANDLE_MAX, guard::handles::Behind, words::*};
 use model::call;
 
 /// Codes for single calls: all alike.
@@ -105,8 +103,7 @@ impl Maker<'_> {
     }
 
     fn cluster(&self, handle: &Handle) -> Option<&Cluster> {
-        let (node, local) = (usize::from(handle.node), usize::from(handle.local));
-        self.store.cluster(node, local)
+        self.store.cluster_of(handle)
     }
 
     pub(super) fn current_node(&mut self, handle: &Handle) -> u32 {
@@ -153,9 +150,7 @@ impl Maker<'_> {
     /// For reads and writes, mostly about as many bytes as the segment has; nothing else is lent
     /// a buffer.
     fn buffer_bytes(&mut self, call: &Call) -> usize {
-        let (true, Some(segment)) = (call.moves_bytes(), call.segment()) else {
-            return 0;
-        };
+        let (true, Some(segment)) = (call.moves_bytes(), call.segment()) else { return 0 };
         let handle = call.handle();
         let cluster = handle.and_then(|handle| self.cluster(&handle));
         let found = cluster.and_then(|cluster| cluster.segments.get(segment as usize));

@@ -1,11 +1,8 @@
 //! Sound stores by chance, from empty ones to ones in which nothing is left, with clusters of every width.
 
-use super::handles::everywhere;
-use super::words::WORD;
-use super::{below, fill, passwords, width};
+use super::{below, fill, handles::everywhere, passwords, width, words::WORD};
 use crate::words::*;
-use std::collections::BTreeSet;
-use std::ops::Range;
+use std::{collections::BTreeSet, ops::Range};
 
 /// How many of so many segments are frozen is chosen for a store.
 const FROZEN_OF: u64 = 8;

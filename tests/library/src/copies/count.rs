@@ -1,9 +1,7 @@
 //! What lists of two copies came to, and what they have to come to.
 
-use crate::pairs::Pair;
-use crate::words::*;
-use model::met::Met;
-use model::renewals::Renewal;
+use crate::{pairs::Pair, words::*};
+use model::{met::Met, renewals::Renewal};
 
 /// Calls of which some have to be done, and some to be kept from the cluster set apart by passwords alone: with
 /// passwords that open it for each handle, the call would be done.
@@ -49,9 +47,7 @@ pub fn met() -> Met {
 pub(super) fn note_pair(met: &mut Met, pair: &Pair) {
     let (node, local) = pair.apart;
     let apart = |store: Store| store.clusters[node][local];
-    let Ok([first, second]) = pair.stores().map(|stores| stores.map(apart)) else {
-        return;
-    };
+    let Ok([first, second]) = pair.stores().map(|stores| stores.map(apart)) else { return };
     met.note_if(first.has_frozen(), "a cluster set apart with a frozen segment");
     met.note_all(first.known_width().map(apart_of));
     let [one, other] = [first, second].map(|cluster| cluster.has_equal_passwords());

@@ -116,12 +116,8 @@ impl Pair {
     /// cluster.
     fn kept_by_the_passwords(&self, question: &Question, answer: &Answer) -> bool {
         let [copy, _] = &self.copies;
-        let (Some(store), VIOLATED_PROTECTION) = (decode(&copy.image), answer.reply.number) else {
-            return false;
-        };
-        let Some(mode) = question.call.needed_mode().filter(|_| self.names_apart(question)) else {
-            return false;
-        };
+        let (Some(store), VIOLATED_PROTECTION) = (decode(&copy.image), answer.reply.number) else { return false };
+        let Some(mode) = question.call.needed_mode().filter(|_| self.names_apart(question)) else { return false };
         let primary = *store.clusters[self.apart.0][self.apart.1].primary(mode);
         let opening = question.with_handles(|handle| {
             handle.password = derive(&primary, &handle.selector);

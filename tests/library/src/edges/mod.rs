@@ -22,16 +22,10 @@ pub type Judge<'a> = &'a dyn Fn(&mut Image) -> bool;
 const WORDS: [usize; 10] = [0, 1, 2, 3, 31, 32, 33, 62, 63, 64];
 
 /// Segments that are looked at and frozen: base and length.
+#[rustfmt::skip]
 const STRETCHES: [(usize, usize); 9] = [
-    (0, 1),
-    (0, NODE_BYTES - 1),
-    (0, NODE_BYTES),
-    (1, NODE_BYTES - 1),
-    (63, 2),
-    (255, 256),
-    (256, 255),
-    (NODE_BYTES - 2, 2),
-    (NODE_BYTES - 1, 1),
+    (0, 1), (0, NODE_BYTES - 1), (0, NODE_BYTES), (1, NODE_BYTES - 1), (63, 2), (255, 256), (256, 255),
+    (NODE_BYTES - 2, 2), (NODE_BYTES - 1, 1),
 ];
 /// Added to a number that is right, these are seen in its highest bytes alone.
 const HIGH: [usize; 5] = [1 << 8, 1 << 16, 1 << 32, 1 << 48, 1 << 63];

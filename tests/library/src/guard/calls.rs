@@ -1,7 +1,6 @@
 //! The calls, one function of the library each. Handles are lent as they are, with any length byte.
 
-use super::handles::Presented;
-use super::{image_of, memory_of, password_of, Lent, UNWRITTEN, UNWRITTEN_NUMBER};
+use super::{handles::Presented, image_of, memory_of, password_of, Lent, UNWRITTEN, UNWRITTEN_NUMBER};
 use crate::ffi::{self, gelmuszta_handle};
 use crate::words::*;
 

@@ -189,9 +189,7 @@ impl Made<'_> {
 
 /// The part of the memory that a write to a segment of the cluster is about.
 pub(super) fn written_part(store: &Store, pair: &Pair, question: &Question) -> Option<Range<usize>> {
-    let Call::Write { segment, handle } = &question.call else {
-        return None;
-    };
+    let Call::Write { segment, handle } = &question.call else { return None };
     let handle = Handle::from_bytes(handle)?;
     let (node, local) = Some(pair.apart).filter(|_| pair.is_apart(&handle))?;
     let segments = &store.clusters[node][local].segments;

@@ -1,7 +1,6 @@
 //! What lists of writers came to, and what they have to come to.
 
-use super::calls::written_part;
-use super::freed::Freed;
+use super::{calls::written_part, freed::Freed};
 use crate::pairs::{parts_of, validates, Pair};
 use crate::words::*;
 use model::met::Met;

@@ -7,16 +7,10 @@ use crate::wide::{asked, held, primary, refused, READ};
 use library::chance::damage::{inflict, Damage, LAST_PLACE};
 use library::words::*;
 
+#[rustfmt::skip]
 const KINDS: [Kind; 9] = [
-    Kind::DeleteCluster,
-    Kind::NewSegment,
-    Kind::DeleteSegment,
-    Kind::Read,
-    Kind::Write,
-    Kind::Reduce,
-    Kind::Freeze,
-    Kind::Look,
-    Kind::Validate,
+    Kind::DeleteCluster, Kind::NewSegment, Kind::DeleteSegment, Kind::Read, Kind::Write, Kind::Reduce, Kind::Freeze,
+    Kind::Look, Kind::Validate,
 ];
 const PLACES: [(usize, usize); 3] = [(NODE, LOCAL), (0, 0), LAST_PLACE];
 /// Of all joins with every set of faults, one in so many: it shares no factor with the numbers of ways but 2, so that

@@ -1,8 +1,7 @@
 //! The archive exports the functions of the header, each of them and nothing else.
 
 use library::guard;
-use std::collections::BTreeSet;
-use std::process::Command;
+use std::{collections::BTreeSet, process::Command};
 
 const HEADER: &str = include_str!("../../../../include/gelmuszta.h");
 const ARCHIVE: &str = concat!(env!("CARGO_MANIFEST_DIR"), "/../../target/staticlib/libgelmuszta.a");

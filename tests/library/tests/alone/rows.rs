@@ -3,8 +3,7 @@
 
 use crate::support::every::{every, Rest};
 use crate::support::{new_cluster, reader};
-use library::question::Question;
-use library::tally::allowed;
+use library::{question::Question, tally::allowed};
 use model::table::{numbers_of, DONE};
 use std::collections::BTreeSet;
 

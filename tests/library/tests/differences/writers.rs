@@ -52,9 +52,7 @@ fn in_either_mode(held: &mut Held, question: &Question, code: u8, meant: Mode) -
     let answer = guard::ask(held, question);
     let seen = Seen::of(held, question).filter(|_| question.code() == code);
     let cluster = seen.and_then(|seen| seen.cluster().filter(|_| seen.mode() == Some(meant)));
-    let (Some(cluster), 9) = (cluster, answer.reply.number) else {
-        return answer;
-    };
+    let (Some(cluster), 9) = (cluster, answer.reply.number) else { return answer };
     let other = question.with_handles(|handle| {
         if handle.is_made_from(cluster.primary(meant.other())) {
             handle.password = derive(cluster.primary(meant), &handle.selector);
@@ -141,9 +139,7 @@ fn in_clean_memory(it: &mut After) {
 
 /// There is no room where something lies.
 fn no_room(seen: &Seen) -> Option<Reply> {
-    let Call::NewSegment { size, .. } = seen.question.call else {
-        return None;
-    };
+    let Call::NewSegment { size, .. } = seen.question.call else { return None };
     let (node, length) = (seen.handle.node.into(), size as usize);
     let base = seen.store.as_ref()?.place(node, length)?;
     let part = Extent { base, length }.in_memory(node);

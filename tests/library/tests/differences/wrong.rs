@@ -6,8 +6,7 @@ use library::guard;
 use library::image::{record_at, segment_at, Image};
 use library::question::{Answer, Held, Question};
 use model::call::{Call, Reply};
-use std::ops::Range;
-use std::rc::Rc;
+use std::{ops::Range, rc::Rc};
 
 pub type Ask = dyn Fn(&mut Held, &Question) -> Answer;
 /// Mode and width are one argument.

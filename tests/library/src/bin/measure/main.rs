@@ -6,11 +6,9 @@ mod repeated;
 mod stores;
 
 use calls::{groups, many_handles, weakening, Row};
-use library::guard;
-use library::words::*;
+use library::{guard, words::*};
 use repeated::{OnImage, OnRecords};
-use std::hint::black_box;
-use std::time::Instant;
+use std::{hint::black_box, time::Instant};
 use stores::{full, held, typical};
 
 const ROUNDS: usize = 1000;

@@ -1,13 +1,9 @@
 //! The same call done again and again: afterwards the record of its cluster is put back.
 
 use crate::stores::{held, memory};
-use library::ffi::HANDLE_MAX;
-use library::guard::handles::Presented;
-use library::guard::Lent;
-use library::words::*;
+use library::{ffi::HANDLE_MAX, guard::handles::Presented, guard::Lent, words::*};
 use model::model::run;
-use std::hint::black_box;
-use std::ops::Range;
+use std::{hint::black_box, ops::Range};
 
 /// A store as an image, for the library and for the model.
 pub struct OnImage {

@@ -22,9 +22,7 @@ pub struct Asked {
 impl Asked {
     /// A damaged image has no store.
     fn of(held: &Held, question: &Question) -> Option<Asked> {
-        let Call::Join { mode, .. } = question.call else {
-            return None;
-        };
+        let Call::Join { mode, .. } = question.call else { return None };
         let mut both = question.call.presented_bytes();
         let both = [both.next()?, both.next()?];
         Some(Asked {
@@ -153,9 +151,7 @@ const RIGHTLY: Given = |it| noting(it.handles[0], &it.primary(0), it.union());
 
 /// What joining by these rows comes to, the first that applies.
 fn by_rows(held: &mut Held, question: &Question, rows: &[Row], given: Given) -> Answer {
-    let Some(asked) = Asked::of(held, question) else {
-        return guard::ask(held, question);
-    };
+    let Some(asked) = Asked::of(held, question) else { return guard::ask(held, question) };
     let refusal = rows.iter().find(|(_, applies)| applies(&asked));
     let reply = match refusal {
         Some((number, _)) => Reply::refused(*number),

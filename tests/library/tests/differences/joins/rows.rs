@@ -125,9 +125,7 @@ table! {
 fn secret(held: &Held, handle: &Handle, has_to_open: bool) -> u32 {
     let store = decode(&held.image);
     let (node, local) = (handle.node.into(), handle.local.into());
-    let Some(cluster) = store.and_then(|store| store.cluster(node, local).copied()) else {
-        return 0;
-    };
+    let Some(cluster) = store.and_then(|store| store.cluster(node, local).copied()) else { return 0 };
     let validates = Mode::ALL.iter().any(|mode| handle.validates(&cluster, *mode));
     let opens = cluster.active && !handle.selector.is_gapped() && validates;
     match opens || !has_to_open {

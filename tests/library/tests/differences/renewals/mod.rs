@@ -17,9 +17,7 @@ pub struct Asked {
 impl Asked {
     /// Whether this new password comes as far as 12 is seen by another one, which the cluster has in neither mode.
     fn of(held: &Held, question: &Question) -> Option<Asked> {
-        let Call::NewPassword { mode, password, .. } = question.call else {
-            return None;
-        };
+        let Call::NewPassword { mode, password, .. } = question.call else { return None };
         let seen = Seen::of(held, question)?;
         let (cluster, handle) = (seen.cluster()?, seen.handle);
         let strange =
@@ -61,9 +59,7 @@ type Outcome = Result<(Cluster, Password), u8>;
 /// This becomes of a new password that nothing before 12 speaks against.
 fn renewed(outcome: impl Fn(&Asked) -> Outcome + 'static) -> Wrong {
     asked(move |held, question| {
-        let Some(asked) = Asked::of(held, question) else {
-            return guard::ask(held, question);
-        };
+        let Some(asked) = Asked::of(held, question) else { return guard::ask(held, question) };
         let reply = match outcome(&asked) {
             Err(number) => Reply::refused(number),
             Ok((cluster, password)) => {
@@ -155,9 +151,7 @@ fn old_before(number: u8) -> Wrong {
 /// Call 1 makes clusters with equal passwords.
 fn twins_made() -> Wrong {
     on(NEW_CLUSTER, 7, |it| {
-        let Call::NewCluster { width, read, write, .. } = it.question.call else {
-            return;
-        };
+        let Call::NewCluster { width, read, write, .. } = it.question.call else { return };
         let (node, local) = it.cluster().expect("2 comes before 7");
         let width = Width::of_segments(width).expect("3 comes before 7");
         let cluster = Cluster::new(width, read, write);

@@ -193,9 +193,7 @@ fn taken() -> Complaint {
 /// Has `wrong` in the place of `right` for call 1, where that applies as well.
 fn call_1(right: u8, wrong: u8) -> Wrong {
     on(NEW_CLUSTER, right, move |it| {
-        let Call::NewCluster { width, read, write, .. } = it.question.call else {
-            return;
-        };
+        let Call::NewCluster { width, read, write, .. } = it.question.call else { return };
         let (node, local) = it.cluster().expect("call 1 names one");
         let applies = match wrong {
             3 => is_none(width),

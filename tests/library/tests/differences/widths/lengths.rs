@@ -3,8 +3,7 @@
 
 use super::{at_first, is_known, is_none, up_to_the_next, widths};
 use crate::words::*;
-use library::chance::handles::at_width;
-use library::compare::is_sound;
+use library::{chance::handles::at_width, compare::is_sound};
 
 /// Takes bytes of one length for a handle of another; those that are missing are all ones.
 fn taken_for(meant: impl Fn(&Question) -> bool + 'static, lengths: fn(usize) -> usize) -> Wrong {
@@ -225,9 +224,7 @@ fn batch_of(taken: fn(usize) -> usize) -> Wrong {
 /// Slots of a length of their own, and handles as long as the width says at the beginning of each.
 fn slots(slot: usize) -> Wrong {
     batch(move |held, how, handles, numbers| {
-        let Some(own) = Width::of_segments(how.1) else {
-            return 0;
-        };
+        let Some(own) = Width::of_segments(how.1) else { return 0 };
         let slots = handles.chunks_exact(slot).map(|handle| {
             let mut handle = handle.to_vec();
             handle.resize(own.handle_bytes(), 0xff);
