@@ -1,10 +1,10 @@
 //! Looks and freezes by chance. What speaks against one of them seldom meets by itself, so that half of them
 //! are made from one that would be done: none, one or two things are made wrong in it.
 
-use super::handles::{self, gapped, of_another_width, of_no_length};
+use super::handles::{self, of_another_width, of_no_length};
 use super::questions::Maker;
 use super::stores::segments_of;
-use super::{below, bits, near};
+use super::{below, bits, gapped, near};
 use crate::words::*;
 use model::listed;
 

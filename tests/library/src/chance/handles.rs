@@ -1,6 +1,6 @@
 //! Handles by chance: right ones for the store as it is, old ones, and ones with something wrong, of every width.
 
-use super::{below, bit, bits, bytes, near, password, width};
+use super::{below, bit, bits, bytes, gapped, near, password, width};
 use model::{generate::to_nothing, words::*};
 
 /// Bytes that are presented for a handle mostly have at most so many; a length byte tells up to 255.
@@ -219,14 +219,4 @@ pub fn at_width(handle: &Handle, width: Width) -> Handle {
         false => part & width.flat() & !1,
     };
     Handle { selector: Selector::new(width, handle.selector.subselectors.map(at)), ..*handle }
-}
-
-pub fn gapped(random: &mut Random, width: Width) -> Selector {
-    let mut selector = Selector::primary(width);
-    let at = 1 + below(random, SUBSELECTORS - 1);
-    selector.subselectors[at] = bits(random, width) & !1;
-    if random.one_in(2) {
-        selector.subselectors[0] = bits(random, width);
-    }
-    selector
 }

@@ -10,6 +10,7 @@ pub mod questions;
 pub mod stores;
 pub mod words;
 
+pub use model::generate::{bit, bits, gapped};
 use model::words::*;
 
 /// Few passwords, so that equal ones meet; sixteen zero bytes are one of them.
@@ -40,16 +41,6 @@ pub fn near(random: &mut Random, mut password: Password) -> Password {
 
 pub fn width(random: &mut Random) -> Width {
     Width::ALL[below(random, Width::ALL.len())]
-}
-
-/// A subselector of this width.
-pub fn bits(random: &mut Random, width: Width) -> u16 {
-    random.number() as u16 & width.flat()
-}
-
-/// One of its bits.
-pub fn bit(random: &mut Random, width: Width) -> u16 {
-    1 << below(random, width.segments())
 }
 
 /// Tries `case` as often as told, each time with chance of its own. An `Err` comes back with the

@@ -35,15 +35,15 @@ impl Maker<'_> {
             call::DELETE_CLUSTER => self.delete_cluster(),
             call::NEW_SEGMENT => self.new_segment(),
             call::DELETE_SEGMENT => self.delete_segment(),
-            call::READ => self.read(),
-            call::WRITE => self.write(),
+            call::READ => self.moving(Mode::Read, Call::read),
+            call::WRITE => self.moving(Mode::Write, Call::write),
             call::WEAKEN => self.weaken(),
-            call::REDUCE => self.reduce(),
+            call::REDUCE => self.with_mode(Call::reduce),
             call::NEW_PASSWORD => self.new_password(),
             call::FREEZE => self.freeze(),
             call::JOIN => self.join(),
             LOOK => self.look(),
-            _ => self.validate(),
+            _ => self.with_mode(Call::validate),
         };
         let buffer_bytes = self.buffer_bytes(&call);
         Question { call, beyond: self.beyond(), buffer: bytes(self.random, buffer_bytes), behind: self.behind() }
@@ -189,28 +189,18 @@ impl Maker<'_> {
         Call::delete_segment(self.current_node(&handle), self.segment(&handle, present), self.presented(&handle))
     }
 
-    fn read(&mut self) -> Call {
-        let handle = self.handle(Mode::Read, false, true);
+    /// A read or a write.
+    fn moving(&mut self, mode: Mode, call: fn(u32, HandleBytes) -> Call) -> Call {
+        let handle = self.handle(mode, false, true);
         let present = !self.random.one_in(8);
-        Call::read(self.segment(&handle, present), self.presented(&handle))
+        call(self.segment(&handle, present), self.presented(&handle))
     }
 
-    fn write(&mut self) -> Call {
-        let handle = self.handle(Mode::Write, false, true);
-        let present = !self.random.one_in(8);
-        Call::write(self.segment(&handle, present), self.presented(&handle))
-    }
-
-    fn reduce(&mut self) -> Call {
+    /// A reduction or a validation.
+    fn with_mode(&mut self, call: fn(u32, HandleBytes) -> Call) -> Call {
         let (mode, number) = self.mode();
         let handle = self.handle(mode, false, true);
-        Call::reduce(number, self.presented(&handle))
-    }
-
-    fn validate(&mut self) -> Call {
-        let (mode, number) = self.mode();
-        let handle = self.handle(mode, false, true);
-        Call::validate(number, self.presented(&handle))
+        call(number, self.presented(&handle))
     }
 
     fn new_password(&mut self) -> Call {
