@@ -166,10 +166,7 @@ fn flat_gapped_and_primary() {
             let is_flat = |k: usize| pattern >> k & 1 == 1;
             // Not flat by the highest bit alone, or by the lowest.
             for missing in [1, 1 << (width.number() - 1)] {
-                let parts = std::array::from_fn(|k| match is_flat(k) {
-                    true => flat(width),
-                    false => flat(width) - missing,
-                });
+                let parts = std::array::from_fn(|k| if is_flat(k) { flat(width) } else { flat(width) - missing });
                 let selector = Selector::new(width, parts);
                 let gapped = (0..3).any(|k| is_flat(k) && !is_flat(k + 1));
                 assert_eq!(selector.is_gapped(), gapped, "{selector:?}");

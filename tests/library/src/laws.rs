@@ -57,10 +57,7 @@ impl Join<'_> {
     }
 
     fn holds(&self, answer: &Answer, one: &HandleBytes, other: &HandleBytes) -> Result<(), String> {
-        let told = |holds: bool, what: &str| match holds {
-            true => Ok(()),
-            false => Err(what.to_string()),
-        };
+        let told = |holds: bool, what: &str| if holds { Ok(()) } else { Err(what.to_string()) };
         let exchanged = self.asked(other, one);
         told(exchanged == *answer, "a join hangs on which handle comes first")?;
         let read = [one, other].map(|bytes| Handle::from_bytes(bytes));

@@ -108,10 +108,7 @@ impl Making {
     fn finished(self, random: &mut Random) -> Join {
         let [first, second] = self.handles.map(|handle| handle.to_bytes());
         let [keeps_first, keeps_second] = self.has_length;
-        let mut bytes = |bytes, keeps| match keeps {
-            true => bytes,
-            false => of_no_length(random, bytes),
-        };
+        let mut bytes = |bytes, keeps| if keeps { bytes } else { of_no_length(random, bytes) };
         Join {
             mode: self.mode,
             is_a_mode: self.is_a_mode,

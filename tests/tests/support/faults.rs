@@ -167,10 +167,7 @@ fn with(kind: Kind, width: Width, faults: Vec<u8>, frozen: bool) -> Faulty {
 fn call(kind: Kind, node: u32, segment: u32, faults: &[u8], handle: HandleBytes) -> Call {
     let has = |number: u8| faults.contains(&number);
     let size = if has(16) { 4096 } else { LENGTH as u32 };
-    let mode = |right| match has(3) {
-        true => 3 * (faults.len() as u32 % 2),
-        false => right,
-    };
+    let mode = |right| if has(3) { 3 * (faults.len() as u32 % 2) } else { right };
     #[rustfmt::skip]
     let call = match kind {
         Kind::DeleteCluster => Call::DeleteCluster { node, handle },

@@ -56,10 +56,7 @@ pub fn valid_call(random: &mut Random, bench: &Bench) -> Call {
         first => first,
     };
     let password: Password = random.bytes();
-    let [read, write] = [cluster.write, cluster.read].map(|other| match random.one_in(2) {
-        true => other,
-        false => password,
-    });
+    let [read, write] = [cluster.write, cluster.read].map(|other| if random.one_in(2) { other } else { password });
     let size = 1 + random.below(40) as u32;
     #[rustfmt::skip]
     let call = match random.below(42) {

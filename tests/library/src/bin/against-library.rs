@@ -69,33 +69,29 @@ fn compare(task: &Task, tally: &mut Tally) -> Result<Vec<Met>, String> {
     Ok(vec![frozen, told, copied, written])
 }
 
+/// How many were asked, and how many of them were done, or are sound, or are a handle's.
+type Asked<'a> = &'a dyn Fn() -> Result<(u64, u64), String>;
+
 fn edges(seed: u64) -> Result<(), String> {
     let images = edges::every_byte(&guard::is_sound, seed).map_err(named("every byte"))?;
     println!("images with one byte changed: {images}");
-    let (images, sound) = edges::pairs_at_words(&guard::is_sound, seed).map_err(named("pairs at words"))?;
-    println!("images with two segments about the borders of words: {images}, {sound} of them sound");
-    let (looks, done) = edges::looks(&guard::ask, seed).map_err(named("edges of looks"))?;
-    println!("looks at the edges: {looks}, {done} of them done");
-    let (freezes, done) = edges::freezes(&guard::ask, seed).map_err(named("edges of freezes"))?;
-    println!("freezes at the edges: {freezes}, {done} of them done");
-    let (joins, done) = edges::joins(&guard::ask, seed).map_err(named("edges of joins"))?;
-    println!("joins at the edges: {joins}, {done} of them done");
-    edges_of_widths(seed)
-}
-
-fn edges_of_widths(seed: u64) -> Result<(), String> {
-    let (calls, done) = edges::lengths(&guard::ask, seed).map_err(named("lengths of handles"))?;
-    println!("calls with handles of every length: {calls}, {done} of them done");
-    let (lengths, made) = edges::handles(&guard::handle_of, seed).map_err(named("handles from bytes"))?;
-    println!("handles from bytes of every length: {lengths}, {made} of them handles'");
-    let (calls, done) = edges::segments(&guard::ask, seed).map_err(named("segments by width"))?;
-    println!("calls by handles of every width, about every segment: {calls}, {done} of them done");
-    let (calls, done) = edges::masks(&guard::ask, seed).map_err(named("masks"))?;
-    println!("weakenings by every mask: {calls}, {done} of them done");
-    let (calls, done) = edges::new_clusters(&guard::ask, seed).map_err(named("widths of new clusters"))?;
-    println!("new clusters of every width: {calls}, {done} of them done");
+    let all: [(&str, Asked); 9] = [
+        ("pairs at words", &|| edges::pairs_at_words(&guard::is_sound, seed)),
+        ("edges of looks", &|| edges::looks(&guard::ask, seed)),
+        ("edges of freezes", &|| edges::freezes(&guard::ask, seed)),
+        ("edges of joins", &|| edges::joins(&guard::ask, seed)),
+        ("lengths of handles", &|| edges::lengths(&guard::ask, seed)),
+        ("handles from bytes", &|| edges::handles(&guard::handle_of, seed)),
+        ("segments by width", &|| edges::segments(&guard::ask, seed)),
+        ("masks", &|| edges::masks(&guard::ask, seed)),
+        ("widths of new clusters", &|| edges::new_clusters(&guard::ask, seed)),
+    ];
+    for (what, compare) in all {
+        let (asked, done) = compare().map_err(named(what))?;
+        println!("{what}: {asked}, {done} of them right");
+    }
     let batches = batch::every_width(&guard::validate_all, seed).map_err(named("widths of batches"))?;
-    println!("batches of every width: {batches}");
+    println!("widths of batches: {batches}");
     Ok(())
 }
 

@@ -117,10 +117,7 @@ fn validate_all(store: &Store, mode: u32, width: Width, handles: &[u8], numbers:
     for (number, bytes) in numbers.iter_mut().zip(handles) {
         let handle = bytes.to_vec();
         let call = Call::Validate { mode, handle };
-        *number = match sound {
-            true => refusal_below(UNSOUND, &call, &found).unwrap_or(DONE),
-            false => UNSOUND,
-        };
+        *number = if sound { refusal_below(UNSOUND, &call, &found).unwrap_or(DONE) } else { UNSOUND };
     }
 }
 
