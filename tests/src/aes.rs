@@ -158,10 +158,7 @@ mod tests {
     use super::*;
 
     fn block(text: &str) -> Block {
-        crate::hexadecimal::decode(text)
-            .unwrap()
-            .try_into()
-            .unwrap()
+        crate::hexadecimal::decode(text).unwrap().try_into().unwrap()
     }
 
     #[test]
@@ -179,13 +176,11 @@ mod tests {
     fn appendix_a_1_key_expansion() {
         let schedule = expand_key(&block("2b7e151628aed2a6abf7158809cf4f3c"));
         let printed = [
-            0x2b7e1516, 0x28aed2a6, 0xabf71588, 0x09cf4f3c, 0xa0fafe17, 0x88542cb1, 0x23a33939,
-            0x2a6c7605, 0xf2c295f2, 0x7a96b943, 0x5935807a, 0x7359f67f, 0x3d80477d, 0x4716fe3e,
-            0x1e237e44, 0x6d7a883b, 0xef44a541, 0xa8525b7f, 0xb671253b, 0xdb0bad00, 0xd4d1c6f8,
-            0x7c839d87, 0xcaf2b8bc, 0x11f915bc, 0x6d88a37a, 0x110b3efd, 0xdbf98641, 0xca0093fd,
-            0x4e54f70e, 0x5f5fc9f3, 0x84a64fb2, 0x4ea6dc4f, 0xead27321, 0xb58dbad2, 0x312bf560,
-            0x7f8d292f, 0xac7766f3, 0x19fadc21, 0x28d12941, 0x575c006e, 0xd014f9a8, 0xc9ee2589,
-            0xe13f0cc8, 0xb6630ca6,
+            0x2b7e1516, 0x28aed2a6, 0xabf71588, 0x09cf4f3c, 0xa0fafe17, 0x88542cb1, 0x23a33939, 0x2a6c7605, 0xf2c295f2,
+            0x7a96b943, 0x5935807a, 0x7359f67f, 0x3d80477d, 0x4716fe3e, 0x1e237e44, 0x6d7a883b, 0xef44a541, 0xa8525b7f,
+            0xb671253b, 0xdb0bad00, 0xd4d1c6f8, 0x7c839d87, 0xcaf2b8bc, 0x11f915bc, 0x6d88a37a, 0x110b3efd, 0xdbf98641,
+            0xca0093fd, 0x4e54f70e, 0x5f5fc9f3, 0x84a64fb2, 0x4ea6dc4f, 0xead27321, 0xb58dbad2, 0x312bf560, 0x7f8d292f,
+            0xac7766f3, 0x19fadc21, 0x28d12941, 0x575c006e, 0xd014f9a8, 0xc9ee2589, 0xe13f0cc8, 0xb6630ca6,
         ];
         assert_eq!(schedule.as_flattened(), printed);
     }
@@ -194,19 +189,13 @@ mod tests {
     fn appendix_b_cipher() {
         let key = block("2b7e151628aed2a6abf7158809cf4f3c");
         let plain = block("3243f6a8885a308d313198a2e0370734");
-        assert_eq!(
-            encrypt(&key, &plain),
-            block("3925841d02dc09fbdc118597196a0b32")
-        );
+        assert_eq!(encrypt(&key, &plain), block("3925841d02dc09fbdc118597196a0b32"));
     }
 
     #[test]
     fn appendix_c_1_cipher() {
         let key = block("000102030405060708090a0b0c0d0e0f");
         let plain = block("00112233445566778899aabbccddeeff");
-        assert_eq!(
-            encrypt(&key, &plain),
-            block("69c4e0d86a7b0430d8cdb78070b4c55a")
-        );
+        assert_eq!(encrypt(&key, &plain), block("69c4e0d86a7b0430d8cdb78070b4c55a"));
     }
 }

@@ -39,68 +39,25 @@ pub const CALLS: [(u8, &str); 11] = [
 /// data are handed over beside the call.
 #[derive(Clone, Debug, PartialEq, Eq)]
 pub enum Call {
-    NewCluster {
-        node: u32,
-        local: u32,
-        width: usize,
-        read: Password,
-        write: Password,
-    },
-    DeleteCluster {
-        node: u32,
-        handle: HandleBytes,
-    },
-    NewSegment {
-        node: u32,
-        segment: u32,
-        size: u32,
-        handle: HandleBytes,
-    },
-    DeleteSegment {
-        node: u32,
-        segment: u32,
-        handle: HandleBytes,
-    },
-    Read {
-        segment: u32,
-        handle: HandleBytes,
-    },
-    Write {
-        segment: u32,
-        handle: HandleBytes,
-    },
-    Weaken {
-        mask: u16,
-        handle: HandleBytes,
-    },
-    Reduce {
-        mode: u32,
-        handle: HandleBytes,
-    },
-    NewPassword {
-        mode: u32,
-        handle: HandleBytes,
-        password: Password,
-    },
-    Freeze {
-        node: u32,
-        segment: u32,
-        handle: HandleBytes,
-    },
-    Join {
-        mode: u32,
-        handle: HandleBytes,
-        other: HandleBytes,
-    },
-    Look {
-        node: u32,
-        segment: u32,
-        handle: HandleBytes,
-    },
-    Validate {
-        mode: u32,
-        handle: HandleBytes,
-    },
+    NewCluster { node: u32, local: u32, width: usize, read: Password, write: Password },
+    DeleteCluster { node: u32, handle: HandleBytes },
+    NewSegment { node: u32, segment: u32, size: u32, handle: HandleBytes },
+    DeleteSegment { node: u32, segment: u32, handle: HandleBytes },
+    Read { segment: u32, handle: HandleBytes },
+    Write { segment: u32, handle: HandleBytes },
+    Weaken { mask: u16, handle: HandleBytes },
+    Reduce { mode: u32, handle: HandleBytes },
+    NewPassword { mode: u32, handle: HandleBytes, password: Password },
+    Freeze { node: u32, segment: u32, handle: HandleBytes },
+    Join { mode: u32, handle: HandleBytes, other: HandleBytes },
+    Look { node: u32, segment: u32, handle: HandleBytes },
+    Validate { mode: u32, handle: HandleBytes },
+}
+
+/// One of these, with the field that they have in common.
+macro_rules! any_of {
+    (_: $($one:ident),*) => { $(Call::$one { .. })|* };
+    ($field:ident: $($one:ident),*) => { $(Call::$one { $field, .. })|* };
 }
 
 impl Call {
@@ -109,17 +66,8 @@ impl Call {
         match self {
             Call::NewCluster { .. } => vec![],
             Call::Join { handle, other, .. } => vec![handle, other],
-            Call::DeleteCluster { handle, .. }
-            | Call::NewSegment { handle, .. }
-            | Call::DeleteSegment { handle, .. }
-            | Call::Read { handle, .. }
-            | Call::Write { handle, .. }
-            | Call::Weaken { handle, .. }
-            | Call::Reduce { handle, .. }
-            | Call::NewPassword { handle, .. }
-            | Call::Freeze { handle, .. }
-            | Call::Look { handle, .. }
-            | Call::Validate { handle, .. } => vec![handle],
+            any_of!(handle: DeleteCluster, NewSegment, DeleteSegment, Read, Write, Freeze, Look) => vec![handle],
+            any_of!(handle: Weaken, Reduce, NewPassword, Validate) => vec![handle],
         }
     }
 
@@ -127,18 +75,8 @@ impl Call {
     pub fn handle_bytes(&self) -> Option<&[u8]> {
         match self {
             Call::NewCluster { .. } => None,
-            Call::DeleteCluster { handle, .. }
-            | Call::NewSegment { handle, .. }
-            | Call::DeleteSegment { handle, .. }
-            | Call::Read { handle, .. }
-            | Call::Write { handle, .. }
-            | Call::Weaken { handle, .. }
-            | Call::Reduce { handle, .. }
-            | Call::NewPassword { handle, .. }
-            | Call::Freeze { handle, .. }
-            | Call::Join { handle, .. }
-            | Call::Look { handle, .. }
-            | Call::Validate { handle, .. } => Some(handle),
+            any_of!(handle: DeleteCluster, NewSegment, DeleteSegment, Read, Write, Freeze, Look) => Some(handle),
+            any_of!(handle: Weaken, Reduce, NewPassword, Join, Validate) => Some(handle),
         }
     }
 
@@ -164,24 +102,14 @@ impl Call {
 
     pub fn current_node(&self) -> Option<u32> {
         match *self {
-            Call::NewCluster { node, .. }
-            | Call::DeleteCluster { node, .. }
-            | Call::NewSegment { node, .. }
-            | Call::DeleteSegment { node, .. }
-            | Call::Freeze { node, .. }
-            | Call::Look { node, .. } => Some(node),
+            any_of!(node: NewCluster, DeleteCluster, NewSegment, DeleteSegment, Freeze, Look) => Some(node),
             _ => None,
         }
     }
 
     pub fn segment(&self) -> Option<u32> {
         match *self {
-            Call::NewSegment { segment, .. }
-            | Call::DeleteSegment { segment, .. }
-            | Call::Read { segment, .. }
-            | Call::Write { segment, .. }
-            | Call::Freeze { segment, .. }
-            | Call::Look { segment, .. } => Some(segment),
+            any_of!(segment: NewSegment, DeleteSegment, Read, Write, Freeze, Look) => Some(segment),
             _ => None,
         }
     }
@@ -189,10 +117,7 @@ impl Call {
     /// The mode that the call names, as it was given.
     pub fn named_mode(&self) -> Option<u32> {
         match *self {
-            Call::Reduce { mode, .. }
-            | Call::NewPassword { mode, .. }
-            | Call::Join { mode, .. }
-            | Call::Validate { mode, .. } => Some(mode),
+            any_of!(mode: Reduce, NewPassword, Join, Validate) => Some(mode),
             _ => None,
         }
     }
@@ -201,28 +126,14 @@ impl Call {
     pub fn needed_mode(&self) -> Option<Mode> {
         match self {
             Call::NewCluster { .. } | Call::Weaken { .. } => None,
-            Call::DeleteCluster { .. }
-            | Call::NewSegment { .. }
-            | Call::DeleteSegment { .. }
-            | Call::Write { .. }
-            | Call::Freeze { .. } => Some(Mode::Write),
+            any_of!(_: DeleteCluster, NewSegment, DeleteSegment, Write, Freeze) => Some(Mode::Write),
             Call::Read { .. } | Call::Look { .. } => Some(Mode::Read),
-            Call::Reduce { mode, .. }
-            | Call::NewPassword { mode, .. }
-            | Call::Join { mode, .. }
-            | Call::Validate { mode, .. } => Mode::from_number(*mode),
+            any_of!(mode: Reduce, NewPassword, Join, Validate) => Mode::from_number(*mode),
         }
     }
 
     pub fn needs_primary(&self) -> bool {
-        matches!(
-            self,
-            Call::DeleteCluster { .. }
-                | Call::NewSegment { .. }
-                | Call::DeleteSegment { .. }
-                | Call::NewPassword { .. }
-                | Call::Freeze { .. }
-        )
+        matches!(self, any_of!(_: DeleteCluster, NewSegment, DeleteSegment, NewPassword, Freeze))
     }
 
     /// Calls that move bytes between a segment and the buffer.
@@ -256,10 +167,7 @@ impl Part {
 
 impl From<Range<usize>> for Part {
     fn from(range: Range<usize>) -> Part {
-        Part {
-            from: range.start,
-            length: range.len(),
-        }
+        Part { from: range.start, length: range.len() }
     }
 }
 
@@ -280,21 +188,11 @@ impl Reply {
     pub const DONE: Reply = Reply::refused(DONE);
 
     pub const fn refused(number: u8) -> Reply {
-        Reply {
-            number,
-            first: HandleBytes::new(),
-            second: HandleBytes::new(),
-            count: 0,
-            length: 0,
-            shown: Part::NONE,
-        }
+        Reply { number, first: HandleBytes::new(), second: HandleBytes::new(), count: 0, length: 0, shown: Part::NONE }
     }
 
     pub fn with_handle(handle: &Handle) -> Reply {
-        Reply {
-            first: handle.to_bytes(),
-            ..Reply::DONE
-        }
+        Reply { first: handle.to_bytes(), ..Reply::DONE }
     }
 
     pub fn is_done(&self) -> bool {

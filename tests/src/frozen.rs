@@ -1,12 +1,7 @@
 //! What is frozen and has to stay, for those who watch a row of calls; and what calls come to where something
 //! is frozen.
 
-use crate::call::Call;
-use crate::sizes::{CLUSTERS, NODES, SEGMENTS};
-use crate::store::{Cluster, Place, Store};
-use crate::table::{
-    Found, DONE, FROZEN, NOT_PRIMARY, NOT_REFERENCED, PRESENT, VIOLATED_PROTECTION,
-};
+use crate::{listed, words::*};
 use std::collections::BTreeMap;
 
 /// Node, local number and segment.
@@ -56,54 +51,39 @@ fn frozen(store: &Store, memory: &[u8]) -> Met {
         .collect()
 }
 
-/// What calls come to where something is frozen. What is made by chance has to come to each.
-#[derive(Clone, Copy, Debug, PartialEq, Eq, PartialOrd, Ord)]
-pub enum Case {
-    /// A freeze of a segment that is frozen is done.
-    Again,
-    /// 22 for call 2: by segment 0 alone, by the last of its width alone, by others and not by segment 0.
-    FirstAlone,
-    LastAlone,
-    NotTheFirst,
-    /// Something of the cluster is frozen, and for call 2 there is 9 or 10 before 22.
-    ClusterViolatedFirst,
-    ClusterNotPrimaryFirst,
-    /// Call 2 is done, and another cluster of the node has a frozen segment.
-    OtherClusterDeleted,
-    /// 13 for call 3.
-    Present,
-    /// The segment is frozen, and there is 9, 10 or 11 before 22.
-    ViolatedFirst,
-    NotPrimaryFirst,
-    NotReferencedFirst,
-    /// 22 for call 6 with data that is short, and with data that is not.
-    Short,
-    LongEnough,
-    /// Done beside a frozen segment of the same cluster.
-    OtherDeleted,
-    OtherWritten,
-    /// Done with a frozen one as with any other.
-    Read,
-    Shown,
-    /// Call 9 is done, and something of the cluster is frozen.
-    Renewed,
+listed! {
+    /// What calls come to where something is frozen. What is made by chance has to come to each.
+    pub enum Case {
+        /// A freeze of a segment that is frozen is done.
+        Again,
+        /// 22 for call 2: by segment 0 alone, by the last of its width alone, by others and not by segment 0.
+        FirstAlone,
+        LastAlone, NotTheFirst,
+        /// Something of the cluster is frozen, and for call 2 there is 9 or 10 before 22.
+        ClusterViolatedFirst,
+        ClusterNotPrimaryFirst,
+        /// Call 2 is done, and another cluster of the node has a frozen segment.
+        OtherClusterDeleted,
+        /// 13 for call 3.
+        Present,
+        /// The segment is frozen, and there is 9, 10 or 11 before 22.
+        ViolatedFirst,
+        NotPrimaryFirst, NotReferencedFirst,
+        /// 22 for call 6 with data that is short, and with data that is not.
+        Short,
+        LongEnough,
+        /// Done beside a frozen segment of the same cluster.
+        OtherDeleted,
+        OtherWritten,
+        /// Done with a frozen one as with any other.
+        Read,
+        Shown,
+        /// Call 9 is done, and something of the cluster is frozen.
+        Renewed,
+    }
 }
 
 impl Case {
-    #[rustfmt::skip]
-    pub const ALL: [Case; 18] = [
-        Case::Again, Case::FirstAlone, Case::LastAlone, Case::NotTheFirst,
-        Case::ClusterViolatedFirst, Case::ClusterNotPrimaryFirst, Case::OtherClusterDeleted,
-        Case::Present, Case::ViolatedFirst, Case::NotPrimaryFirst, Case::NotReferencedFirst,
-        Case::Short, Case::LongEnough, Case::OtherDeleted, Case::OtherWritten,
-        Case::Read, Case::Shown, Case::Renewed,
-    ];
-
-    /// Those that a list can come to: it asks for no look.
-    pub fn in_lists() -> impl Iterator<Item = Case> {
-        Case::ALL.into_iter().filter(|case| *case != Case::Shown)
-    }
-
     /// The case of a call that came to `number`, if it is one; `found` is what it was put to.
     pub fn of(found: &Found, call: &Call, number: u8) -> Option<Case> {
         let handle = call.handle()?;
@@ -140,9 +120,7 @@ impl Case {
             (Call::Write { .. }, FROZEN) if short => Some(Case::Short),
             (Call::Write { .. }, FROZEN) => Some(Case::LongEnough),
             (Call::DeleteSegment { .. }, NOT_PRIMARY) => Some(Case::NotPrimaryFirst),
-            (Call::DeleteSegment { .. } | Call::Write { .. }, VIOLATED_PROTECTION) => {
-                Some(Case::ViolatedFirst)
-            }
+            (Call::DeleteSegment { .. } | Call::Write { .. }, VIOLATED_PROTECTION) => Some(Case::ViolatedFirst),
             _ => None,
         }
     }

@@ -27,10 +27,7 @@ pub struct Selector {
 impl Selector {
     pub fn new(width: Width, subselectors: [u16; SUBSELECTORS]) -> Selector {
         assert!(subselectors.iter().all(|part| part & !width.flat() == 0));
-        Selector {
-            width,
-            subselectors,
-        }
+        Selector { width, subselectors }
     }
 
     pub fn primary(width: Width) -> Selector {
@@ -41,12 +38,7 @@ impl Selector {
     fn from_bytes(bytes: &[u8]) -> Option<Selector> {
         let selector = match *bytes {
             [first, second] => {
-                let halves = [
-                    first & LOW_HALF,
-                    first >> HALF,
-                    second & LOW_HALF,
-                    second >> HALF,
-                ];
+                let halves = [first & LOW_HALF, first >> HALF, second & LOW_HALF, second >> HALF];
                 Selector::new(Width::Four, halves.map(u16::from))
             }
             [a, b, c, d] => Selector::new(Width::Eight, [a, b, c, d].map(u16::from)),
@@ -77,11 +69,7 @@ impl Selector {
 
     /// The referenced segments as a set of bits: those set in every subselector.
     pub fn referenced(&self) -> u16 {
-        self.subselectors
-            .iter()
-            .fold(self.width.flat(), |common, subselector| {
-                common & subselector
-            })
+        self.subselectors.iter().fold(self.width.flat(), |common, subselector| common & subselector)
     }
 
     /// Nothing references a segment that there is not.
@@ -96,9 +84,7 @@ impl Selector {
 
     /// Whether a flat subselector has a non-flat one somewhere above it.
     pub fn is_gapped(&self) -> bool {
-        self.subselectors
-            .windows(2)
-            .any(|pair| self.is_flat(pair[0]) && !self.is_flat(pair[1]))
+        self.subselectors.windows(2).any(|pair| self.is_flat(pair[0]) && !self.is_flat(pair[1]))
     }
 
     pub fn is_primary(&self) -> bool {
@@ -106,9 +92,7 @@ impl Selector {
     }
 
     pub fn first_flat(&self) -> Option<usize> {
-        self.subselectors
-            .iter()
-            .position(|&subselector| self.is_flat(subselector))
+        self.subselectors.iter().position(|&subselector| self.is_flat(subselector))
     }
 }
 
@@ -122,13 +106,8 @@ pub fn convert(password: &Password, parameter: u16) -> Password {
 
 /// The password that a handle with `selector` needs where `primary` is the primary password.
 pub fn derive(primary: &Password, selector: &Selector) -> Password {
-    let converting = selector
-        .subselectors
-        .iter()
-        .filter(|&&subselector| !selector.is_flat(subselector));
-    converting.fold(*primary, |password, &subselector| {
-        convert(&password, subselector)
-    })
+    let converting = selector.subselectors.iter().filter(|&&subselector| !selector.is_flat(subselector));
+    converting.fold(*primary, |password, &subselector| convert(&password, subselector))
 }
 
 #[derive(Clone, Copy, Debug, PartialEq, Eq)]
@@ -147,23 +126,13 @@ impl From<Handle> for HandleBytes {
 
 impl Handle {
     pub fn primary(width: Width, node: u16, local: u8, password: Password) -> Handle {
-        Handle {
-            node,
-            local,
-            password,
-            selector: Selector::primary(width),
-        }
+        Handle { node, local, password, selector: Selector::primary(width) }
     }
 
     /// The handle with `selector` that validates where `primary` is the primary password: one that
     /// references nothing, too, which no weakening gives.
     pub fn converted(node: u16, local: u8, primary: &Password, selector: Selector) -> Handle {
-        Handle {
-            node,
-            local,
-            password: derive(primary, &selector),
-            selector,
-        }
+        Handle { node, local, password: derive(primary, &selector), selector }
     }
 
     /// `None` where the length is none of a handle's.
@@ -171,12 +140,7 @@ impl Handle {
         let selector = Selector::from_bytes(bytes.get(SELECTOR_AT..)?)?;
         let mut password = [0; PASSWORD_BYTES];
         password.copy_from_slice(&bytes[PASSWORD_AT..SELECTOR_AT]);
-        Some(Handle {
-            node: u16::from_be_bytes([bytes[0], bytes[1]]),
-            local: bytes[LOCAL_AT],
-            password,
-            selector,
-        })
+        Some(Handle { node: u16::from_be_bytes([bytes[0], bytes[1]]), local: bytes[LOCAL_AT], password, selector })
     }
 
     pub fn to_bytes(&self) -> HandleBytes {
@@ -259,10 +223,6 @@ impl Handle {
     fn noting(self, segments: u16, primary: &Password) -> Handle {
         let mut selector = Selector::primary(self.width());
         selector.subselectors[0] = segments;
-        Handle {
-            password: convert(primary, segments),
-            selector,
-            ..self
-        }
+        Handle { password: convert(primary, segments), selector, ..self }
     }
 }

@@ -8,7 +8,7 @@
 //! - [`handle`]: selectors, the bytes of each width, conversion, weakening, reduction.
 //! - [`store`]: records, soundness, placement.
 //! - [`table`]: the numbers of refusal, their words, and the test behind each of them.
-//! - [`call`]: the eleven calls, looks and validation with their arguments, and replies; `made` has shorthands for them.
+//! - [`call`]: the eleven calls, looks and validation with their arguments, and replies; `made` has shorthands.
 //! - [`model`]: the calls carried out.
 //! - [`list`]: records of 64 bytes, the chain, and the text that a list comes out as.
 //! - [`vectors`]: the published handles.
@@ -17,6 +17,7 @@
 //! - [`joins`]: how the two handles of a join meet, for those who count what was met.
 //! - [`renewals`]: what a new password meets, and what is done by a handle that opens both modes, for the same.
 //! - [`widths`]: what calls come to by the widths of handles and clusters, for the same.
+//! - [`met`]: the registry of what was met, and of what has to be.
 //! - [`random`], [`generate`]: lists made by chance from a seed.
 //! - [`program`], [`streams`]: a program run, with its input and output in every way that they can come.
 
@@ -29,6 +30,7 @@ pub mod hexadecimal;
 pub mod joins;
 pub mod list;
 mod made;
+pub mod met;
 pub mod model;
 pub mod nothing;
 pub mod program;
@@ -41,3 +43,14 @@ pub mod table;
 pub mod vectors;
 pub mod width;
 pub mod widths;
+
+/// What nearly every file speaks of.
+pub mod words {
+    pub use crate::call::*;
+    pub use crate::handle::*;
+    pub use crate::random::Random;
+    pub use crate::sizes::*;
+    pub use crate::store::*;
+    pub use crate::table::*;
+    pub use crate::width::*;
+}

@@ -1,13 +1,6 @@
 //! Lists of calls: records of 64 bytes, the chain through them, and the text that comes out.
 
-use crate::call::{self, Call, Reply};
-use crate::handle::{HandleBytes, Password};
-use crate::hexadecimal;
-use crate::model;
-use crate::sizes::{MEMORY_BYTES, NODE_BYTES, PASSWORD_BYTES};
-use crate::store::Store;
-use crate::table::{refusal_above, Found, FIELD, LINK, LIST_LENGTH, LOOP};
-use crate::width::Width;
+use crate::{call, hexadecimal, model, words::*};
 
 /// The one width of a list's clusters and handles.
 pub const WIDTH: Width = Width::Eight;
@@ -65,8 +58,7 @@ const REACHABLE: [(u8, &[u8]); 21] = [
 
 /// The pairs that a list can reach: the code of a call and a number.
 pub fn reachable() -> impl Iterator<Item = (u8, u8)> {
-    let pairs =
-        |(number, codes): (u8, &'static [u8])| codes.iter().map(move |code| (*code, number));
+    let pairs = |(number, codes): (u8, &'static [u8])| codes.iter().map(move |code| (*code, number));
     REACHABLE.into_iter().flat_map(pairs)
 }
 
@@ -166,11 +158,7 @@ pub struct Session {
 impl Session {
     /// The starting store, a memory of zeros and a buffer that any segment fits in.
     pub fn starting() -> Session {
-        Session {
-            store: Store::starting(),
-            memory: vec![0; MEMORY_BYTES],
-            buffer: vec![0; NODE_BYTES],
-        }
+        Session { store: Store::starting(), memory: vec![0; MEMORY_BYTES], buffer: vec![0; NODE_BYTES] }
     }
 
     /// What the call of a record finds in `store`: the memory, and the buffer or the write's data.
@@ -190,26 +178,16 @@ impl Session {
         match request(record) {
             Request::BadCode => Reply::refused(FIELD),
             Request::Overlong(call) => {
-                let found = Found {
-                    store: &self.store,
-                    memory_bytes: self.memory.len(),
-                    buffer_bytes: MOST_DATA_BYTES,
-                };
+                let found =
+                    Found { store: &self.store, memory_bytes: self.memory.len(), buffer_bytes: MOST_DATA_BYTES };
                 Reply::refused(refusal_above(FIELD, &call, &found).unwrap_or(FIELD))
             }
             Request::Call(call @ Call::Write { .. }) => {
                 let end = DATA_AT + usize::from(record[DATA_LENGTH_AT]);
                 let mut data = *record;
-                model::run(
-                    &mut self.store,
-                    &mut self.memory,
-                    &mut data[DATA_AT..end],
-                    &call,
-                )
+                model::run(&mut self.store, &mut self.memory, &mut data[DATA_AT..end], &call)
             }
-            Request::Call(call) => {
-                model::run(&mut self.store, &mut self.memory, &mut self.buffer, &call)
-            }
+            Request::Call(call) => model::run(&mut self.store, &mut self.memory, &mut self.buffer, &call),
         }
     }
 

@@ -1,20 +1,12 @@
 //! The eleven calls, looks and validation, carried out on a store, a memory and a buffer that are lent.
 
-use crate::call::{Call, Reply};
-use crate::handle::{Handle, Password};
-use crate::store::{Cluster, Mode, Segment, Store};
-use crate::table::{refusal, Found};
-use crate::width::Width;
+use crate::words::*;
 use std::ops::Range;
 
 /// Runs one call. `buffer` is a read's buffer or a write's data, and is not looked at otherwise.
 /// A refused call changes nothing.
 pub fn run(store: &mut Store, memory: &mut [u8], buffer: &mut [u8], call: &Call) -> Reply {
-    let found = Found {
-        store,
-        memory_bytes: memory.len(),
-        buffer_bytes: buffer.len(),
-    };
+    let found = Found { store, memory_bytes: memory.len(), buffer_bytes: buffer.len() };
     match refusal(call, &found) {
         Some(number) => Reply::refused(number),
         None => carry_out(store, memory, buffer, call),
@@ -26,20 +18,12 @@ fn carry_out(store: &mut Store, memory: &mut [u8], buffer: &mut [u8], call: &Cal
     let mut handles = call.presented();
     let mut handle = || handles.next().expect("row 25 refuses every other length");
     match *call {
-        Call::NewCluster {
-            node,
-            local,
-            width,
-            read,
-            write,
-        } => {
+        Call::NewCluster { node, local, width, read, write } => {
             let width = Width::of_segments(width).expect("row 3 refuses every other width");
             new_cluster(store, (node as usize, local as usize), width, [read, write])
         }
         Call::DeleteCluster { .. } => delete_cluster(store, &handle()),
-        Call::NewSegment { segment, size, .. } => {
-            new_segment(store, memory, segment, size as usize, &handle())
-        }
+        Call::NewSegment { segment, size, .. } => new_segment(store, memory, segment, size as usize, &handle()),
         Call::DeleteSegment { segment, .. } => delete_segment(store, &handle(), segment),
         Call::Read { segment, .. } => read(&memory[part(store, &handle(), segment)], buffer),
         Call::Write { segment, .. } => write(&mut memory[part(store, &handle(), segment)], buffer),
@@ -71,24 +55,13 @@ fn part(store: &Store, handle: &Handle, segment: u32) -> Range<usize> {
     let node = usize::from(handle.node);
     let cluster = &store.clusters[node][usize::from(handle.local)];
     let extent = cluster.segments[segment as usize].extent();
-    extent
-        .expect("row 14 refuses absent segments")
-        .in_memory(node)
+    extent.expect("row 14 refuses absent segments").in_memory(node)
 }
 
-fn new_cluster(
-    store: &mut Store,
-    (node, local): (usize, usize),
-    width: Width,
-    [read, write]: [Password; 2],
-) -> Reply {
+fn new_cluster(store: &mut Store, (node, local): (usize, usize), width: Width, [read, write]: [Password; 2]) -> Reply {
     store.clusters[node][local] = Cluster::new(width, read, write);
     let primary = |password| Handle::primary(width, node as u16, local as u8, password).to_bytes();
-    Reply {
-        first: primary(read),
-        second: primary(write),
-        ..Reply::DONE
-    }
+    Reply { first: primary(read), second: primary(write), ..Reply::DONE }
 }
 
 fn delete_cluster(store: &mut Store, handle: &Handle) -> Reply {
@@ -96,17 +69,9 @@ fn delete_cluster(store: &mut Store, handle: &Handle) -> Reply {
     Reply::DONE
 }
 
-fn new_segment(
-    store: &mut Store,
-    memory: &mut [u8],
-    segment: u32,
-    size: usize,
-    handle: &Handle,
-) -> Reply {
+fn new_segment(store: &mut Store, memory: &mut [u8], segment: u32, size: usize, handle: &Handle) -> Reply {
     let node = usize::from(handle.node);
-    let base = store
-        .place(node, size)
-        .expect("row 16 refuses what has no base");
+    let base = store.place(node, size).expect("row 16 refuses what has no base");
     let placed = Segment::present(base as u16, size as u16);
     *segment_mut(store, handle, segment) = placed;
     memory[part(store, handle, segment)].fill(0);
@@ -126,10 +91,7 @@ fn freeze(store: &mut Store, handle: &Handle, segment: u32) -> Reply {
 
 fn read(part: &[u8], buffer: &mut [u8]) -> Reply {
     buffer[..part.len()].copy_from_slice(part);
-    Reply {
-        length: part.len() as u32,
-        ..Reply::DONE
-    }
+    Reply { length: part.len() as u32, ..Reply::DONE }
 }
 
 fn write(part: &mut [u8], data: &[u8]) -> Reply {
@@ -139,20 +101,12 @@ fn write(part: &mut [u8], data: &[u8]) -> Reply {
 
 /// No byte is copied: the reply tells where in the memory the segment is.
 fn look(part: Range<usize>) -> Reply {
-    Reply {
-        shown: part.into(),
-        ..Reply::DONE
-    }
+    Reply { shown: part.into(), ..Reply::DONE }
 }
 
 fn weaken(handle: Handle, mask: u16) -> Reply {
-    let weaker = handle
-        .weaken(mask)
-        .expect("rows 21 and 17 refuse what cannot be weakened");
-    Reply {
-        count: weaker.selector.count(),
-        ..Reply::with_handle(&weaker)
-    }
+    let weaker = handle.weaken(mask).expect("rows 21 and 17 refuse what cannot be weakened");
+    Reply { count: weaker.selector.count(), ..Reply::with_handle(&weaker) }
 }
 
 fn reduce(store: &mut Store, call: &Call, handle: Handle) -> Reply {

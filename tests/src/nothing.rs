@@ -1,62 +1,40 @@
 //! Ways to nothing: where a weakening would leave no segment, what stands next to that, and what is
 //! still done with a handle that references none. What is made by chance has to come to each.
 
-use crate::call::Call;
-use crate::handle::Handle;
-use crate::table::{DONE, EMPTY, GAPPED, NO_SUCH_PLACE};
+use crate::{listed, words::*};
 
-#[derive(Clone, Copy, Debug, PartialEq, Eq, PartialOrd, Ord)]
-pub enum Way {
-    /// 21: all that the handle references is taken away, and a subselector is flat.
-    AllTaken,
-    /// The same where none is flat: 21 comes before 17.
-    AllTakenNoneFlat,
-    /// 21 by a mask with all bits of the width: the handle references nothing, and a subselector is flat.
-    NothingThere,
-    /// The same where none is flat.
-    NothingThereNoneFlat,
-    /// Nothing would be left, and the handle's place is none: 2 comes before 21.
-    NowhereFirst,
-    /// Nothing would be left, and the selector is gapped: 4 comes before 21.
-    GappedFirst,
-    /// Done: something is taken away, and one segment is left.
-    OneLeft,
-    /// A handle that references nothing is reduced.
-    Reduced,
-    /// A handle that references nothing validates.
-    Validated,
+listed! {
+    pub enum Way {
+        /// 21: all that the handle references is taken away, and a subselector is flat.
+        AllTaken,
+        /// The same where none is flat: 21 comes before 17.
+        AllTakenNoneFlat,
+        /// 21 by a mask with all bits of the width: the handle references nothing, and a subselector is flat.
+        NothingThere,
+        /// The same where none is flat.
+        NothingThereNoneFlat,
+        /// Nothing would be left, and the handle's place is none: 2 comes before 21.
+        NowhereFirst,
+        /// Nothing would be left, and the selector is gapped: 4 comes before 21.
+        GappedFirst,
+        /// Done: something is taken away, and one segment is left.
+        OneLeft,
+        /// A handle that references nothing is reduced.
+        Reduced,
+        /// A handle that references nothing validates.
+        Validated,
+    }
 }
 
 impl Way {
-    pub const ALL: [Way; 9] = [
-        Way::AllTaken,
-        Way::AllTakenNoneFlat,
-        Way::NothingThere,
-        Way::NothingThereNoneFlat,
-        Way::NowhereFirst,
-        Way::GappedFirst,
-        Way::OneLeft,
-        Way::Reduced,
-        Way::Validated,
-    ];
-
-    /// Those that a list can come to: it does not ask for validation by itself.
-    pub fn in_lists() -> impl Iterator<Item = Way> {
-        Way::ALL.into_iter().filter(|way| *way != Way::Validated)
-    }
-
     /// The way that a call which came to `number` has gone, if it is one.
     pub fn of(call: &Call, number: u8) -> Option<Way> {
         let references_nothing = |handle: &Handle| handle.selector.count() == 0;
         let handle = call.handle()?;
         match call {
             Call::Weaken { mask, .. } => Way::of_weakening(&handle, *mask, number),
-            Call::Reduce { .. } if references_nothing(&handle) && number == DONE => {
-                Some(Way::Reduced)
-            }
-            Call::Validate { .. } if references_nothing(&handle) && number == DONE => {
-                Some(Way::Validated)
-            }
+            Call::Reduce { .. } if references_nothing(&handle) && number == DONE => Some(Way::Reduced),
+            Call::Validate { .. } if references_nothing(&handle) && number == DONE => Some(Way::Validated),
             _ => None,
         }
     }

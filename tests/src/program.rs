@@ -27,18 +27,12 @@ pub struct Program {
 
 impl Program {
     pub fn named(name: impl Into<OsString>) -> Program {
-        Program {
-            name: name.into(),
-            arguments: Vec::new(),
-        }
+        Program { name: name.into(), arguments: Vec::new() }
     }
 
     /// A program that is a script of the shell.
     pub fn script(text: &str) -> Program {
-        Program {
-            name: SHELL.into(),
-            arguments: vec!["-c".into(), text.into()],
-        }
+        Program { name: SHELL.into(), arguments: vec!["-c".into(), text.into()] }
     }
 
     /// The program, with nothing to read and what it writes collected.
@@ -60,9 +54,7 @@ impl Program {
     pub fn answer(&self, input: &[u8]) -> io::Result<Outcome> {
         let mut command = self.command();
         command.stdin(Stdio::piped());
-        run(command, |running| {
-            running.feed(|pipe| pipe.write_all(input))
-        })
+        run(command, |running| running.feed(|pipe| pipe.write_all(input)))
     }
 }
 
@@ -90,11 +82,7 @@ pub struct Outcome {
 impl Outcome {
     /// Ended as it should: this text, status 0, and `errors` on standard error.
     pub fn ended(output: &[u8], errors: &str) -> Outcome {
-        Outcome {
-            ending: Ending::Status(0),
-            output: output.to_vec(),
-            errors: errors.into(),
-        }
+        Outcome { ending: Ending::Status(0), output: output.to_vec(), errors: errors.into() }
     }
 }
 
@@ -163,10 +151,7 @@ pub fn run(mut command: Command, beside: impl FnOnce(&mut Running) + Send) -> io
     // The command holds the program's ends of what it was given; with the program gone, nobody may hold them.
     drop(command);
     let (output, errors) = (child.stdout.take(), child.stderr.take());
-    let mut running = Running {
-        process: child.id(),
-        input: child.stdin.take(),
-    };
+    let mut running = Running { process: child.id(), input: child.stdin.take() };
     thread::scope(|scope| {
         let output = scope.spawn(move || collected(output));
         let errors = scope.spawn(move || collected(errors));

@@ -2,10 +2,7 @@
 //! what is done by a handle that opens both modes, as every handle of such a cluster does. What is made by chance has
 //! to come to each.
 
-use crate::call::Call;
-use crate::handle::Password;
-use crate::store::{Cluster, Mode};
-use crate::table::{Found, DONE, NOT_PRIMARY, OLD_PASSWORD, VIOLATED_PROTECTION};
+use crate::words::*;
 use Use::{Change, Join, Look, Read, Reduce, Validate, Write};
 
 /// What a handle that opens both modes is good for, with the mode where the call names one.
@@ -38,16 +35,8 @@ pub enum Renewal {
 }
 
 /// All but a join, which is never done with a primary handle.
-const USES: [Use; 8] = [
-    Read,
-    Look,
-    Write,
-    Change,
-    Reduce(Mode::Read),
-    Reduce(Mode::Write),
-    Validate(Mode::Read),
-    Validate(Mode::Write),
-];
+const USES: [Use; 8] =
+    [Read, Look, Write, Change, Reduce(Mode::Read), Reduce(Mode::Write), Validate(Mode::Read), Validate(Mode::Write)];
 
 impl Renewal {
     /// Everything that has to be met.
@@ -78,14 +67,11 @@ impl Renewal {
     /// What a call that came to `number` has met, if anything; `found` is what it was put to.
     pub fn of(found: &Found, call: &Call, number: u8) -> Option<Renewal> {
         let handle = call.handle()?;
-        let (node, local) = (usize::from(handle.node), usize::from(handle.local));
-        let cluster = found.store.cluster(node, local)?;
+        let cluster = found.store.cluster_of(&handle)?;
         if let Call::NewPassword { password, .. } = call {
             return renewed(cluster, call.needed_mode()?, password, number);
         }
-        let opens_both = Mode::ALL
-            .iter()
-            .all(|mode| handle.validates(cluster, *mode));
+        let opens_both = Mode::ALL.iter().all(|mode| handle.validates(cluster, *mode));
         let by = used(call).filter(|_| number == DONE && opens_both)?;
         match handle.selector.is_primary() {
             true => Some(Renewal::ByPrimary(by)),
@@ -113,10 +99,9 @@ fn used(call: &Call) -> Option<Use> {
         Call::Read { .. } => Some(Read),
         Call::Look { .. } => Some(Look),
         Call::Write { .. } => Some(Write),
-        Call::DeleteCluster { .. }
-        | Call::NewSegment { .. }
-        | Call::DeleteSegment { .. }
-        | Call::Freeze { .. } => Some(Change),
+        Call::DeleteCluster { .. } | Call::NewSegment { .. } | Call::DeleteSegment { .. } | Call::Freeze { .. } => {
+            Some(Change)
+        }
         Call::Reduce { .. } => call.needed_mode().map(Reduce),
         Call::Join { .. } => call.needed_mode().map(Join),
         Call::Validate { .. } => call.needed_mode().map(Validate),

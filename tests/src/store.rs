@@ -3,10 +3,8 @@
 //! The types hold damaged stores too: any base, any length, a mark on an absent segment, an inactive
 //! cluster with secrets, any width.
 
-use crate::handle::Password;
-use crate::sizes::{
-    CLUSTERS, MEMORY_BYTES, NODES, NODE_BYTES, NODE_SEGMENTS, PASSWORD_BYTES, SEGMENTS,
-};
+use crate::handle::{Handle, Password};
+use crate::sizes::{CLUSTERS, MEMORY_BYTES, NODES, NODE_BYTES, NODE_SEGMENTS, PASSWORD_BYTES, SEGMENTS};
 use crate::width::Width;
 use std::ops::Range;
 
@@ -25,25 +23,16 @@ pub struct Segment {
 }
 
 impl Segment {
-    pub const ABSENT: Segment = Segment {
-        place: Place::Absent,
-        frozen: false,
-    };
+    pub const ABSENT: Segment = Segment { place: Place::Absent, frozen: false };
 
     /// Present and not frozen, as new ones are.
     pub const fn present(base: u16, length: u16) -> Segment {
-        Segment {
-            place: Place::Present { base, length },
-            frozen: false,
-        }
+        Segment { place: Place::Present { base, length }, frozen: false }
     }
 
     /// The same with its mark set.
     pub const fn marked(self) -> Segment {
-        Segment {
-            frozen: true,
-            ..self
-        }
+        Segment { frozen: true, ..self }
     }
 
     pub fn is_present(&self) -> bool {
@@ -59,10 +48,7 @@ impl Segment {
     pub fn extent(&self) -> Option<Extent> {
         match self.place {
             Place::Absent => None,
-            Place::Present { base, length } => Some(Extent {
-                base: usize::from(base),
-                length: usize::from(length),
-            }),
+            Place::Present { base, length } => Some(Extent { base: usize::from(base), length: usize::from(length) }),
         }
     }
 }
@@ -144,13 +130,7 @@ impl Cluster {
 
     /// An active cluster as call 1 makes it.
     pub fn new(width: Width, read: Password, write: Password) -> Cluster {
-        Cluster {
-            active: true,
-            width: width.number(),
-            read,
-            write,
-            ..Cluster::INACTIVE
-        }
+        Cluster { active: true, width: width.number(), read, write, ..Cluster::INACTIVE }
     }
 
     pub fn has_segments(&self) -> bool {
@@ -229,10 +209,9 @@ impl Extents {
     }
 
     fn iter(&self) -> impl Iterator<Item = Extent> + '_ {
-        self.list[..self.count].iter().map(|word| Extent {
-            base: (word >> 16) as usize,
-            length: (word & 0xffff) as usize,
-        })
+        self.list[..self.count]
+            .iter()
+            .map(|word| Extent { base: (word >> 16) as usize, length: (word & 0xffff) as usize })
     }
 
     /// Each inside the node, and each ended where the next begins: then no two share a byte.
@@ -254,13 +233,16 @@ pub struct Store {
 impl Store {
     /// The starting store: every cluster inactive.
     pub fn starting() -> Store {
-        Store {
-            clusters: [[Cluster::INACTIVE; CLUSTERS]; NODES],
-        }
+        Store { clusters: [[Cluster::INACTIVE; CLUSTERS]; NODES] }
     }
 
     pub fn cluster(&self, node: usize, local: usize) -> Option<&Cluster> {
         self.clusters.get(node)?.get(local)
+    }
+
+    /// The cluster that the handle names, if there is such a place.
+    pub fn cluster_of(&self, handle: &Handle) -> Option<&Cluster> {
+        self.cluster(handle.node.into(), handle.local.into())
     }
 
     /// Soundness, for a memory slice of `memory_bytes` bytes.

@@ -17,16 +17,12 @@ impl Width {
 
     /// The width of a cluster with so many segments, if there may be one.
     pub fn of_segments(segments: usize) -> Option<Width> {
-        Width::ALL
-            .into_iter()
-            .find(|width| width.segments() == segments)
+        Width::ALL.into_iter().find(|width| width.segments() == segments)
     }
 
     /// The width that the length of a handle tells; `None` for every length but 21, 23 and 27.
     pub fn of_handle_bytes(bytes: usize) -> Option<Width> {
-        Width::ALL
-            .into_iter()
-            .find(|width| width.handle_bytes() == bytes)
+        Width::ALL.into_iter().find(|width| width.handle_bytes() == bytes)
     }
 
     pub const fn segments(self) -> usize {

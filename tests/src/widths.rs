@@ -2,11 +2,7 @@
 //! that no handle has, segments and masks beside the width. What is made by chance has to come to each; lists have one
 //! width alone.
 
-use crate::call::Call;
-use crate::handle::Handle;
-use crate::store::Cluster;
-use crate::table::{Found, DONE, EMPTY, FIELD, LENGTH};
-use crate::width::Width;
+use crate::words::*;
 
 /// A length that no handle has.
 #[derive(Clone, Copy, Debug, PartialEq, Eq, PartialOrd, Ord)]
@@ -53,26 +49,14 @@ pub enum Sight {
     KeptAbove,
 }
 
+#[rustfmt::skip]
 const OTHERS: [Sight; 10] = [
-    Sight::UpperSegment,
-    Sight::SegmentOfTheCluster,
-    Sight::SegmentOfTheHandle,
-    Sight::NoLengthFirst,
-    Sight::OtherMadeFrom,
-    Sight::OtherForged,
-    Sight::UpperClear,
-    Sight::UpperSet,
-    Sight::KeptAbove,
+    Sight::UpperSegment, Sight::SegmentOfTheCluster, Sight::SegmentOfTheHandle, Sight::NoLengthFirst,
+    Sight::OtherMadeFrom, Sight::OtherForged, Sight::UpperClear, Sight::UpperSet, Sight::KeptAbove,
     Sight::NoLength(Wrong::Nothing),
 ];
 
-const WRONG: [Wrong; 5] = [
-    Wrong::Short,
-    Wrong::Twenty,
-    Wrong::Between,
-    Wrong::TwentyEight,
-    Wrong::Long,
-];
+const WRONG: [Wrong; 5] = [Wrong::Short, Wrong::Twenty, Wrong::Between, Wrong::TwentyEight, Wrong::Long];
 
 impl Sight {
     /// Everything that has to be met.
@@ -101,10 +85,7 @@ impl Sight {
             return sights;
         }
         for handle in call.presented() {
-            let (node, local) = (usize::from(handle.node), usize::from(handle.local));
-            let Some(cluster) = found.store.cluster(node, local) else {
-                continue;
-            };
+            let Some(cluster) = found.store.cluster_of(&handle) else { continue };
             sights.extend(match number {
                 DONE => done(call, &handle),
                 FIELD => beyond(call, &handle, cluster).into_iter().collect(),
@@ -164,9 +145,7 @@ fn done(call: &Call, handle: &Handle) -> Vec<Sight> {
 
 fn kept_above(call: &Call, handle: &Handle) -> Option<Sight> {
     match *call {
-        Call::Weaken { mask, .. } if mask != 0 && upper(handle, mask).0 == mask => {
-            Some(Sight::KeptAbove)
-        }
+        Call::Weaken { mask, .. } if mask != 0 && upper(handle, mask).0 == mask => Some(Sight::KeptAbove),
         _ => None,
     }
 }
@@ -179,20 +158,12 @@ fn beyond(call: &Call, handle: &Handle, cluster: &Cluster) -> Option<Sight> {
 
 fn other(call: &Call, handle: &Handle, cluster: &Cluster) -> Vec<Sight> {
     let (width, known) = (handle.width(), cluster.known_width());
-    let Some(own) = known.filter(|own| *own != width) else {
-        return Vec::new();
-    };
+    let Some(own) = known.filter(|own| *own != width) else { return Vec::new() };
     let is_beyond = |segment: u32| segment as usize >= own.segments();
     let segment = call.segment().filter(|segment| is_beyond(*segment));
     let mode = call.needed_mode();
     let made_from = mode.is_some_and(|mode| handle.is_made_from(cluster.primary(mode)));
-    let password = match made_from {
-        true => Sight::OtherMadeFrom,
-        false => Sight::OtherForged,
-    };
+    let password = if made_from { Sight::OtherMadeFrom } else { Sight::OtherForged };
     let segment = segment.map(|_| Sight::SegmentOfTheHandle);
-    segment
-        .into_iter()
-        .chain([Sight::Other(width, own), password])
-        .collect()
+    segment.into_iter().chain([Sight::Other(width, own), password]).collect()
 }

@@ -10,11 +10,7 @@ fn new_cluster_gives_both_primary_handles() {
         let mut bench = Bench::starting();
         let reply = bench.reply(new_cluster_of(width, 3, 7));
         let primary = |password| Handle::primary(width, 3, 7, password).to_bytes();
-        let expected = Reply {
-            first: primary(READ_SECRET),
-            second: primary(WRITE_SECRET),
-            ..Reply::DONE
-        };
+        let expected = Reply { first: primary(READ_SECRET), second: primary(WRITE_SECRET), ..Reply::DONE };
         assert_eq!(reply, expected);
         let made = Cluster {
             active: true,
@@ -73,12 +69,7 @@ fn placement_looks_at_every_cluster_of_the_node() {
             let local = 3 + at as u8;
             assert_eq!(bench.number(new_cluster_of(other, 0, local.into())), 0);
             let segment = u32::from(other.number()) - 1;
-            let call = Call::new_segment(
-                0,
-                segment,
-                9,
-                Handle::primary(other, 0, local, WRITE_SECRET),
-            );
+            let call = Call::new_segment(0, segment, 9, Handle::primary(other, 0, local, WRITE_SECRET));
             assert_eq!(bench.number(call), 0);
             let placed = Segment::present(4 + 9 * at as u16, 9);
             let segments = bench.store.clusters[0][usize::from(local)].segments;
@@ -106,10 +97,7 @@ fn read_fills_the_front_of_the_buffer() {
         let mut buffer = *b"........";
         let read = Call::read(own(width), reader_of(width));
         let reply = bench.ask(read, &mut buffer);
-        let expected = Reply {
-            length: 4,
-            ..Reply::DONE
-        };
+        let expected = Reply { length: 4, ..Reply::DONE };
         assert_eq!(reply, expected);
         assert_eq!(&buffer, b"abcd....");
     }
@@ -132,10 +120,7 @@ fn write_takes_the_front_of_the_data() {
 fn weaken_looks_at_no_store() {
     for width in Width::ALL {
         let (mut bench, flat) = (Bench::starting(), width.flat());
-        let reply = bench.reply(Call::weaken(
-            0xff09,
-            Handle::primary(width, 3, 7, READ_SECRET),
-        ));
+        let reply = bench.reply(Call::weaken(0xff09, Handle::primary(width, 3, 7, READ_SECRET)));
         let weaker = given(&reply);
         let noted = 0xff09 & flat;
         let selector = Selector::new(width, [noted, flat, flat, flat]);
@@ -155,15 +140,9 @@ fn reduce_gives_a_handle_that_opens_the_same() {
         let bit = 1 << own(width);
         let weakened = reader_of(width).weaken(flat - 1).unwrap();
         let weakened = weakened.weaken(bit).unwrap();
-        let reduce = |handle: Handle| Call::Reduce {
-            mode: READ_MODE,
-            handle: handle.into(),
-        };
+        let reduce = |handle: Handle| Call::Reduce { mode: READ_MODE, handle: handle.into() };
         let reduced = given(&bench.reply(reduce(weakened)));
-        assert_eq!(
-            reduced.selector,
-            Selector::new(width, [bit, flat, flat, flat])
-        );
+        assert_eq!(reduced.selector, Selector::new(width, [bit, flat, flat, flat]));
         assert_ne!(reduced.password, weakened.password);
         assert_eq!(bench.read(own(width), reduced), Ok(b"abcd".to_vec()));
         let unchanged = bench.reply(reduce(reader_of(width)));

@@ -1,13 +1,10 @@
 //! Lists made by chance: what holds of the model on all of them.
 
-use model::frozen::{Case, Watch};
+use model::frozen::Watch;
 use model::generate;
-use model::joins::Meeting;
 use model::list::{chain, output, reachable, records, request, run, Request, Session, CODE_AT};
-use model::nothing::Way;
-use model::random::Random;
-use model::renewals::Renewal;
-use model::sizes::MEMORY_BYTES;
+use model::met::{due_in_lists, situations, way, Met};
+use model::words::*;
 use std::collections::BTreeSet;
 
 const LISTS: usize = 300;
@@ -32,30 +29,23 @@ fn a_seed_repeats_its_lists() {
 
 #[test]
 fn lists_reach_what_can_be_reached() {
-    let mut pairs = BTreeSet::new();
-    let mut ways = BTreeSet::new();
-    let mut cases = BTreeSet::new();
-    let mut meetings = BTreeSet::new();
-    let mut renewals = BTreeSet::new();
-    let mut refused = BTreeSet::new();
+    let (mut pairs, mut refused) = (BTreeSet::new(), BTreeSet::new());
+    let mut met = Met::new("lists", due_in_lists());
     for list in all(1).take(REACHING) {
         let text = run(&list, |found, record, reply| match request(record) {
             Request::BadCode => {}
             Request::Overlong(call) | Request::Call(call) => {
                 pairs.insert((record[CODE_AT], reply.number));
-                ways.extend(Way::of(&call, reply.number));
-                cases.extend(Case::of(found, &call, reply.number));
-                meetings.extend(Meeting::of(found, &call, reply.number));
-                renewals.extend(Renewal::of(found, &call, reply.number));
+                met.note_all(way(&call, reply.number));
+                met.note_all(situations(found, &call, reply.number));
             }
         });
         refused.extend(text.strip_prefix(b"list ").map(<[u8]>::to_vec));
     }
     assert_eq!(pairs, reachable().collect());
-    assert_eq!(ways, Way::in_lists().collect());
-    assert_eq!(cases, Case::in_lists().collect());
-    assert!(meetings.is_superset(&Meeting::in_lists().collect()));
-    assert_eq!(renewals, Renewal::in_lists().collect());
+    assert!(met.faults().is_empty(), "{:?}", met.faults());
+    let mut beyond = met.not_due().filter(|what| !what.starts_with("a join, "));
+    assert_eq!(beyond.next(), None);
     assert_eq!(refused.len(), 3);
 }
 
@@ -63,28 +53,14 @@ fn lists_reach_what_can_be_reached() {
 fn refused_calls_change_nothing_and_what_is_sound_or_frozen_stays() {
     let mut frozen = 0;
     for list in lists(2) {
-        let Some(Ok((order, records))) = records(&list).map(|all| Ok::<_, u8>((chain(&all)?, all)))
-        else {
-            continue;
-        };
+        let Some(Ok((order, records))) = records(&list).map(|all| Ok::<_, u8>((chain(&all)?, all))) else { continue };
         let mut session = Session::starting();
         let mut watch = Watch::default();
         for number in order {
-            let before = (
-                session.store.clone(),
-                session.memory.clone(),
-                session.buffer.clone(),
-            );
+            let before = (session.store.clone(), session.memory.clone(), session.buffer.clone());
             let reply = session.run(records[usize::from(number) - 1]);
             if !reply.is_done() {
-                assert!(
-                    before
-                        == (
-                            session.store.clone(),
-                            session.memory.clone(),
-                            session.buffer.clone()
-                        )
-                );
+                assert!(before == (session.store.clone(), session.memory.clone(), session.buffer.clone()));
                 assert!(reply.first.is_empty() && reply.second.is_empty());
                 assert_eq!((reply.count, reply.length), (0, 0));
             }

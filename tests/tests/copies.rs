@@ -1,12 +1,11 @@
 //! Nothing of a cluster is told to those who have no handle of it. Two states begin alike but for the bytes of one
-//! cluster's segments and its two passwords, and no call presents a handle that opens it in either state; one of another
-//! width does not. Then both reply the same, stay alike in all else, and each keeps that cluster as it was.
+//! cluster's segments and its two passwords, and no call presents a handle that opens it in either state; one of
+//! another width does not. Then both reply the same, stay alike in all else, and each keeps that cluster as it was.
 
 mod support;
 
 use std::collections::BTreeMap;
-use support::valid::*;
-use support::*;
+use support::{valid::*, *};
 
 const LISTS: usize = 300;
 const LIST_CALLS: usize = 60;
@@ -28,9 +27,7 @@ fn opens(states: &[Bench; 2], handle: &Handle) -> bool {
     let cluster = |state: &Bench| state.store.clusters[0][APART];
     let validates = |state: &Bench| {
         let cluster = cluster(state);
-        Mode::ALL
-            .iter()
-            .any(|mode| handle.validates(&cluster, *mode))
+        Mode::ALL.iter().any(|mode| handle.validates(&cluster, *mode))
     };
     handle.name() == (0, APART as u8) && states.iter().any(validates)
 }
@@ -42,9 +39,7 @@ fn shut(random: &mut Random, cluster: &Cluster, handle: &Handle) -> Handle {
         shut.password[random.below(16) as usize] ^= 1 << random.below(8);
         return shut;
     }
-    let width = others(handle.width())
-        .nth(random.below(2) as usize)
-        .unwrap();
+    let width = others(handle.width()).nth(random.below(2) as usize).unwrap();
     let primary = *random.pick(&[cluster.read, cluster.write]).unwrap();
     let (node, local) = handle.name();
     let handle = Handle::primary(width, node, local, primary);
@@ -116,30 +111,18 @@ fn the_same_is_told_whatever_it_holds() {
             };
             let name = format!("{call:?}").split(' ').next().map(str::to_string);
             let number = one.0.number;
-            *met.entry((local, name.expect("it has one"), number))
-                .or_default() += 1;
+            *met.entry((local, name.expect("it has one"), number)).or_default() += 1;
             if local == APART && !matches!(call, Call::Weaken { .. }) {
                 let by = call.handle().map(|handle| handle.width());
                 *widths.entry((width, by, number)).or_default() += 1;
             }
         }
     }
-    for name in [
-        "NewSegment",
-        "Read",
-        "Look",
-        "Write",
-        "Reduce",
-        "NewPassword",
-        "Join",
-    ] {
+    for name in ["NewSegment", "Read", "Look", "Write", "Reduce", "NewPassword", "Join"] {
         for (local, number) in [(APART, 25), (APART, 9), (BESIDE, 0)] {
             let count = met.get(&(local, name.to_string(), number));
             let fewest = if number == 0 { 5 } else { 30 };
-            assert!(
-                count.is_some_and(|count| *count > fewest),
-                "{name} {number} {met:?}"
-            );
+            assert!(count.is_some_and(|count| *count > fewest), "{name} {number} {met:?}");
         }
     }
     // Of each width, by handles of each.
@@ -150,7 +133,5 @@ fn the_same_is_told_whatever_it_holds() {
             assert!(count.is_some_and(|count| *count > 100), "{widths:?}");
         }
     }
-    assert!(met
-        .keys()
-        .all(|(local, name, number)| { *local == BESIDE || *number != 0 || name == "Weaken" }));
+    assert!(met.keys().all(|(local, name, number)| { *local == BESIDE || *number != 0 || name == "Weaken" }));
 }

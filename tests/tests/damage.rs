@@ -86,8 +86,8 @@ fn refused(store: &Store, call: &Call) -> u8 {
 #[test]
 fn damage_anywhere_refuses_all_but_weakening_and_changes_nothing() {
     for width in Width::ALL {
-        let [reader, writer] = [READ_SECRET, WRITE_SECRET]
-            .map(|password| Handle::primary(width, 1, 3, password).to_bytes());
+        let [reader, writer] =
+            [READ_SECRET, WRITE_SECRET].map(|password| Handle::primary(width, 1, 3, password).to_bytes());
         for call in calls(&reader, &writer) {
             assert_eq!(asked(&store_of(width), &call).0.number, 0, "{call:?}");
             for damaged in damaged(width) {
@@ -136,10 +136,7 @@ fn damage_does_not_matter_to_weakening() {
 #[test]
 fn unsound_comes_before_all_but_a_length() {
     for width in Width::ALL {
-        let nowhere = |handle| Call::Read {
-            segment: 99,
-            handle,
-        };
+        let nowhere = |handle| Call::Read { segment: 99, handle };
         let handle = Handle::primary(width, 9, 9, READ_SECRET).to_bytes();
         let short = handle[..20].to_vec();
         for (handle, number) in [(handle, UNSOUND), (short, LENGTH)] {

@@ -12,13 +12,9 @@ fn examples() -> PathBuf {
 
 fn lists() -> Vec<PathBuf> {
     let folders = [examples(), examples().join("lists")];
-    let entries = folders
-        .iter()
-        .flat_map(|folder| fs::read_dir(folder).unwrap());
+    let entries = folders.iter().flat_map(|folder| fs::read_dir(folder).unwrap());
     let paths = entries.map(|entry| entry.unwrap().path());
-    paths
-        .filter(|path| path.extension().is_some_and(|ending| ending == "list"))
-        .collect()
+    paths.filter(|path| path.extension().is_some_and(|ending| ending == "list")).collect()
 }
 
 #[test]
@@ -39,9 +35,7 @@ fn every_pair_that_a_list_can_reach() {
             reached.insert((record[CODE_AT], reply.number));
         });
     }
-    let (calls, bad): (BTreeSet<_>, BTreeSet<_>) = reached
-        .into_iter()
-        .partition(|(code, _)| (1..=11).contains(code));
+    let (calls, bad): (BTreeSet<_>, BTreeSet<_>) = reached.into_iter().partition(|(code, _)| (1..=11).contains(code));
     assert_eq!(calls, reachable().collect());
     assert!(bad.len() > 3 && bad.iter().all(|(_, number)| *number == 3));
 }

@@ -5,26 +5,13 @@ mod support;
 use support::*;
 
 fn made(node: u32, local: u32, width: usize, write: [u8; 16]) -> Call {
-    Call::NewCluster {
-        node,
-        local,
-        width,
-        read: READ_SECRET,
-        write,
-    }
+    Call::NewCluster { node, local, width, read: READ_SECRET, write }
 }
 
 /// Every small number, and numbers that are right in their lowest bytes alone.
 fn widths() -> impl Iterator<Item = usize> {
     let far = [4, 8, 16].into_iter().flat_map(|right| {
-        [
-            1 << 8,
-            1 << 16,
-            1 << 31,
-            1_usize.rotate_right(1),
-            usize::MAX - 31,
-        ]
-        .map(|more| right + more)
+        [1 << 8, 1 << 16, 1 << 31, 1_usize.rotate_right(1), usize::MAX - 31].map(|more| right + more)
     });
     (0..300).chain(far).chain([usize::MAX])
 }
@@ -40,20 +27,11 @@ fn widths_of_a_new_cluster() {
             continue;
         };
         let primary = |password| Handle::primary(known, 3, 7, password).to_bytes();
-        let expected = Reply {
-            first: primary(READ_SECRET),
-            second: primary(WRITE_SECRET),
-            ..Reply::DONE
-        };
+        let expected = Reply { first: primary(READ_SECRET), second: primary(WRITE_SECRET), ..Reply::DONE };
         assert_eq!(reply, expected);
         assert_eq!(reply.first.len(), 19 + width / 2);
-        let cluster = Cluster {
-            active: true,
-            width: width as u8,
-            read: READ_SECRET,
-            write: WRITE_SECRET,
-            ..Cluster::INACTIVE
-        };
+        let cluster =
+            Cluster { active: true, width: width as u8, read: READ_SECRET, write: WRITE_SECRET, ..Cluster::INACTIVE };
         let mut left = Bench::starting();
         left.store.clusters[3][7] = cluster;
         assert_eq!(state, left);
@@ -67,8 +45,7 @@ fn after_2_and_before_6() {
     for set in 0..32_u32 {
         for wrong in [0, 3, 5, 7, 9, 15, 17, 32, 260, usize::MAX] {
             for right in Width::ALL {
-                let [unsound, nowhere, field, in_use, twins] =
-                    [0, 1, 2, 3, 4].map(|at| set >> at & 1 == 1);
+                let [unsound, nowhere, field, in_use, twins] = [0, 1, 2, 3, 4].map(|at| set >> at & 1 == 1);
                 let mut state = Bench::starting();
                 if in_use {
                     assert_eq!(state.number(new_cluster_of(right, 1, 2)), 0);
@@ -77,13 +54,7 @@ fn after_2_and_before_6() {
                 let node = if nowhere { 4 } else { 1 };
                 let width = if field { wrong } else { right.segments() };
                 let write = if twins { READ_SECRET } else { WRITE_SECRET };
-                let numbers = [
-                    (unsound, 1),
-                    (nowhere, 2),
-                    (field, 3),
-                    (in_use, 6),
-                    (twins, 7),
-                ];
+                let numbers = [(unsound, 1), (nowhere, 2), (field, 3), (in_use, 6), (twins, 7)];
                 let first = numbers.iter().find(|(applies, _)| *applies);
                 let expected = first.map_or(0, |(_, number)| *number);
                 let before = state.clone();
@@ -116,9 +87,7 @@ fn segments_of_the_handle_s_width() {
     for width in Width::ALL {
         let mut state = Bench::with_cluster_of(width);
         for segment in segments(width) {
-            let numbers = calls(segment, reader_of(width), writer_of(width))
-                .into_iter()
-                .map(|call| state.number(call));
+            let numbers = calls(segment, reader_of(width), writer_of(width)).into_iter().map(|call| state.number(call));
             assert!(numbers.eq([0, 0, 0, 0, 0, 22]), "{segment}");
         }
         let far = [16, 17, 31, 255, 256, 256 + 3, 65_536, u32::MAX];
@@ -141,10 +110,7 @@ fn whatever_the_cluster_s_width() {
             let mut gapped = forged;
             gapped.selector.subselectors[1] = 1;
             for segment in 0..20 {
-                let number = match segments(other).contains(&segment) {
-                    true => 25,
-                    false => 3,
-                };
+                let number = if segments(other).contains(&segment) { 25 } else { 3 };
                 for call in calls(segment, forged, forged) {
                     assert_eq!(state.number(&call), number, "{call:?}");
                 }

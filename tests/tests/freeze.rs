@@ -39,9 +39,7 @@ fn delete_cluster(handle: Handle) -> Call {
 #[test]
 fn its_word_and_its_places() {
     assert_eq!(word(22), Some("frozen"));
-    let places = [
-        25, 1, 2, 3, 4, 24, 5, 6, 7, 8, 25, 9, 23, 10, 22, 11, 12, 13, 14, 22, 15, 16, 21, 17,
-    ];
+    let places = [25, 1, 2, 3, 4, 24, 5, 6, 7, 8, 25, 9, 23, 10, 22, 11, 12, 13, 14, 22, 15, 16, 21, 17];
     assert!(numbers_of_calls().eq(places));
 }
 
@@ -82,10 +80,7 @@ fn new_ones_are_not_frozen() {
     assert_eq!(bench.number(delete_segment(5)), 0);
     assert_eq!(bench.store.clusters[0][2].segments[5], Segment::ABSENT);
     assert_eq!(bench.number(new_segment(5, 3)), 0);
-    assert_eq!(
-        bench.store.clusters[0][2].segments[5],
-        Segment::present(20, 3)
-    );
+    assert_eq!(bench.store.clusters[0][2].segments[5], Segment::present(20, 3));
     assert_eq!(bench.write(5, b"efg", writer()), 0);
     assert_eq!(bench.number(delete_segment(5)), 0);
     assert_eq!(bench.number(new_cluster(0, 3)), 0);
@@ -97,11 +92,7 @@ fn new_ones_are_not_frozen() {
 fn everything_else_is_as_with_any_other() {
     let (mut frozen, mut free) = (bench(0xff), bench(0));
     let weaker = reader().weaken(0x11).unwrap();
-    let renewed = |mode, handle: Handle| Call::NewPassword {
-        mode,
-        handle: handle.into(),
-        password: [0x33; 16],
-    };
+    let renewed = |mode, handle: Handle| Call::NewPassword { mode, handle: handle.into(), password: [0x33; 16] };
     let calls = [
         Call::reduce(READ_MODE, weaker),
         Call::validate(WRITE_MODE, writer()),
@@ -136,10 +127,7 @@ fn everything_else_is_as_with_any_other() {
 fn no_cluster_is_deleted_of_which_any_segment_is_frozen() {
     for width in Width::ALL {
         let weaker = writer_of(width).weaken(!1).unwrap();
-        let forged = Handle {
-            password: WRITE_SECRET,
-            ..weaker
-        };
+        let forged = Handle { password: WRITE_SECRET, ..weaker };
         for marks in marks(width) {
             let mut bench = bench_of(width, marks);
             let before = bench.clone();

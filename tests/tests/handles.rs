@@ -3,9 +3,8 @@
 mod support;
 
 use model::aes::encrypt;
-use model::handle::{convert, derive, Handle, Password, Selector, Width};
 use model::hexadecimal::{decode, encode};
-use model::random::Random;
+use model::words::*;
 use support::naive::{flat, has, referenced_and_kept, sets};
 use support::{others, segments};
 
@@ -19,12 +18,7 @@ const DIFFERENT: [(Width, [u16; 4]); 3] = [
 const MANY: usize = 3_000;
 
 fn handle(selector: Selector) -> Handle {
-    Handle {
-        node: 0xa1b2,
-        local: 0xc3,
-        password: std::array::from_fn(|at| 0x40 + at as u8),
-        selector,
-    }
+    Handle { node: 0xa1b2, local: 0xc3, password: std::array::from_fn(|at| 0x40 + at as u8), selector }
 }
 
 /// A handle with these subselectors and the password that goes with them.
@@ -142,11 +136,7 @@ fn the_parameter_fills_two_bytes() {
 #[test]
 fn weakened_and_reduced_as_worked_out() {
     let expected = [
-        (
-            [0xe, 0xd, 0xb],
-            "0000023f61b21b8f5f4b9cb818db55551d91ccdefb",
-            "0000025693474b7b022dc8cb50d01a4bc94753f8ff",
-        ),
+        ([0xe, 0xd, 0xb], "0000023f61b21b8f5f4b9cb818db55551d91ccdefb", "0000025693474b7b022dc8cb50d01a4bc94753f8ff"),
         (
             [0xfe, 0x7d, 0x70],
             "000002a8af3642823d8bc7f2c7e16831dbd45dfe7df3ff",
@@ -176,10 +166,7 @@ fn flat_gapped_and_primary() {
             let is_flat = |k: usize| pattern >> k & 1 == 1;
             // Not flat by the highest bit alone, or by the lowest.
             for missing in [1, 1 << (width.number() - 1)] {
-                let parts = std::array::from_fn(|k| match is_flat(k) {
-                    true => flat(width),
-                    false => flat(width) - missing,
-                });
+                let parts = std::array::from_fn(|k| if is_flat(k) { flat(width) } else { flat(width) - missing });
                 let selector = Selector::new(width, parts);
                 let gapped = (0..3).any(|k| is_flat(k) && !is_flat(k + 1));
                 assert_eq!(selector.is_gapped(), gapped, "{selector:?}");
@@ -245,9 +232,7 @@ fn width_8_is_what_bytes_make_it() {
         let selector: [u8; 4] = bytes[19..].try_into().unwrap();
         let common = selector.iter().fold(255, |common, part| common & part);
         assert_eq!(handle.selector.referenced(), u16::from(common));
-        let gapped = selector
-            .windows(2)
-            .any(|two| two[0] == 255 && two[1] != 255);
+        let gapped = selector.windows(2).any(|two| two[0] == 255 && two[1] != 255);
         assert_eq!(handle.selector.is_gapped(), gapped);
         let converting = selector.iter().filter(|part| **part != 255);
         let derived = converting.fold(PASSWORD, |password, part| {

@@ -2,8 +2,7 @@
 
 mod support;
 
-use model::call::Call;
-use model::table::{numbers_of, numbers_of_calls, word, DONE, FROZEN, LENGTH};
+use model::words::*;
 use std::collections::BTreeMap;
 use support::every::{every, Rest};
 use support::{new_cluster, reader};
@@ -31,9 +30,7 @@ fn lines() -> impl Iterator<Item = (&'static str, u8, Option<&'static str>)> {
 fn expected() -> Vec<u8> {
     let mut numbers: Vec<u8> = [DONE].into_iter().chain(numbers_of_calls()).collect();
     for twice in [FROZEN, LENGTH] {
-        let places: Vec<usize> = (0..numbers.len())
-            .filter(|&at| numbers[at] == twice)
-            .collect();
+        let places: Vec<usize> = (0..numbers.len()).filter(|&at| numbers[at] == twice).collect();
         assert_eq!(places.len(), 2, "{twice}");
         numbers.remove(places[1]);
     }
@@ -115,28 +112,16 @@ fn function(call: &Call) -> &'static str {
 /// Each call's row is the model's, in its order; a handle from bytes can be refused for its length alone.
 #[test]
 fn each_function_s_numbers_in_the_order_looked_at() {
-    let (handle, rest) = (
-        reader().to_bytes(),
-        Rest {
-            node: 0,
-            segment: 5,
-            mode: None,
-        },
-    );
+    let (handle, rest) = (reader().to_bytes(), Rest { node: 0, segment: 5, mode: None });
     let calls = every(&handle, &handle, rest).into_iter();
     let calls = calls.chain([new_cluster(0, 2)]);
     let expected = calls.map(|call| (function(&call), numbers_of(&call)));
-    let expected: BTreeMap<&str, Vec<u8>> = expected
-        .chain([("gelmuszta_handle_of", vec![LENGTH])])
-        .collect();
+    let expected: BTreeMap<&str, Vec<u8>> = expected.chain([("gelmuszta_handle_of", vec![LENGTH])]).collect();
     assert_eq!(rows(), expected);
     assert_eq!(expected.len(), 14);
     for (name, numbers) in [
         ("gelmuszta_new_cluster", vec![1, 2, 3, 6, 7]),
-        (
-            "gelmuszta_write",
-            vec![25, 1, 2, 3, 4, 8, 25, 9, 11, 14, 22, 15],
-        ),
+        ("gelmuszta_write", vec![25, 1, 2, 3, 4, 8, 25, 9, 11, 14, 22, 15]),
         ("gelmuszta_weaken", vec![25, 2, 4, 21, 17]),
     ] {
         assert_eq!(expected[name], numbers);

@@ -73,10 +73,7 @@ fn what_either_references_whichever_comes_first() {
         };
         let (mut done, mut whole) = (0, 0);
         let step = if width == Width::Sixteen { 37 } else { 1 };
-        for at in (0..sets * sets)
-            .step_by(step)
-            .filter(|at| at % sets <= at / sets)
-        {
+        for at in (0..sets * sets).step_by(step).filter(|at| at % sets <= at / sets) {
             let (one, other) = (handle(at % sets, at / sets), handle(at / sets, at % 7));
             let reply = bench.ask(join(READ_MODE, one, other), &mut []);
             assert_eq!(reply, bench.ask(join(READ_MODE, other, one), &mut []));
@@ -97,7 +94,8 @@ fn what_either_references_whichever_comes_first() {
             done += 1;
         }
         assert_eq!(bench, before);
-        // Each segment is the first one's, the second one's or both's; but for all of both's, every pair would come twice.
+        // Each segment is the first one's, the second one's or both's; but for all of both's, every pair would come
+        // twice.
         let expected = 3_usize.pow(width.number().into()).div_ceil(2);
         match width {
             Width::Sixteen => assert!(done > 10_000 && whole > 10, "{done} {whole}"),
@@ -123,10 +121,7 @@ fn what_is_given_validates_in_the_mode_and_is_not_primary() {
                     continue;
                 }
                 let given = given(&reply);
-                let validate = |mode| Call::Validate {
-                    mode,
-                    handle: given.into(),
-                };
+                let validate = |mode| Call::Validate { mode, handle: given.into() };
                 assert_eq!(bench.reply(validate(mode)), Reply::DONE);
                 assert_eq!(bench.number(validate(3 - mode)), 9);
                 assert!(!given.selector.is_primary() && !given.selector.is_gapped());
@@ -146,10 +141,7 @@ fn with_itself_and_with_less() {
             let selector = Selector::new(width, parts);
             let handle = Handle::converted(0, 2, &READ_SECRET, selector);
             let reduction = bench.reply(Call::reduce(READ_MODE, handle));
-            let expected = match selector.is_primary() {
-                true => Reply::refused(23),
-                false => reduction,
-            };
+            let expected = if selector.is_primary() { Reply::refused(23) } else { reduction };
             let less = reduced_of(width, selector.referenced() & 0x5a5a);
             let nothing = reduced_of(width, 0);
             for other in [handle, less, nothing] {

@@ -44,14 +44,8 @@ fn the_line_gives_the_new_handle() {
     let (one, two) = (weaker(0x07), weaker(0x18));
     let joined = encode(&weaker(0x1f).to_bytes());
     for unused in [0, 1, 0xff] {
-        assert_eq!(
-            line(record(1, &one, &two, unused)),
-            format!("2 11 0 {joined}")
-        );
-        assert_eq!(
-            line(record(1, &two, &one, unused)),
-            format!("2 11 0 {joined}")
-        );
+        assert_eq!(line(record(1, &one, &two, unused)), format!("2 11 0 {joined}"));
+        assert_eq!(line(record(1, &two, &one, unused)), format!("2 11 0 {joined}"));
     }
 }
 
@@ -59,15 +53,9 @@ fn the_line_gives_the_new_handle() {
 fn a_refusal_stops_at_the_number() {
     let (one, two) = (weaker(0x07), weaker(0x18));
     let nowhere = Handle { node: 4, ..two };
-    let gapped = Handle {
-        selector: eight([255, 0x18, 255, 255]),
-        ..two
-    };
+    let gapped = Handle { selector: eight([255, 0x18, 255, 255]), ..two };
     let apart = Handle { local: 3, ..two };
-    let forged = Handle {
-        password: [9; 16],
-        ..two
-    };
+    let forged = Handle { password: [9; 16], ..two };
     let asked = [
         (1, one, nowhere, 2),
         (0, one, two, 3),
@@ -82,10 +70,7 @@ fn a_refusal_stops_at_the_number() {
     ];
     for unused in [0, 1, 0xff] {
         let both = |&(mode, one, two, _): &(u8, Handle, Handle, u8)| {
-            [
-                record(mode, &one, &two, unused),
-                record(mode, &two, &one, unused),
-            ]
+            [record(mode, &one, &two, unused), record(mode, &two, &one, unused)]
         };
         let found = lines(&asked.iter().flat_map(both).collect::<Vec<_>>());
         let numbers = asked.iter().flat_map(|asked| [asked.3; 2]);

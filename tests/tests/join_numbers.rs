@@ -39,19 +39,13 @@ fn all_are_never_given() {
             (weaker(flat - 1), weaker(flat - last)),
             (weaker(flat - 1).weaken(0x02).unwrap(), weaker(flat - 2)),
             (reader, weaker(0x01)),
-            (
-                reader,
-                Handle::converted(0, 2, &READ_SECRET, Selector::new(width, [0; 4])),
-            ),
+            (reader, Handle::converted(0, 2, &READ_SECRET, Selector::new(width, [0; 4]))),
             (reader, reader),
         ] {
             assert_eq!(bench.reply(join(READ_MODE, one, other)), Reply::refused(23));
             assert_eq!(bench.reply(join(READ_MODE, other, one)), Reply::refused(23));
             // A password that is wrong is told before.
-            let forged = Handle {
-                password: [9; 16],
-                ..other
-            };
+            let forged = Handle { password: [9; 16], ..other };
             assert_eq!(bench.number(join(READ_MODE, one, forged)), 9);
             assert_eq!(bench.number(join(READ_MODE, forged, one)), 9);
             assert_eq!(bench.number(join(WRITE_MODE, one, other)), 9);
@@ -72,10 +66,7 @@ fn all_are_never_given() {
 fn numbers_in_their_order() {
     let (mut asked, mut done) = (0, 0);
     for joint in joint::all() {
-        let mut bench = Bench {
-            store: joint.store.clone(),
-            memory: vec![0x77; MEMORY_BYTES],
-        };
+        let mut bench = Bench { store: joint.store.clone(), memory: vec![0x77; MEMORY_BYTES] };
         let before = bench.clone();
         let (width, flat) = (joint.width, joint.width.flat());
         let given = Handle {
@@ -107,11 +98,7 @@ fn arguments_out_of_range() {
         assert_eq!(bench.number(join(mode, gapped, two)), 3, "{mode}");
     }
     for (node, local) in [(4, 2), (256, 2), (0x8000, 2), (0, 8), (0, 255)] {
-        let far = |handle| Handle {
-            node,
-            local,
-            ..handle
-        };
+        let far = |handle| Handle { node, local, ..handle };
         for (one, two) in [(far(one), two), (one, far(two)), (far(one), far(two))] {
             assert_eq!(bench.number(join(READ_MODE, one, two)), 2);
             assert_eq!(bench.number(join(0, one, two)), 2);
@@ -135,9 +122,7 @@ fn both_have_to_validate() {
     assert_eq!(bench.number(join(WRITE_MODE, reads, reads)), 9);
     let renew = Call::new_password(READ_MODE, reader(), [0x33; 16]);
     assert_eq!(bench.number(renew), 0);
-    let renewed = Handle::primary(Width::Eight, 0, 2, [0x33; 16])
-        .weaken(0x30)
-        .unwrap();
+    let renewed = Handle::primary(Width::Eight, 0, 2, [0x33; 16]).weaken(0x30).unwrap();
     assert_eq!(bench.number(join(READ_MODE, reads, renewed)), 9);
     assert_eq!(bench.number(join(READ_MODE, renewed, reads)), 9);
     assert_eq!(bench.number(join(READ_MODE, renewed, renewed)), 0);

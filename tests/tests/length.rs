@@ -9,19 +9,11 @@ use support::*;
 
 /// What goes with cluster 2 of node 0.
 fn right(width: Width) -> Rest {
-    Rest {
-        node: 0,
-        segment: own(width),
-        mode: None,
-    }
+    Rest { node: 0, segment: own(width), mode: None }
 }
 
 /// Nothing of it is right.
-const WRONG_REST: Rest = Rest {
-    node: 99,
-    segment: 99,
-    mode: Some(0),
-};
+const WRONG_REST: Rest = Rest { node: 99, segment: 99, mode: Some(0) };
 
 /// The bytes of the last handle with another length.
 fn of_length(handle: Handle, length: usize) -> HandleBytes {
@@ -59,13 +51,7 @@ fn before_everything_else() {
     short.memory.pop();
     let lengths = (0..=40).filter(|length| ![21, 23, 27].contains(length));
     for length in lengths.chain([255, 256, 277, 279, 4096]) {
-        for writer in [
-            writer(),
-            Handle {
-                node: 9,
-                ..writer()
-            },
-        ] {
+        for writer in [writer(), Handle { node: 9, ..writer() }] {
             let wrong = of_length(writer, length);
             for rest in [right(Width::Eight), WRONG_REST] {
                 for call in every(&wrong, &wrong, rest) {
@@ -107,10 +93,7 @@ fn not_the_cluster_s_width() {
         let state = Bench::with_segment_of(width);
         for other in others(width) {
             let least = width.min(other);
-            let rest = Rest {
-                segment: own(least),
-                ..right(width)
-            };
+            let rest = Rest { segment: own(least), ..right(width) };
             for handle in [writer_of(other), reader_of(other)] {
                 let joined = handle.weaken(6).unwrap().to_bytes();
                 for call in looking(&handle.into(), &joined, rest) {
@@ -118,11 +101,7 @@ fn not_the_cluster_s_width() {
                     // Somewhere else, or with a node that is no node, the numbers above it are given.
                     if let Call::Look { .. } = call {
                         let handle = handle.to_bytes();
-                        let look = |node, segment| Call::Look {
-                            node,
-                            segment,
-                            handle: handle.clone(),
-                        };
+                        let look = |node, segment| Call::Look { node, segment, handle: handle.clone() };
                         refused(&state, &look(1, 0), 5);
                         refused(&state, &look(4, 0), 2);
                         refused(&state, &look(0, other.number().into()), 3);
@@ -148,10 +127,7 @@ fn does_not_validate() {
                 let mode = Mode::Read;
                 assert!(at(width).validates(cluster, mode));
                 assert!(!at(other).validates(cluster, mode));
-                let validate = |handle: Handle| Call::Validate {
-                    mode: READ_MODE,
-                    handle: handle.into(),
-                };
+                let validate = |handle: Handle| Call::Validate { mode: READ_MODE, handle: handle.into() };
                 assert_eq!(state.clone().number(validate(at(width))), 0);
                 refused(&state, &validate(at(other)), 25);
             }
@@ -165,10 +141,7 @@ fn not_for_weakening() {
     for width in Width::ALL {
         let mut state = Bench::with_segment_of(width);
         for other in Width::ALL {
-            let weaken = |mask| Call::Weaken {
-                mask,
-                handle: reader_of(other).into(),
-            };
+            let weaken = |mask| Call::Weaken { mask, handle: reader_of(other).into() };
             let reply = state.reply(weaken(0xfff1));
             let expected = reader_of(other).weaken(0xfff1).unwrap();
             assert_eq!(reply.first, expected.to_bytes());

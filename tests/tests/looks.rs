@@ -6,10 +6,7 @@ use model::list::{request, Request, CODE_AT, RECORD_BYTES};
 use support::*;
 
 fn shown(from: usize, length: usize) -> Reply {
-    Reply {
-        shown: Part { from, length },
-        ..Reply::DONE
-    }
+    Reply { shown: Part { from, length }, ..Reply::DONE }
 }
 
 /// The node's cluster 2 with these segments, a base and a length each, in a memory of bytes by chance.
@@ -41,34 +38,20 @@ fn the_segment_and_where_it_is() {
 /// Of one byte, of all bytes, at either end, in each node; what lies beside it is not shown.
 #[test]
 fn all_of_the_segment_and_no_other_byte() {
-    let extents = [
-        (0, 1),
-        (0, 4095),
-        (0, 4096),
-        (1, 4095),
-        (1234, 321),
-        (4094, 2),
-        (4095, 1),
-    ];
+    let extents = [(0, 1), (0, 4095), (0, 4096), (1, 4095), (1234, 321), (4094, 2), (4095, 1)];
     for node in 0..NODES {
         let handle = Handle::primary(Width::Eight, node as u16, 2, READ_SECRET);
         for (base, length) in extents {
             let mut bench = bench(Width::Eight, node, &[(base, length)]);
             let (base, length) = (usize::from(base), usize::from(length));
             let from = node * 4096 + base;
-            assert_eq!(
-                bench.reply(Call::look(node as u32, 0, handle)),
-                shown(from, length)
-            );
+            assert_eq!(bench.reply(Call::look(node as u32, 0, handle)), shown(from, length));
             let expected = bench.memory[from..from + length].to_vec();
             assert_eq!(bench.look(node as u32, 0, handle), Ok(expected));
         }
     }
-    let last = bench(Width::Eight, 3, &[(4095, 1)]).reply(Call::look(
-        3,
-        0,
-        Handle::primary(Width::Eight, 3, 2, READ_SECRET),
-    ));
+    let last =
+        bench(Width::Eight, 3, &[(4095, 1)]).reply(Call::look(3, 0, Handle::primary(Width::Eight, 3, 2, READ_SECRET)));
     assert_eq!(last.shown.from + last.shown.length, MEMORY_BYTES);
 }
 
@@ -96,14 +79,7 @@ fn handles(width: Width, node: u16) -> Vec<Handle> {
 /// In the handle's node a look is a read whose buffer is never too short.
 #[test]
 fn what_a_read_gives() {
-    let segments = [
-        (0, 7),
-        (4000, 96),
-        (7, 1),
-        (100, 900),
-        (8, 92),
-        (1000, 3000),
-    ];
+    let segments = [(0, 7), (4000, 96), (7, 1), (100, 900), (8, 92), (1000, 3000)];
     // Of four segments or six, the primary handle references all, the weakened ones with their reductions fewer.
     let done_by = [
         (Width::Four, 4 + 2 * (3 + 2 + 2 + 2)),
@@ -130,9 +106,8 @@ fn what_a_read_gives() {
 #[test]
 fn every_segment_of_the_width() {
     for width in Width::ALL {
-        let extents: Vec<(u16, u16)> = (0..width.number())
-            .map(|at| (4090 - 7 * u16::from(at), 1 + u16::from(at % 7)))
-            .collect();
+        let extents: Vec<(u16, u16)> =
+            (0..width.number()).map(|at| (4090 - 7 * u16::from(at), 1 + u16::from(at % 7))).collect();
         let mut bench = bench(width, 2, &extents);
         let handle = Handle::primary(width, 2, 2, READ_SECRET);
         for (segment, (base, length)) in extents.iter().enumerate() {
@@ -189,10 +164,7 @@ fn elsewhere_is_every_other_node() {
         let handle = Handle::primary(Width::Four, node as u16, 2, READ_SECRET);
         let unknown = Handle::primary(Width::Four, node as u16, 2, [9; 16]);
         for current in 0..NODES as u32 {
-            let (known, other) = match current == node {
-                true => (None, Err(9)),
-                false => (Some(5), Err(5)),
-            };
+            let (known, other) = if current == node { (None, Err(9)) } else { (Some(5), Err(5)) };
             assert_eq!(bench.look(current, 0, handle).err(), known);
             assert_eq!(bench.look(current, 0, unknown), other);
         }

@@ -1,15 +1,6 @@
 //! What is counted of joins and of widths is met by what is made by chance, in stores with clusters of every width.
 
-use model::call::Call;
-use model::generate::joins::join_of_widths;
-use model::handle::{Handle, HandleBytes, Width};
-use model::joins::Meeting;
-use model::model::run;
-use model::random::Random;
-use model::sizes::{CLUSTERS, MEMORY_BYTES, NODES};
-use model::store::{Cluster, Segment, Store};
-use model::table::{refusal, Found};
-use model::widths::Sight;
+use model::{generate::joins::join_of_widths, joins::Meeting, model::run, widths::Sight, words::*};
 use std::collections::BTreeSet;
 
 const STORES: usize = 1_000;
@@ -28,11 +19,7 @@ fn store(random: &mut Random) -> Store {
             active: true,
             width: width.number(),
             read,
-            write: if random.one_in(4) {
-                read
-            } else {
-                random.bytes()
-            },
+            write: if random.one_in(4) { read } else { random.bytes() },
             ..Cluster::INACTIVE
         };
         let segment = random.below(width.segments() as u64) as usize;
@@ -53,27 +40,16 @@ fn every_meeting_of_two_handles() {
     for _ in 0..STORES {
         let store = store(random);
         for _ in 0..JOINS {
-            let Some(join) = join_of_widths(random, &store) else {
-                continue;
-            };
+            let Some(join) = join_of_widths(random, &store) else { continue };
             let [handle, other] = join.handles;
-            let mode = match join.is_a_mode {
-                true => join.mode.number(),
-                false => 0,
-            };
+            let mode = if join.is_a_mode { join.mode.number() } else { 0 };
             let call = Call::join(mode, handle, other);
-            let found = Found {
-                store: &store,
-                memory_bytes: memory_bytes(random),
-                buffer_bytes: 0,
-            };
+            let found = Found { store: &store, memory_bytes: memory_bytes(random), buffer_bytes: 0 };
             let number = refusal(&call, &found).unwrap_or(0);
             met.extend(Meeting::of(&found, &call, number));
         }
     }
-    let missing: Vec<Meeting> = Meeting::all()
-        .filter(|meeting| !met.contains(meeting))
-        .collect();
+    let missing: Vec<Meeting> = Meeting::all().filter(|meeting| !met.contains(meeting)).collect();
     assert!(missing.is_empty(), "{missing:?}");
 }
 
@@ -130,17 +106,11 @@ fn every_sight_of_a_width() {
             let before = store.clone();
             let mut memory = vec![0; memory_bytes(random)];
             let number = run(&mut store, &mut memory, &mut [0; 9], &call).number;
-            let found = Found {
-                store: &before,
-                memory_bytes: memory.len(),
-                buffer_bytes: 9,
-            };
+            let found = Found { store: &before, memory_bytes: memory.len(), buffer_bytes: 9 };
             met.extend(Sight::of(&found, &call, number));
         }
     }
     let missing: Vec<Sight> = Sight::all().filter(|sight| !met.contains(sight)).collect();
     assert!(missing.is_empty(), "{missing:?}");
-    assert!(met
-        .iter()
-        .all(|sight| Sight::all().any(|due| due == *sight)));
+    assert!(met.iter().all(|sight| Sight::all().any(|due| due == *sight)));
 }

@@ -11,25 +11,12 @@ const EMPTY: u8 = 21;
 
 /// The read handle of [`Bench::with_segment`] with another selector, and the password that goes with it.
 fn handle(selector: u32) -> Handle {
-    Handle::converted(
-        0,
-        2,
-        &READ_SECRET,
-        eight(selector.to_be_bytes().map(u16::from)),
-    )
+    Handle::converted(0, 2, &READ_SECRET, eight(selector.to_be_bytes().map(u16::from)))
 }
 
 /// Handles that reference nothing, with three flat subselectors to none.
 fn to_nothing() -> [Handle; 6] {
-    [
-        0x00ff_ffff,
-        0x0ff0_ffff,
-        0xfe7d_83ff,
-        0x3fcf_f3fc,
-        0xf00f_fefe,
-        0x0000_0000,
-    ]
-    .map(handle)
+    [0x00ff_ffff, 0x0ff0_ffff, 0xfe7d_83ff, 0x3fcf_f3fc, 0xf00f_fefe, 0x0000_0000].map(handle)
 }
 
 #[test]
@@ -40,10 +27,7 @@ fn its_word() {
 #[test]
 fn a_mask_that_keeps_nothing() {
     let mut bench = Bench::starting();
-    assert_eq!(
-        bench.reply(Call::weaken(0, reader())),
-        Reply::refused(EMPTY)
-    );
+    assert_eq!(bench.reply(Call::weaken(0, reader())), Reply::refused(EMPTY));
     let lab = handle(0x20ff_ffff);
     for mask in 0..=255 {
         let number = if has(mask, 5) { 0 } else { EMPTY };
@@ -55,15 +39,9 @@ fn a_mask_that_keeps_nothing() {
 fn a_handle_that_references_nothing_whatever_the_mask() {
     let mut bench = Bench::starting();
     for handle in to_nothing() {
-        assert_eq!(
-            bench.reply(Call::weaken(255, handle)),
-            Reply::refused(EMPTY)
-        );
+        assert_eq!(bench.reply(Call::weaken(255, handle)), Reply::refused(EMPTY));
         for mask in 0..=255 {
-            assert_eq!(
-                bench.reply(Call::weaken(mask, handle)),
-                Reply::refused(EMPTY)
-            );
+            assert_eq!(bench.reply(Call::weaken(mask, handle)), Reply::refused(EMPTY));
         }
     }
 }
@@ -78,19 +56,10 @@ fn no_such_place_and_gapped_come_before() {
         assert_eq!(bench.reply(Call::weaken(0, no_local)), Reply::refused(2));
     }
     for gapped in [0xfffe_ffff, 0xff00_ffff, 0x0fff_f0ff, 0x00ff_ff00] {
-        assert_eq!(
-            bench.reply(Call::weaken(0, handle(gapped))),
-            Reply::refused(4)
-        );
+        assert_eq!(bench.reply(Call::weaken(0, handle(gapped))), Reply::refused(4));
     }
-    let gapped_nowhere = Handle {
-        node: 256,
-        ..handle(0xff00_ffff)
-    };
-    assert_eq!(
-        bench.reply(Call::weaken(0, gapped_nowhere)),
-        Reply::refused(2)
-    );
+    let gapped_nowhere = Handle { node: 256, ..handle(0xff00_ffff) };
+    assert_eq!(bench.reply(Call::weaken(0, gapped_nowhere)), Reply::refused(2));
 }
 
 #[test]
@@ -106,16 +75,10 @@ fn one_segment_kept_is_done_and_counted() {
                 selector: Selector::new(width, [mask, flat, flat, flat]),
                 ..reader_of(width)
             };
-            let expected = Reply {
-                count: 1,
-                ..Reply::with_handle(&kept)
-            };
+            let expected = Reply { count: 1, ..Reply::with_handle(&kept) };
             assert_eq!(reply, expected);
             assert_eq!(bench.reply(Call::weaken(mask, kept)), expected);
-            assert_eq!(
-                bench.reply(Call::weaken(!mask, kept)),
-                Reply::refused(EMPTY)
-            );
+            assert_eq!(bench.reply(Call::weaken(!mask, kept)), Reply::refused(EMPTY));
         }
     }
 }
@@ -142,10 +105,7 @@ fn a_weakening_done_never_counts_0() {
     for width in Width::ALL {
         let mut numbers = [0u32; 22];
         for parts in sets(width) {
-            let handle = Handle {
-                selector: Selector::new(width, parts),
-                ..reader_of(width)
-            };
+            let handle = Handle { selector: Selector::new(width, parts), ..reader_of(width) };
             for low in 0..=flat(width).min(255) {
                 let mask = match width {
                     Width::Sixteen => random.number() as u16 & random.number() as u16,
@@ -174,13 +134,8 @@ fn a_weakening_done_never_counts_0() {
         }
         let spent = [(Width::Four, 96), (Width::Eight, 52_416)];
         let spent = spent.iter().find(|(of, _)| *of == width);
-        assert!(
-            spent.is_none_or(|(_, count)| numbers[17] == *count),
-            "{numbers:?}"
-        );
-        assert!([0, 17, 21]
-            .iter()
-            .all(|&number: &usize| numbers[number] > 50));
+        assert!(spent.is_none_or(|(_, count)| numbers[17] == *count), "{numbers:?}");
+        assert!([0, 17, 21].iter().all(|&number: &usize| numbers[number] > 50));
     }
 }
 
@@ -202,14 +157,8 @@ fn reduction_of_a_handle_that_references_nothing_is_done() {
         for parts in parts {
             let before = bench.clone();
             let handle = Handle::converted(0, 2, &READ_SECRET, Selector::new(width, parts));
-            let reduce = |mode| Call::Reduce {
-                mode,
-                handle: handle.into(),
-            };
-            let expected = Reply {
-                first: first.clone(),
-                ..Reply::DONE
-            };
+            let reduce = |mode| Call::Reduce { mode, handle: handle.into() };
+            let expected = Reply { first: first.clone(), ..Reply::DONE };
             assert_eq!(bench.reply(reduce(READ_MODE)), expected);
             let validate = Call::validate(READ_MODE, handle);
             assert_eq!(bench.reply(validate), Reply::DONE);

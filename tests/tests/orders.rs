@@ -28,22 +28,14 @@ fn done(faulty: &Faulty, kind: Kind) -> (Bench, Reply, Vec<u8>) {
             reply.first = handle.reduce(kind.primary_password()).to_bytes();
         }
         Kind::Freeze => segment.frozen = true,
-        Kind::Look => {
-            reply.shown = Part {
-                from: at + BASE,
-                length: LENGTH,
-            }
-        }
+        Kind::Look => reply.shown = Part { from: at + BASE, length: LENGTH },
         Kind::Validate => {}
     }
     (state, reply, buffer)
 }
 
 fn put_to(faulty: &Faulty) -> Bench {
-    Bench {
-        store: faulty.store.clone(),
-        memory: vec![0x77; MEMORY_BYTES],
-    }
+    Bench { store: faulty.store.clone(), memory: vec![0x77; MEMORY_BYTES] }
 }
 
 #[test]
@@ -67,10 +59,7 @@ fn numbers_in_their_order() {
                 number => (put_to(&faulty), Reply::refused(number), buffer.clone()),
             };
             let reply = left.ask(&faulty.call, &mut buffer);
-            assert!(
-                (left, reply.clone(), buffer) == expected,
-                "{faulty:?} {reply:?}"
-            );
+            assert!((left, reply.clone(), buffer) == expected, "{faulty:?} {reply:?}");
         }
         assert_eq!(faults::all(kind).count(), 3 * count, "{kind:?}");
     }
@@ -81,8 +70,7 @@ fn numbers_in_their_order() {
 fn numbers_of_weakening_in_their_order() {
     for set in 0..32_u32 {
         for width in Width::ALL {
-            let [cut_off, nowhere, gapped, empty, spent] =
-                [0, 1, 2, 3, 4].map(|at| set >> at & 1 == 1);
+            let [cut_off, nowhere, gapped, empty, spent] = [0, 1, 2, 3, 4].map(|at| set >> at & 1 == 1);
             let flat = width.flat();
             // References the last segment and no other, or the last two.
             let two = flat - (flat >> 2);
@@ -93,22 +81,10 @@ fn numbers_of_weakening_in_their_order() {
             };
             let mut handle = Handle::converted(0, 2, &READ_SECRET, Selector::new(width, parts));
             handle.node += 4 * u16::from(nowhere);
-            let handle = match cut_off {
-                true => cut(handle, set as usize),
-                false => handle.into(),
-            };
+            let handle = if cut_off { cut(handle, set as usize) } else { handle.into() };
             let last = flat - (flat >> 1);
-            let mask = match empty {
-                true => !two,
-                false => last | !flat,
-            };
-            let numbers = [
-                (cut_off, 25),
-                (nowhere, 2),
-                (gapped, 4),
-                (empty, 21),
-                (spent, 17),
-            ];
+            let mask = if empty { !two } else { last | !flat };
+            let numbers = [(cut_off, 25), (nowhere, 2), (gapped, 4), (empty, 21), (spent, 17)];
             let first = numbers.iter().find(|(applies, _)| *applies);
             let mut state = Bench::starting();
             make_unsound(&mut state.store);

@@ -1,9 +1,6 @@
 //! Placement examples P10 to P14, and placement against its own definition.
 
-use model::handle::Width;
-use model::random::Random;
-use model::sizes::{CLUSTERS, MEMORY_BYTES, NODE_BYTES};
-use model::store::{Cluster, Extent, Segment, Store};
+use model::words::*;
 
 /// A store whose node 0 has the given segments, in as many clusters of the width as they need.
 fn store_of(width: Width, extents: &[(u16, u16)]) -> Store {
@@ -40,15 +37,12 @@ fn other_nodes_take_no_room() {
 
 /// The definition, tried base by base.
 fn first_free(extents: &[Extent], size: usize) -> Option<usize> {
-    (0..=NODE_BYTES - size).find(|&base| {
-        extents
-            .iter()
-            .all(|extent| extent.end() <= base || base + size <= extent.base)
-    })
+    (0..=NODE_BYTES - size)
+        .find(|&base| extents.iter().all(|extent| extent.end() <= base || base + size <= extent.base))
 }
 
-/// Segments with gaps between them, by chance, in no order of their numbers; as many as the width allows, or as there is
-/// room for.
+/// Segments with gaps between them, by chance, in no order of their numbers; as many as the width allows, or as there
+/// is room for.
 fn scattered(random: &mut Random, width: Width) -> Store {
     let mut extents = Vec::new();
     let mut end = 0;
@@ -72,9 +66,7 @@ fn placement_is_the_smallest_base_that_fits() {
     for at in 0..300 {
         let store = scattered(&mut random, Width::ALL[at % 3]);
         assert!(store.is_sound(MEMORY_BYTES));
-        let segments = store.clusters[0]
-            .iter()
-            .flat_map(|cluster: &Cluster| &cluster.segments);
+        let segments = store.clusters[0].iter().flat_map(|cluster: &Cluster| &cluster.segments);
         let extents: Vec<Extent> = segments.filter_map(Segment::extent).collect();
         for size in [1, 2, 17, 60, 89, 90, 400, 4000, 4096] {
             assert_eq!(store.place(0, size), first_free(&extents, size));

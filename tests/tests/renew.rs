@@ -1,5 +1,5 @@
-//! New passwords: 12 by the current one of the mode and by no other, so that the two of a cluster may become equal. What
-//! one handle is good for then, and how that ends.
+//! New passwords: 12 by the current one of the mode and by no other, so that the two of a cluster may become equal.
+//! What one handle is good for then, and how that ends.
 
 mod support;
 
@@ -9,19 +9,14 @@ use support::*;
 /// Both modes at each width, each with its primary handle and the other mode's.
 fn modes() -> impl Iterator<Item = (u32, Handle, Handle)> {
     Width::ALL.into_iter().flat_map(|width| {
-        [
-            (READ_MODE, reader_of(width), writer_of(width)),
-            (WRITE_MODE, writer_of(width), reader_of(width)),
-        ]
+        [(READ_MODE, reader_of(width), writer_of(width)), (WRITE_MODE, writer_of(width), reader_of(width))]
     })
 }
 
 /// What each width's clusters can come to: their passwords made equal in one mode, or in the other.
 fn made() -> impl Iterator<Item = (Width, u32)> {
     let modes = [READ_MODE, WRITE_MODE];
-    Width::ALL
-        .into_iter()
-        .flat_map(move |width| modes.map(|mode| (width, mode)))
+    Width::ALL.into_iter().flat_map(move |width| modes.map(|mode| (width, mode)))
 }
 
 /// Cluster 2 of node 0 with a segment, after `mode` has got the other mode's password, and the one handle that is
@@ -107,10 +102,7 @@ fn by_the_mode_s_own_password_alone() {
 fn numbers_in_their_order() {
     let (mut asked, mut done) = (0, 0);
     for renewed in renewed::all() {
-        let mut state = Bench {
-            store: renewed.store.clone(),
-            memory: vec![0x77; MEMORY_BYTES],
-        };
+        let mut state = Bench { store: renewed.store.clone(), memory: vec![0x77; MEMORY_BYTES] };
         let mut expected = state.clone();
         let reply = match renewed.number() {
             0 => {
@@ -134,13 +126,7 @@ fn numbers_in_their_order() {
 fn call_1_still_refuses_twins() {
     for made in made() {
         let (mut state, both) = equal(made);
-        let new_cluster = |local, write| Call::NewCluster {
-            node: 0,
-            local,
-            width: 16,
-            read: both.password,
-            write,
-        };
+        let new_cluster = |local, write| Call::NewCluster { node: 0, local, width: 16, read: both.password, write };
         assert_eq!(state.number(new_cluster(2, both.password)), 6);
         for local in [0, 3] {
             let twins = state.reply(new_cluster(local, both.password));
@@ -187,10 +173,7 @@ fn the_same_is_made_from_it_in_either_mode() {
         let [reads, writes] = modes.map(|mode| family(&mut state, mode, both));
         assert_eq!(reads, writes);
         for call in [
-            |mode, handle: Handle| Call::Reduce {
-                mode,
-                handle: handle.into(),
-            },
+            |mode, handle: Handle| Call::Reduce { mode, handle: handle.into() },
             |mode, handle: Handle| join(mode, handle, handle),
         ] {
             for &handle in &reads {

@@ -40,25 +40,14 @@ fn sample_byte_for_byte() {
 
 #[test]
 fn example_files_are_the_sample() {
-    assert_eq!(
-        include_bytes!("../../examples/sample.list").as_slice(),
-        sample()
-    );
+    assert_eq!(include_bytes!("../../examples/sample.list").as_slice(), sample());
     assert_eq!(include_str!("../../examples/sample.out"), SAMPLE_OUTPUT);
 }
 
 #[test]
 fn lengths() {
     assert_eq!(text(&[]), "end 0\n");
-    for wrong in [
-        1,
-        63,
-        65,
-        3 * 64 + 1,
-        MOST_LIST_BYTES + 1,
-        MOST_LIST_BYTES + 64,
-        100_000,
-    ] {
+    for wrong in [1, 63, 65, 3 * 64 + 1, MOST_LIST_BYTES + 1, MOST_LIST_BYTES + 64, 100_000] {
         assert_eq!(text(&vec![0; wrong]), "list 18\n", "{wrong}");
     }
     assert_eq!(text(&vec![0; MOST_LIST_BYTES]), "1 0 3\nend 1\n");

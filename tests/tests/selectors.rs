@@ -2,8 +2,7 @@
 
 mod support;
 
-use model::call::{Call, Reply};
-use model::handle::{convert, derive, Handle, Width};
+use model::words::*;
 use support::{eight, Bench};
 
 const FLAT: u16 = 255;
@@ -11,22 +10,12 @@ const PASSWORD: [u8; 16] = *b"a primary secret";
 
 fn handle(selector: u32) -> Handle {
     let selector = eight(selector.to_be_bytes().map(u16::from));
-    Handle {
-        node: 1,
-        local: 2,
-        password: PASSWORD,
-        selector,
-    }
+    Handle { node: 1, local: 2, password: PASSWORD, selector }
 }
 
 fn weakened(selector: u32, mask: u16) -> (u32, u32) {
-    let weaker = handle(selector)
-        .weaken(mask)
-        .expect("something is left, and a subselector is flat");
-    (
-        u32::from_be_bytes(weaker.selector.subselectors.map(|part| part as u8)),
-        weaker.selector.count(),
-    )
+    let weaker = handle(selector).weaken(mask).expect("something is left, and a subselector is flat");
+    (u32::from_be_bytes(weaker.selector.subselectors.map(|part| part as u8)), weaker.selector.count())
 }
 
 /// What call 7 replies.
@@ -95,22 +84,15 @@ fn reducing_a_primary_handle_converts_nothing() {
     let primary = Handle::primary(Width::Eight, 1, 2, PASSWORD);
     assert_eq!(primary.reduce(&PASSWORD), primary);
     assert!(primary.is_made_from(&PASSWORD));
-    let converted = Handle {
-        password: convert(&PASSWORD, FLAT),
-        ..primary
-    };
+    let converted = Handle { password: convert(&PASSWORD, FLAT), ..primary };
     assert!(!converted.is_made_from(&PASSWORD));
 }
 
 #[test]
 fn conversions_go_up_from_subselector_0() {
     let selector = eight([0xfe, 0x7d, 0xf3, FLAT]);
-    let up = [0xfe, 0x7d, 0xf3]
-        .iter()
-        .fold(PASSWORD, |password, &c| convert(&password, c));
-    let down = [0xf3, 0x7d, 0xfe]
-        .iter()
-        .fold(PASSWORD, |password, &c| convert(&password, c));
+    let up = [0xfe, 0x7d, 0xf3].iter().fold(PASSWORD, |password, &c| convert(&password, c));
+    let down = [0xf3, 0x7d, 0xfe].iter().fold(PASSWORD, |password, &c| convert(&password, c));
     assert_eq!(derive(&PASSWORD, &selector), up);
     assert_ne!(derive(&PASSWORD, &selector), down);
 }

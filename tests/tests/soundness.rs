@@ -56,10 +56,7 @@ fn segments_out_of_range_or_overlapping() {
         (0, 4096),
     ];
     for (base, length) in wrong {
-        assert!(
-            !with_segment(base, length).is_sound(MEMORY_BYTES),
-            "{base} {length}"
-        );
+        assert!(!with_segment(base, length).is_sound(MEMORY_BYTES), "{base} {length}");
     }
     let mut overlapping = store();
     overlapping.clusters[1][4].active = true;
@@ -125,18 +122,11 @@ fn widths_of_clusters() {
 fn segments_at_or_above_the_width() {
     for width in Width::ALL {
         for segment in 1..SEGMENTS {
-            for present in [
-                Segment::present(100, 1),
-                Segment::present(30, 4066).marked(),
-            ] {
+            for present in [Segment::present(100, 1), Segment::present(30, 4066).marked()] {
                 let mut store = store_of(width);
                 store.clusters[1][3].segments[segment] = present;
                 let is_there = segment < width.segments();
-                assert_eq!(
-                    store.is_sound(MEMORY_BYTES),
-                    is_there,
-                    "{width:?} {segment}"
-                );
+                assert_eq!(store.is_sound(MEMORY_BYTES), is_there, "{width:?} {segment}");
                 // The bytes are taken, whoever asks.
                 store.clusters[1][3].segments[segment] = Segment::present(29, 1);
                 assert!(!store.is_sound(MEMORY_BYTES));
@@ -159,10 +149,7 @@ fn a_node_full_of_segments() {
             }
         }
         assert!(store.is_sound(MEMORY_BYTES));
-        assert_eq!(
-            (store.place(2, 1), store.place(1, NODE_BYTES)),
-            (None, Some(0))
-        );
+        assert_eq!((store.place(2, 1), store.place(1, NODE_BYTES)), (None, Some(0)));
         for (local, segment) in [(0, 0), (3, 2), (7, width.segments() - 1)] {
             let mut longer = store.clone();
             let place = &mut longer.clusters[2][local].segments[segment].place;
@@ -188,13 +175,7 @@ fn what_calls_leave() {
         };
         let (read, write, node) = (READ_SECRET, WRITE_SECRET, 1);
         let (local, segments) = (3, width.segments());
-        ask(Call::NewCluster {
-            node,
-            local,
-            width: segments,
-            read,
-            write,
-        });
+        ask(Call::NewCluster { node, local, width: segments, read, write });
         let handle = || Handle::primary(width, 1, 3, WRITE_SECRET);
         for segment in 0..segments as u32 {
             ask(Call::new_segment(node, segment, 9, handle()));

@@ -4,18 +4,15 @@
 mod support;
 
 use model::frozen::Watch;
-use model::list::{
-    output, Record, CODE_AT, HANDLE_AT, HANDLE_BYTES, NODE_AT, RECORD_BYTES, SEGMENT_AT,
-};
+use model::list::{output, Record, CODE_AT, HANDLE_AT, HANDLE_BYTES, NODE_AT, RECORD_BYTES, SEGMENT_AT};
 use std::collections::BTreeMap;
-use support::valid::valid_call;
-use support::*;
+use support::{valid::valid_call, *};
 
 const ROWS: usize = 60;
 const ROW_CALLS: usize = 500;
 
-/// Counts the calls that came to 22, those of them by a handle that opens both modes, and those by handles of each width;
-/// gives how many segments were frozen.
+/// Counts the calls that came to 22, those of them by a handle that opens both modes, and those by handles of each
+/// width; gives how many segments were frozen.
 fn row(random: &mut Random, refused: &mut BTreeMap<&'static str, usize>) -> usize {
     let (mut bench, mut watch) = (Bench::starting(), Watch::default());
     for _ in 0..ROW_CALLS {
@@ -32,9 +29,7 @@ fn row(random: &mut Random, refused: &mut BTreeMap<&'static str, usize>) -> usiz
             _ => "another call",
         };
         *refused.entry(name).or_default() += usize::from(reply.number == 22);
-        let by_both = call
-            .handle()
-            .is_some_and(|handle| equal[usize::from(handle.local)]);
+        let by_both = call.handle().is_some_and(|handle| equal[usize::from(handle.local)]);
         *refused.entry("by both").or_default() += usize::from(reply.number == 22 && by_both);
         let by = match call.handle().map(|handle| handle.width()) {
             Some(Width::Four) => "by one of width 4",
@@ -64,12 +59,7 @@ fn a_freeze_between_all_other_calls() {
     assert_eq!(bench.reply(freeze(5)), Reply::DONE);
     let before = bench.clone();
     let delete = Call::delete_cluster(0, writer());
-    for call in [
-        delete,
-        delete_segment(5),
-        new_segment(5, 4),
-        new_cluster(0, 2),
-    ] {
+    for call in [delete, delete_segment(5), new_segment(5, 4), new_cluster(0, 2)] {
         assert_ne!(bench.number(call), 0);
         assert_ne!(bench.write(5, b"efgh", writer()), 0);
         assert_eq!(bench.number(freeze(5)), 0);

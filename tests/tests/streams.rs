@@ -3,8 +3,7 @@
 use model::program::Program;
 use model::random::Random;
 use model::streams::{failures, inputs, outputs, Checked};
-use std::fs;
-use std::path::Path;
+use std::{fs, path::Path};
 
 /// The model's program; in a script it stands as `model`.
 const MODEL: &str = env!("CARGO_BIN_EXE_model-benchrun");
@@ -72,27 +71,15 @@ fn ends_that_are_not_right() {
 #[test]
 fn a_failed_read_taken_for_the_end() {
     let careless = scripted("cat 2> /dev/null | model");
-    refused(
-        failures::of_reads(&careless, &example("sample.list")),
-        "end 0",
-    );
+    refused(failures::of_reads(&careless, &example("sample.list")), "end 0");
 }
 
 #[test]
 fn a_failed_write_not_told() {
     let sample = example("sample.list");
     let silent = scripted("model 2> /dev/null; exit 0");
-    refused(
-        failures::of_writes(&silent, &sample),
-        "standard output closed",
-    );
-    refused(
-        failures::of_a_later_write(&silent, &example("lists/read.list")),
-        "may not grow",
-    );
+    refused(failures::of_writes(&silent, &sample), "standard output closed");
+    refused(failures::of_a_later_write(&silent, &example("lists/read.list")), "may not grow");
     let whole = scripted("cat > /dev/null");
-    refused(
-        failures::of_a_later_write(&whole, &sample),
-        "a part of the text",
-    );
+    refused(failures::of_a_later_write(&whole, &sample), "a part of the text");
 }

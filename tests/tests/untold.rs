@@ -5,8 +5,7 @@ mod support;
 
 use model::list::{output, Record, RECORD_BYTES};
 use std::collections::BTreeMap;
-use support::naive::sets;
-use support::*;
+use support::{naive::sets, *};
 
 const NEAR: Password = [1, 1, 1, 1, 1, 1, 1, 1, 1, 1, 1, 1, 1, 1, 1, 0];
 /// Few passwords, two of them equal in all bits but one.
@@ -16,10 +15,7 @@ const FEW: [Password; 5] = [[0; 16], [1; 16], NEAR, [2; 16], [3; 16]];
 fn state(width: Width, mode: Mode, own: Password, other: Password) -> Bench {
     let mut state = Bench::with_segment_of(width);
     let cluster = &mut state.store.clusters[0][2];
-    (
-        *cluster.primary_mut(mode),
-        *cluster.primary_mut(mode.other()),
-    ) = (own, other);
+    (*cluster.primary_mut(mode), *cluster.primary_mut(mode.other())) = (own, other);
     state
 }
 
@@ -45,8 +41,7 @@ fn whatever_the_four_passwords_are() {
     let mut numbers: BTreeMap<u8, usize> = BTreeMap::new();
     for at in 0..2 * FEW.len().pow(4) {
         let mode = Mode::ALL[at % 2];
-        let [own, one, two, password] =
-            [0, 1, 2, 3].map(|place| FEW[at / 2 / 5_usize.pow(place) % 5]);
+        let [own, one, two, password] = [0, 1, 2, 3].map(|place| FEW[at / 2 / 5_usize.pow(place) % 5]);
         let width = Width::ALL[at % 3];
         let flat = width.flat();
         let weaker = Selector::new(width, [flat - 9, flat, flat, flat]);
@@ -70,10 +65,7 @@ fn whatever_the_handle_is() {
     let random = &mut Random::from_seed(1);
     for width in Width::ALL {
         let flat = width.flat();
-        let selectors = sets(width)
-            .into_iter()
-            .chain([[flat; 4]; 400])
-            .chain([[flat, 0, flat, flat]; 9]);
+        let selectors = sets(width).into_iter().chain([[flat; 4]; 400]).chain([[flat, 0, flat, flat]; 9]);
         let selectors = selectors.map(|parts| Selector::new(width, parts));
         let wide = others(width).flat_map(|other| [Selector::primary(other); 40]);
         let mut numbers: BTreeMap<u8, usize> = BTreeMap::new();

@@ -1,12 +1,6 @@
 //! The published handles are those of the model, and are what the calls give.
 
-use model::call::Call;
-use model::handle::{Handle, Password, Width};
-use model::hexadecimal::decode;
-use model::model::run;
-use model::sizes::{CLUSTERS, MEMORY_BYTES, NODES};
-use model::store::{Cluster, Store};
-use model::vectors::text;
+use model::{hexadecimal::decode, model::run, vectors::text, words::*};
 use std::collections::HashMap;
 
 const PUBLISHED: &str = include_str!("../../docs/vectors/handles.txt");
@@ -47,8 +41,7 @@ fn weakening(old: &Handle, mask: u16) -> (&'static str, Option<&'static str>) {
 
 /// The segments that either of two handles references, one by one.
 fn either(one: &Handle, two: &Handle) -> Vec<usize> {
-    let references =
-        |&segment: &usize| one.selector.references(segment) || two.selector.references(segment);
+    let references = |&segment: &usize| one.selector.references(segment) || two.selector.references(segment);
     segments(one.width()).filter(references).collect()
 }
 
@@ -86,9 +79,7 @@ fn joined_in_the_form_of_a_reduced_handle() {
 
 #[test]
 fn every_handle_validates_and_every_count_is_right() {
-    let lines = PUBLISHED
-        .lines()
-        .filter(|line| !line.is_empty() && !line.starts_with('#'));
+    let lines = PUBLISHED.lines().filter(|line| !line.is_empty() && !line.starts_with('#'));
     let mut kinds: HashMap<&str, usize> = HashMap::new();
     for (kind, values) in lines.map(read) {
         *kinds.entry(kind).or_default() += 1;
@@ -172,9 +163,7 @@ fn numbers_are_those_of_calls() {
             _ => 1,
         };
         let number = match (bytes("handle"), bytes("old"), bytes("one"), bytes("two")) {
-            (Some(handle), ..) => {
-                number(cluster(&values, &handle), Call::Validate { mode, handle })
-            }
+            (Some(handle), ..) => number(cluster(&values, &handle), Call::Validate { mode, handle }),
             (_, Some(handle), ..) => {
                 let mask = u16::from_str_radix(values["mask"], 16).unwrap();
                 number(Cluster::INACTIVE, Call::Weaken { mask, handle })

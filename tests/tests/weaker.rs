@@ -2,8 +2,7 @@
 
 mod support;
 
-use model::handle::{convert, Handle, Password, Selector, Width};
-use model::random::Random;
+use model::words::*;
 use support::naive::{flat, has, number, sets};
 use support::segments;
 
@@ -21,9 +20,7 @@ fn valid(width: Width, subselectors: [u16; 4]) -> Handle {
 fn masks(width: Width, random: &mut Random) -> Vec<u16> {
     match width {
         Width::Sixteen => (0..16).map(|_| random.number() as u16).collect(),
-        _ => (0..=flat(width))
-            .map(|mask| mask | random.number() as u16 & !flat(width))
-            .collect(),
+        _ => (0..=flat(width)).map(|mask| mask | random.number() as u16 & !flat(width)).collect(),
     }
 }
 
@@ -37,24 +34,17 @@ fn weakening_takes_the_excluded_and_nothing_else() {
             for mask in masks(width, random) {
                 let weaker = handle.weaken(mask);
                 assert_eq!(weaker.is_some(), number(width, parts, mask) == 0);
-                let Some(weaker) = weaker else {
-                    continue;
-                };
+                let Some(weaker) = weaker else { continue };
                 let references = |segment: &u32| weaker.selector.references(*segment as usize);
-                let kept = |segment: &u32| {
-                    handle.selector.references(*segment as usize) && has(mask, *segment)
-                };
-                assert!(segments(width)
-                    .filter(references)
-                    .eq(segments(width).filter(kept)));
+                let kept = |segment: &u32| handle.selector.references(*segment as usize) && has(mask, *segment);
+                assert!(segments(width).filter(references).eq(segments(width).filter(kept)));
                 assert_eq!((weaker.width(), weaker.name()), (width, handle.name()));
                 if weaker != handle {
                     let first = parts.iter().position(|part| *part == flat(width)).unwrap();
                     let noted = weaker.selector.subselectors[first];
                     // Bits of segments that were not referenced stay set.
-                    let taken = segments(width).filter(|&segment| {
-                        handle.selector.references(segment as usize) && !has(mask, segment)
-                    });
+                    let taken = segments(width)
+                        .filter(|&segment| handle.selector.references(segment as usize) && !has(mask, segment));
                     let taken: u32 = taken.map(|segment| 1 << segment).sum();
                     assert_eq!(u32::from(noted), u32::from(flat(width)) - taken);
                     assert_eq!(weaker.password, convert(&handle.password, noted));
@@ -141,10 +131,7 @@ fn joined_is_what_either_references() {
             assert_eq!((one.union(&two), two.union(&one)), (both, both));
             let joined = one.join(&two, &PASSWORD);
             assert_eq!(joined, two.join(&one, &PASSWORD));
-            assert_eq!(
-                joined.selector,
-                Selector::new(width, [both, flat, flat, flat])
-            );
+            assert_eq!(joined.selector, Selector::new(width, [both, flat, flat, flat]));
             assert_eq!(joined.password, convert(&PASSWORD, both));
         }
     }

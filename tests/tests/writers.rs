@@ -1,12 +1,11 @@
-//! Those who write learn nothing of what lies there. Two states begin alike but for the bytes of one cluster's segments,
-//! its read password, and memory that is no segment's; no call reads by a handle of that cluster. Then both reply the
-//! same, and stay alike but for these.
+//! Those who write learn nothing of what lies there. Two states begin alike but for the bytes of one cluster's
+//! segments, its read password, and memory that is no segment's; no call reads by a handle of that cluster. Then both
+//! reply the same, and stay alike but for these.
 
 mod support;
 
 use std::collections::BTreeMap;
-use support::valid::*;
-use support::*;
+use support::{valid::*, *};
 
 const LISTS: usize = 400;
 const LIST_CALLS: usize = 60;
@@ -67,10 +66,7 @@ fn agree(states: &[Bench; 2]) -> bool {
         let mut store = state.store.clone();
         store.clusters[0][APART].read = [0; 16];
         let bytes = parts(state, BESIDE).into_iter();
-        (
-            store,
-            bytes.map(|part| &state.memory[part]).collect::<Vec<_>>(),
-        )
+        (store, bytes.map(|part| &state.memory[part]).collect::<Vec<_>>())
     });
     one == two
 }
@@ -134,10 +130,7 @@ fn whoever_writes_gets_the_same() {
     ];
     for (local, name, number) in due {
         let count = met.get(&(local, name.to_string(), number));
-        assert!(
-            count.is_some_and(|count| *count > 9),
-            "{name} {number} {met:?}"
-        );
+        assert!(count.is_some_and(|count| *count > 9), "{name} {number} {met:?}");
     }
     for name in ["Read", "Look"] {
         assert!(!met.contains_key(&(APART, name.to_string(), 0)));
@@ -152,14 +145,11 @@ fn whoever_reads_does_not() {
     let mut differing = 0;
     for _ in 0..LISTS {
         let mut states = pair(random);
-        let [one, two] = states
-            .each_ref()
-            .map(|state| state.store.clusters[0][APART]);
+        let [one, two] = states.each_ref().map(|state| state.store.clusters[0][APART]);
         let width = one.known_width().expect("it is active");
         let reader = Handle::primary(width, 0, APART as u8, one.read);
         let last = u32::from(width.number()) - 1;
-        let read =
-            |states: &mut [Bench; 2]| states.each_mut().map(|state| state.read(last, reader));
+        let read = |states: &mut [Bench; 2]| states.each_mut().map(|state| state.read(last, reader));
         let there = states.each_ref().map(|state| {
             let part = parts(state, APART).swap_remove(1);
             state.memory[part].to_vec()

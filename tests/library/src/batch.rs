@@ -3,17 +3,10 @@
 use crate::chance::damage::{inflict, Damage, LAST_PLACE};
 use crate::chance::handles::{at_width, handle, Wish};
 use crate::chance::stores::{self, Fill};
-use crate::chance::{below, bytes, cases, width};
-use crate::compare::{ask, same_bytes, Sides};
 use crate::damages::Where;
 use crate::guard;
-use crate::question::{Held, Question, BATCH, BEYOND, READ_MODE, WRITE_MODE};
 use crate::tally::Tally;
-use model::call::Call;
-use model::handle::Width;
-use model::random::Random;
-use model::sizes::{CLUSTERS, NODES, SEGMENTS};
-use model::store::{Mode, Store};
+use crate::words::*;
 
 /// Something that validates many handles, given the mode and the width; [`guard::validate_all`] is the one to be
 /// compared.
@@ -48,12 +41,7 @@ impl Batch {
 
 /// Gives how many validations were compared. Every second batch is put to a damaged store, with each
 /// kind of damage in turn.
-pub fn compare(
-    guard: BatchGuard,
-    seed: u64,
-    batches: u64,
-    tally: &mut Tally,
-) -> Result<u64, String> {
+pub fn compare(guard: BatchGuard, seed: u64, batches: u64, tally: &mut Tally) -> Result<u64, String> {
     let mut validations = 0;
     let mut damages = Damage::ALL.into_iter().cycle();
     let mut sound = false;
@@ -61,8 +49,7 @@ pub fn compare(
         sound = !sound;
         let damage = if sound { None } else { damages.next() };
         let batch = by_chance(random, damage, tally);
-        tally.note_mode(BATCH, narrow(batch.mode));
-        tally.note_width(BATCH, batch.width);
+        tally.note_batch(narrow(batch.mode), batch.width);
         validations += batch.expected_count() as u64;
         one(guard, &batch, tally)
     })?;
@@ -111,16 +98,13 @@ fn one(guard: BatchGuard, batch: &Batch, tally: &mut Tally) -> Result<(), String
     let count = guard(&mut held, mode, width, &batch.handles, &mut found);
     let expected_count = batch.expected_count();
     if count != expected_count {
-        return Err(format!(
-            "{count} numbers are told for width {width}, {expected_count} are due"
-        ));
+        return Err(format!("{count} numbers are told for width {width}, {expected_count} are due"));
     }
     let mut expected = batch.numbers.clone();
     for (number, bytes) in expected.iter_mut().zip(batch.whole()) {
         *number = validated_alone(batch, bytes, tally)?;
     }
-    same_bytes("numbers of a batch", &expected, &found)
-        .map_err(|what| format!("width {width}, {what}"))?;
+    same_bytes("numbers of a batch", &expected, &found).map_err(|what| format!("width {width}, {what}"))?;
     same_bytes("image after a batch", &batch.held.image, &held.image)?;
     same_bytes("memory after a batch", &batch.held.memory, &held.memory)
 }
@@ -128,10 +112,7 @@ fn one(guard: BatchGuard, batch: &Batch, tally: &mut Tally) -> Result<(), String
 /// The number on which the library's single validation and the model agree.
 fn validated_alone(batch: &Batch, bytes: &[u8], tally: &mut Tally) -> Result<u8, String> {
     let call = Call::validate(narrow(batch.mode), bytes.to_vec());
-    let question = Question {
-        beyond: batch.mode,
-        ..Question::of(call)
-    };
+    let question = Question { beyond: batch.mode, ..Question::of(call) };
     let answer = ask(&guard::ask, &mut Sides::both(batch.held.clone()), &question)?;
     tally.note_widths(BATCH, &batch.held, &question, &answer);
     Ok(answer.reply.number)
@@ -142,10 +123,7 @@ fn by_chance(random: &mut Random, damage: Option<Damage>, tally: &mut Tally) -> 
     let store = stores::store(random, fill);
     let mut held = stores::held(random, &store);
     if let Some(damage) = damage {
-        let place = match random.one_in(2) {
-            true => LAST_PLACE,
-            false => (below(random, NODES), below(random, CLUSTERS)),
-        };
+        let place = if random.one_in(2) { LAST_PLACE } else { (below(random, NODES), below(random, CLUSTERS)) };
         inflict(random, &mut held, damage, place);
         tally.note_damage(BATCH, damage, Where::seen_from(None, place));
     }
@@ -166,10 +144,7 @@ fn by_chance(random: &mut Random, damage: Option<Damage>, tally: &mut Tally) -> 
 }
 
 fn mode(random: &mut Random) -> usize {
-    let mode = match random.one_in(2) {
-        true => READ_MODE as usize,
-        false => WRITE_MODE as usize,
-    };
+    let mode = if random.one_in(2) { READ_MODE as usize } else { WRITE_MODE as usize };
     match random.below(16) {
         0 => random.byte().into(),
         // Right in the lowest byte, the lowest two, or the lowest four, alone.
@@ -198,20 +173,13 @@ fn handles(random: &mut Random, store: &Store, width: Width, count: usize) -> Ve
     let mut joined = Vec::new();
     for _ in 0..count {
         let wish = Wish {
-            mode: if random.one_in(2) {
-                Mode::Read
-            } else {
-                Mode::Write
-            },
+            mode: if random.one_in(2) { Mode::Read } else { Mode::Write },
             primary: false,
             segments: random.one_in(2),
             width: Some(width).filter(|_| !random.one_in(8)),
         };
         let handle = handle(random, store, &[], wish);
-        let handle = match handle.width() == width {
-            true => handle,
-            false => at_width(&handle, width),
-        };
+        let handle = if handle.width() == width { handle } else { at_width(&handle, width) };
         joined.extend(handle.to_bytes());
     }
     let more = below(random, width.handle_bytes());

@@ -2,10 +2,7 @@
 
 use crate::image::{decode, encode};
 use crate::question::{Answer, Held, Question};
-use model::call::{Call, Reply};
-use model::model::run;
-use model::store::Store;
-use model::table::{refusal_above, Found, UNSOUND};
+use model::{model::run, words::*};
 
 /// Something that answers questions; [`crate::guard::ask`] is the one to be compared.
 pub type Guard<'a> = &'a dyn Fn(&mut Held, &Question) -> Answer;
@@ -19,10 +16,7 @@ pub struct Sides {
 
 impl Sides {
     pub fn both(held: Held) -> Sides {
-        Sides {
-            guard: held.clone(),
-            model: held,
-        }
+        Sides { guard: held.clone(), model: held }
     }
 }
 
@@ -46,11 +40,7 @@ pub fn by_model(held: &mut Held, question: &Question) -> Answer {
 
 /// What is looked at before the store, and so whatever there is in its place.
 fn before_the_store(call: &Call) -> Option<u8> {
-    let found = Found {
-        store: &Store::starting(),
-        memory_bytes: 0,
-        buffer_bytes: 0,
-    };
+    let found = Found { store: &Store::starting(), memory_bytes: 0, buffer_bytes: 0 };
     refusal_above(UNSOUND, call, &found)
 }
 
@@ -70,9 +60,7 @@ pub fn ask(guard: Guard, sides: &mut Sides, question: &Question) -> Result<Answe
         .and_then(|()| same_held(&sides.model, &sides.guard));
     match compared {
         Ok(()) => Ok(found),
-        Err(what) => Err(format!(
-            "{what}\n  asked:   {question}\n  model:   {expected}\n  library: {found}"
-        )),
+        Err(what) => Err(format!("{what}\n  asked:   {question}\n  model:   {expected}\n  library: {found}")),
     }
 }
 
@@ -99,12 +87,7 @@ fn same_held(expected: &Held, found: &Held) -> Result<(), String> {
 
 /// What holds of refusals, and of looks and joins whatever comes of them. Judged on the library's side alone,
 /// so that it does not hang on the model.
-fn changes_nothing_where_due(
-    before: &Held,
-    question: &Question,
-    after: &Held,
-    found: &Answer,
-) -> Result<(), String> {
+fn changes_nothing_where_due(before: &Held, question: &Question, after: &Held, found: &Answer) -> Result<(), String> {
     let kind = match (found.reply.is_done(), &question.call) {
         (false, _) => "a refusal",
         (true, Call::Look { .. }) => "a look",
@@ -126,14 +109,7 @@ pub fn same_bytes(what: &str, expected: &[u8], found: &[u8]) -> Result<(), Strin
     }
     let mut pairs = expected.iter().zip(found);
     match pairs.position(|(expected, found)| expected != found) {
-        Some(at) => Err(format!(
-            "{what} differ at byte {at}: {} and {}",
-            expected[at], found[at]
-        )),
-        None => Err(format!(
-            "{what} differ in length: {} and {}",
-            expected.len(),
-            found.len()
-        )),
+        Some(at) => Err(format!("{what} differ at byte {at}: {} and {}", expected[at], found[at])),
+        None => Err(format!("{what} differ in length: {} and {}", expected.len(), found.len())),
     }
 }

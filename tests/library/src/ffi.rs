@@ -34,136 +34,41 @@ pub type gelmuszta_mode = usize;
 pub type gelmuszta_width = usize;
 pub type gelmuszta_number = u8;
 
+/// What a function reads, and what it writes.
+type In<T> = *const T;
+type Out<T> = *mut T;
+use {
+    gelmuszta_handle as handle, gelmuszta_image as image, gelmuszta_memory as memory, gelmuszta_password as password,
+};
+use {gelmuszta_mode as mode, gelmuszta_number as number, gelmuszta_width as width};
+
+#[rustfmt::skip]
 extern "C" {
     pub fn gelmuszta_version() -> u32;
-
-    pub fn gelmuszta_start(image: *mut gelmuszta_image);
-
-    pub fn gelmuszta_sound(image: *const gelmuszta_image) -> bool;
-
-    pub fn gelmuszta_new_cluster(
-        image: *mut gelmuszta_image,
-        current: usize,
-        local: usize,
-        width: gelmuszta_width,
-        read: *const gelmuszta_password,
-        write: *const gelmuszta_password,
-        reader: *mut gelmuszta_handle,
-        writer: *mut gelmuszta_handle,
-    ) -> gelmuszta_number;
-
-    pub fn gelmuszta_delete_cluster(
-        image: *mut gelmuszta_image,
-        current: usize,
-        handle: *const gelmuszta_handle,
-    ) -> gelmuszta_number;
-
-    pub fn gelmuszta_new_password(
-        image: *mut gelmuszta_image,
-        mode: gelmuszta_mode,
-        handle: *const gelmuszta_handle,
-        password: *const gelmuszta_password,
-        given: *mut gelmuszta_handle,
-    ) -> gelmuszta_number;
-
-    pub fn gelmuszta_new_segment(
-        image: *mut gelmuszta_image,
-        memory: *mut gelmuszta_memory,
-        current: usize,
-        segment: usize,
-        size: usize,
-        handle: *const gelmuszta_handle,
-    ) -> gelmuszta_number;
-
-    pub fn gelmuszta_delete_segment(
-        image: *mut gelmuszta_image,
-        current: usize,
-        segment: usize,
-        handle: *const gelmuszta_handle,
-    ) -> gelmuszta_number;
-
-    pub fn gelmuszta_freeze(
-        image: *mut gelmuszta_image,
-        current: usize,
-        segment: usize,
-        handle: *const gelmuszta_handle,
-    ) -> gelmuszta_number;
-
-    pub fn gelmuszta_read(
-        image: *const gelmuszta_image,
-        memory: *const gelmuszta_memory,
-        segment: usize,
-        handle: *const gelmuszta_handle,
-        buffer: *mut u8,
-        buffer_length: usize,
-        length: *mut usize,
-    ) -> gelmuszta_number;
-
-    pub fn gelmuszta_write(
-        image: *const gelmuszta_image,
-        memory: *mut gelmuszta_memory,
-        segment: usize,
-        handle: *const gelmuszta_handle,
-        data: *const u8,
-        data_length: usize,
-    ) -> gelmuszta_number;
-
-    pub fn gelmuszta_look(
-        image: *const gelmuszta_image,
-        current: usize,
-        segment: usize,
-        handle: *const gelmuszta_handle,
-        from: *mut usize,
-        length: *mut usize,
-    ) -> gelmuszta_number;
-
-    pub fn gelmuszta_handle_of(
-        bytes: *const u8,
-        length: usize,
-        handle: *mut gelmuszta_handle,
-    ) -> gelmuszta_number;
-
-    pub fn gelmuszta_weaken(
-        handle: *const gelmuszta_handle,
-        mask: u16,
-        given: *mut gelmuszta_handle,
-        count: *mut u8,
-    ) -> gelmuszta_number;
-
-    pub fn gelmuszta_reduce(
-        image: *const gelmuszta_image,
-        mode: gelmuszta_mode,
-        handle: *const gelmuszta_handle,
-        given: *mut gelmuszta_handle,
-    ) -> gelmuszta_number;
-
-    pub fn gelmuszta_join(
-        image: *const gelmuszta_image,
-        mode: gelmuszta_mode,
-        handle: *const gelmuszta_handle,
-        other: *const gelmuszta_handle,
-        given: *mut gelmuszta_handle,
-    ) -> gelmuszta_number;
-
-    pub fn gelmuszta_validate(
-        image: *const gelmuszta_image,
-        mode: gelmuszta_mode,
-        handle: *const gelmuszta_handle,
-    ) -> gelmuszta_number;
-
-    pub fn gelmuszta_validate_all(
-        image: *const gelmuszta_image,
-        mode: gelmuszta_mode,
-        width: gelmuszta_width,
-        handles: *const u8,
-        handles_length: usize,
-        numbers: *mut u8,
-        numbers_length: usize,
-    ) -> usize;
-
-    pub fn gelmuszta_convert(
-        password: *const gelmuszta_password,
-        parameter: u16,
-        converted: *mut gelmuszta_password,
-    );
+    pub fn gelmuszta_start(image: Out<image>);
+    pub fn gelmuszta_sound(image: In<image>) -> bool;
+    pub fn gelmuszta_new_cluster(image: Out<image>, current: usize, local: usize, width: width, read: In<password>,
+        write: In<password>, reader: Out<handle>, writer: Out<handle>) -> number;
+    pub fn gelmuszta_delete_cluster(image: Out<image>, current: usize, handle: In<handle>) -> number;
+    pub fn gelmuszta_new_password(image: Out<image>, mode: mode, handle: In<handle>, password: In<password>,
+        given: Out<handle>) -> number;
+    pub fn gelmuszta_new_segment(image: Out<image>, memory: Out<memory>, current: usize, segment: usize, size: usize,
+        handle: In<handle>) -> number;
+    pub fn gelmuszta_delete_segment(image: Out<image>, current: usize, segment: usize, handle: In<handle>) -> number;
+    pub fn gelmuszta_freeze(image: Out<image>, current: usize, segment: usize, handle: In<handle>) -> number;
+    pub fn gelmuszta_read(image: In<image>, memory: In<memory>, segment: usize, handle: In<handle>,
+        buffer: Out<u8>, buffer_length: usize, length: Out<usize>) -> number;
+    pub fn gelmuszta_write(image: In<image>, memory: Out<memory>, segment: usize, handle: In<handle>, data: In<u8>,
+        data_length: usize) -> number;
+    pub fn gelmuszta_look(image: In<image>, current: usize, segment: usize, handle: In<handle>, from: Out<usize>,
+        length: Out<usize>) -> number;
+    pub fn gelmuszta_handle_of(bytes: In<u8>, length: usize, handle: Out<handle>) -> number;
+    pub fn gelmuszta_weaken(handle: In<handle>, mask: u16, given: Out<handle>, count: Out<u8>) -> number;
+    pub fn gelmuszta_reduce(image: In<image>, mode: mode, handle: In<handle>, given: Out<handle>) -> number;
+    pub fn gelmuszta_join(image: In<image>, mode: mode, handle: In<handle>, other: In<handle>,
+        given: Out<handle>) -> number;
+    pub fn gelmuszta_validate(image: In<image>, mode: mode, handle: In<handle>) -> number;
+    pub fn gelmuszta_validate_all(image: In<image>, mode: mode, width: width, handles: In<u8>,
+        handles_length: usize, numbers: Out<u8>, numbers_length: usize) -> usize;
+    pub fn gelmuszta_convert(password: In<password>, parameter: u16, converted: Out<password>);
 }

@@ -1,8 +1,6 @@
 //! The records of all clusters as the bytes that the header lays out.
 
-use model::handle::Password;
-use model::sizes::{CLUSTERS, NODES, PASSWORD_BYTES, SEGMENTS};
-use model::store::{Cluster, Mode, Place, Segment, Store};
+use model::words::*;
 use std::ops::Range;
 
 pub const WIDTH_AT: usize = 1;
@@ -106,13 +104,7 @@ fn decode_cluster(record: &[u8]) -> Option<Cluster> {
     for (segment, place) in segments.iter_mut().zip(places) {
         *segment = decode_segment(place)?;
     }
-    Some(Cluster {
-        active,
-        width: record[WIDTH_AT],
-        read: password(READ_AT)?,
-        write: password(WRITE_AT)?,
-        segments,
-    })
+    Some(Cluster { active, width: record[WIDTH_AT], read: password(READ_AT)?, write: password(WRITE_AT)?, segments })
 }
 
 fn decode_segment(place: &[u8]) -> Option<Segment> {

@@ -1,13 +1,8 @@
 //! What holds of joins whatever they join, judged by the library's side alone.
 
-use crate::chance::cases;
 use crate::chance::questions::Maker;
 use crate::chance::stores::{self, Fill};
-use crate::compare::Guard;
-use crate::question::{Answer, Held, Question};
-use model::call::{Call, Reply, JOIN};
-use model::handle::{Handle, HandleBytes};
-use model::random::Random;
+use crate::words::*;
 
 /// Gives how many joins were done.
 pub fn compare(guard: Guard, seed: u64, joins: u64) -> Result<u64, String> {
@@ -24,26 +19,12 @@ fn one(guard: Guard, random: &mut Random) -> Result<bool, String> {
     let fill = Fill::by_chance(random);
     let store = stores::store(random, fill);
     let held = stores::held(random, &store);
-    let maker = &mut Maker {
-        random,
-        store: &store,
-        given: &[],
-    };
+    let maker = &mut Maker { random, store: &store, given: &[] };
     let question = maker.question(&[JOIN]);
-    let Call::Join {
-        mode,
-        handle,
-        other,
-    } = question.call.clone()
-    else {
+    let Call::Join { mode, handle, other } = question.call.clone() else {
         return Err("another call was made".to_string());
     };
-    let join = Join {
-        guard,
-        held,
-        question,
-        mode,
-    };
+    let join = Join { guard, held, question, mode };
     let answer = join.asked(&handle, &other);
     join.holds(&answer, &handle, &other)
         .map_err(|what| format!("{what}\n  asked:   {}\n  library: {answer}", join.question))?;
@@ -76,15 +57,9 @@ impl Join<'_> {
     }
 
     fn holds(&self, answer: &Answer, one: &HandleBytes, other: &HandleBytes) -> Result<(), String> {
-        let told = |holds: bool, what: &str| match holds {
-            true => Ok(()),
-            false => Err(what.to_string()),
-        };
+        let told = |holds: bool, what: &str| if holds { Ok(()) } else { Err(what.to_string()) };
         let exchanged = self.asked(other, one);
-        told(
-            exchanged == *answer,
-            "a join hangs on which handle comes first",
-        )?;
+        told(exchanged == *answer, "a join hangs on which handle comes first")?;
         let read = [one, other].map(|bytes| Handle::from_bytes(bytes));
         for (bytes, handle) in [one, other].into_iter().zip(&read) {
             let itself = self.asked(bytes, bytes).reply;
@@ -96,28 +71,17 @@ impl Join<'_> {
             return Ok(());
         }
         let given = &answer.reply.first;
-        let [Some(first), Some(second)] = read else {
-            return told(false, "bytes are joined that are no handle");
-        };
+        let [Some(first), Some(second)] = read else { return told(false, "bytes are joined that are no handle") };
         let is_as_wide = given.len() == one.len() && given.len() == other.len();
         told(is_as_wide, "what is given has another width")?;
-        let again = Reply {
-            first: given.clone(),
-            ..Reply::DONE
-        };
-        told(
-            self.reduced(given) == again,
-            "what is given is not valid, or not in the form of a reduced handle",
-        )?;
+        let again = Reply { first: given.clone(), ..Reply::DONE };
+        told(self.reduced(given) == again, "what is given is not valid, or not in the form of a reduced handle")?;
         for handle in [one, other] {
             let joined = self.asked(given, handle).reply;
             told(joined == again, "what was joined is not in what is given")?;
         }
         let primary = Handle::from_bytes(given).is_some_and(|given| given.selector.is_primary());
-        told(
-            !primary && self.counts(given, first.union(&second)),
-            "what is given references other segments",
-        )
+        told(!primary && self.counts(given, first.union(&second)), "what is given references other segments")
     }
 
     /// Whether weakening tells so many segments, and takes none of these away. It gives no handle to nothing.

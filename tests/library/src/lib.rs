@@ -6,9 +6,9 @@
 //! - [`compare`]: one question put to both, and everything that has to be equal afterwards.
 //! - [`chance`]: stores, damage, handles and questions made by chance from a seed.
 //! - [`single`], [`runs`], [`edges`], [`batch`], [`copies`], [`published`]: what is compared.
-//! - [`stays`], [`laws`], [`untold`], [`writers`]: whether what is frozen stays, what holds of joins, what the reply to a
-//!   new password does not tell, and that those who write learn nothing of what lies there, judged by the library's side
-//!   alone.
+//! - [`stays`], [`laws`], [`untold`], [`writers`]: whether what is frozen stays, what holds of joins, what the reply to
+//!   a new password does not tell, and that those who write learn nothing of what lies there, judged by the library's
+//!   side alone.
 //! - [`pairs`]: what comparisons of two copies share.
 //! - [`tally`], [`damages`], [`sights`], [`widths`]: which answers, fills, selectors, modes, damages, ways to nothing,
 //!   frozen segments, looks, freezes, joins, new passwords and widths were met.
@@ -34,3 +34,12 @@ pub mod tally;
 pub mod untold;
 pub mod widths;
 pub mod writers;
+
+/// What nearly every file speaks of.
+pub mod words {
+    pub use crate::chance::*;
+    pub use crate::compare::*;
+    pub use crate::image::*;
+    pub use crate::question::*;
+    pub use model::words::*;
+}

@@ -1,14 +1,6 @@
 //! Two copies of a store and the cluster that is set apart in them: what comparisons of copies share.
 
-use crate::chance::handles;
-use crate::compare::{same_answer, same_shown, Guard};
-use crate::image::decode;
-use crate::question::{Answer, Held, Question};
-use model::call::Call;
-use model::handle::Handle;
-use model::random::Random;
-use model::store::{Mode, Segment, Store};
-use model::table::{refusal, Found};
+use crate::words::*;
 use std::ops::Range;
 
 /// A pair of copies and the place of the cluster that is set apart.
@@ -62,8 +54,8 @@ pub fn does(store: &Store, call: &Call, buffer_bytes: usize) -> bool {
     refusal(call, &found).is_none()
 }
 
-/// Whether the handle validates in one of the modes in one of the stores, as the model judges. One of another width than
-/// its cluster's does not.
+/// Whether the handle validates in one of the modes in one of the stores, as the model judges. One of another width
+/// than its cluster's does not.
 pub fn validates(stores: &[Store; 2], handle: &Handle, modes: &[Mode]) -> bool {
     let validates = |store: &Store, mode: u32| {
         let handle = handle.to_bytes();
@@ -73,8 +65,8 @@ pub fn validates(stores: &[Store; 2], handle: &Handle, modes: &[Mode]) -> bool {
     stores.any(|store| modes.iter().any(|mode| validates(store, mode.number())))
 }
 
-/// Puts the question to both copies. Gives the answer that both get, or tells in what they differ: in the answer, in the
-/// bytes shown, or in what `agree` looks at afterwards.
+/// Puts the question to both copies. Gives the answer that both get, or tells in what they differ: in the answer, in
+/// the bytes shown, or in what `agree` looks at afterwards.
 pub fn ask_both(
     guard: Guard,
     copies: &mut [Held; 2],
@@ -88,8 +80,6 @@ pub fn ask_both(
         .and_then(|()| agree(copies));
     match same {
         Ok(()) => Ok(first),
-        Err(what) => Err(format!(
-            "{what}\n  asked:  {question}\n  first:  {first}\n  second: {second}"
-        )),
+        Err(what) => Err(format!("{what}\n  asked:  {question}\n  first:  {first}\n  second: {second}")),
     }
 }

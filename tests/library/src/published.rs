@@ -1,14 +1,7 @@
 //! The published handles, each line confirmed through the library on a store made for it.
 
-use crate::guard;
-use crate::image::encode;
-use crate::question::{Held, Question, READ_MODE, WRITE_MODE};
-use model::call::{Call, Reply};
-use model::handle::{HandleBytes, Password, Width};
+use crate::{guard, words::*};
 use model::hexadecimal::decode;
-use model::sizes::MEMORY_BYTES;
-use model::store::{Cluster, Store};
-use model::table::{APART, DONE, EMPTY, LENGTH, SPENT, WHOLE};
 use std::collections::HashMap;
 
 /// What `docs/vectors/README.md` explains.
@@ -16,9 +9,7 @@ pub const TEXT: &str = include_str!("../../../docs/vectors/handles.txt");
 
 /// Gives how many lines were confirmed.
 pub fn confirm(text: &str) -> Result<usize, String> {
-    let lines = text
-        .lines()
-        .filter(|line| !line.is_empty() && !line.starts_with('#'));
+    let lines = text.lines().filter(|line| !line.is_empty() && !line.starts_with('#'));
     let mut confirmed = 0;
     for text in lines {
         let held = Line::read(text).and_then(|line| line.holds());
@@ -84,20 +75,12 @@ impl<'a> Line<'a> {
             READ_MODE => made.first,
             _ => made.second,
         };
-        Some(
-            made.number == DONE
-                && given == handle
-                && self.counts(&handle)?
-                && self.validates(&handle)? == DONE,
-        )
+        Some(made.number == DONE && given == handle && self.counts(&handle)? && self.validates(&handle)? == DONE)
     }
 
     fn weakened(&self) -> Option<bool> {
         let (old, new) = (self.handle("old")?, self.handle("new")?);
-        let expected = Reply {
-            count: self.number("count")?.into(),
-            ..giving(&new)
-        };
+        let expected = Reply { count: self.number("count")?.into(), ..giving(&new) };
         let call = Call::weaken(self.bits("mask")?, old.clone());
         Some(
             ask(&mut held(&Store::starting()), call) == expected
@@ -120,10 +103,7 @@ impl<'a> Line<'a> {
     fn joined(&self) -> Option<bool> {
         let new = self.handle("new")?;
         Some(
-            self.joining(giving(&new))?
-                && self.both_validate()?
-                && self.counts(&new)?
-                && self.validates(&new)? == DONE,
+            self.joining(giving(&new))? && self.both_validate()? && self.counts(&new)? && self.validates(&new)? == DONE,
         )
     }
 
@@ -237,17 +217,11 @@ fn name(handle: &HandleBytes) -> (usize, usize) {
 }
 
 fn giving(handle: &HandleBytes) -> Reply {
-    Reply {
-        first: handle.clone(),
-        ..Reply::DONE
-    }
+    Reply { first: handle.clone(), ..Reply::DONE }
 }
 
 fn held(store: &Store) -> Held {
-    Held {
-        image: encode(store),
-        memory: [0; MEMORY_BYTES],
-    }
+    Held { image: encode(store), memory: [0; MEMORY_BYTES] }
 }
 
 fn ask(held: &mut Held, call: Call) -> Reply {

@@ -3,10 +3,7 @@
 use crate::ffi::HANDLE_MAX;
 use crate::guard::handles::Behind;
 use crate::image::{encode, Image};
-use model::call::{self, Call, Reply, CALLS};
-use model::handle::{Handle, HandleBytes};
-use model::sizes::MEMORY_BYTES;
-use model::store::Store;
+use model::{call, words::*};
 use std::fmt;
 
 /// The number of a call's argument that stands for [`Question::beyond`].
@@ -43,10 +40,7 @@ pub struct Held {
 impl Held {
     /// The same memory with the records of a store.
     pub fn with(&self, store: &Store) -> Held {
-        Held {
-            image: encode(store),
-            memory: self.memory.clone(),
-        }
+        Held { image: encode(store), memory: self.memory.clone() }
     }
 }
 
@@ -65,12 +59,7 @@ pub struct Question {
 
 impl Question {
     pub fn of(call: Call) -> Question {
-        Question {
-            call,
-            beyond: BEYOND as usize,
-            buffer: Vec::new(),
-            behind: [0; HANDLE_MAX],
-        }
+        Question { call, beyond: BEYOND as usize, buffer: Vec::new(), behind: [0; HANDLE_MAX] }
     }
 
     /// The call's code, or [`VALIDATION`], or [`LOOK`].
@@ -155,25 +144,14 @@ impl Answer {
             call::WEAKEN | call::REDUCE | call::NEW_PASSWORD | call::JOIN => 1,
             _ => 0,
         };
-        let handles = [&self.reply.first, &self.reply.second]
-            .into_iter()
-            .take(count);
-        handles
-            .filter_map(|bytes| Handle::from_bytes(bytes))
-            .collect()
+        let handles = [&self.reply.first, &self.reply.second].into_iter().take(count);
+        handles.filter_map(|bytes| Handle::from_bytes(bytes)).collect()
     }
 }
 
 impl fmt::Display for Answer {
     fn fmt(&self, to: &mut fmt::Formatter) -> fmt::Result {
-        let Reply {
-            number,
-            first,
-            second,
-            count,
-            length,
-            shown,
-        } = &self.reply;
+        let Reply { number, first, second, count, length, shown } = &self.reply;
         let [first, second] = [first, second].map(|handle| model::hexadecimal::encode(handle));
         write!(
             to,

@@ -1,18 +1,12 @@
 //! Long rows of calls from the starting store: handles that were given are weakened, reduced,
 //! revoked and presented again, and each call works on what the last one left. What was frozen on the way stays.
 
-use crate::chance::cases;
 use crate::chance::questions::{Maker, FILLING};
-use crate::compare::{ask, same_bytes, Guard, Sides};
 use crate::guard;
-use crate::image::{decode, encode, IMAGE_BYTES};
-use crate::question::Held;
 use crate::stays::seen;
 use crate::tally::Tally;
+use crate::words::*;
 use model::frozen::Watch;
-use model::random::Random;
-use model::sizes::MEMORY_BYTES;
-use model::store::Store;
 
 /// Calls of one row.
 pub const RUN_CALLS: u64 = 400;
@@ -28,14 +22,9 @@ fn one(guard: Guard, random: &mut Random, tally: &mut Tally) -> Result<(), Strin
     for at in 1..=RUN_CALLS {
         let before = sides.model.clone();
         let store = decode(&before.image).ok_or("the model leaves no store")?;
-        let maker = &mut Maker {
-            random,
-            store: &store,
-            given: &given,
-        };
+        let maker = &mut Maker { random, store: &store, given: &given };
         let question = maker.question(&FILLING);
-        let answer = ask(guard, &mut sides, &question)
-            .map_err(|what| format!("call {at} of the row: {what}"))?;
+        let answer = ask(guard, &mut sides, &question).map_err(|what| format!("call {at} of the row: {what}"))?;
         tally.note(&question, &answer);
         seen(&mut watch, &sides.guard).map_err(|what| format!("call {at} of the row: {what}"))?;
         tally.note_held(&before, &question, &answer);

@@ -3,16 +3,10 @@
 use crate::chance::damage::{inflict, Damage, LAST_PLACE};
 use crate::chance::questions::{Maker, EVENLY};
 use crate::chance::stores::{self, Fill};
-use crate::chance::{below, cases, password};
-use crate::compare::{ask, is_sound, Guard, Sides};
 use crate::damages::Where;
 use crate::guard;
-use crate::question::{Held, Question};
 use crate::tally::Tally;
-use model::call::Call;
-use model::handle::convert;
-use model::random::Random;
-use model::sizes::{CLUSTERS, NODES};
+use crate::words::*;
 
 pub fn compare(guard: Guard, seed: u64, calls: u64, tally: &mut Tally) -> Result<(), String> {
     cases(seed, calls, |random| one(guard, random, tally))
@@ -23,11 +17,7 @@ fn one(guard: Guard, random: &mut Random, tally: &mut Tally) -> Result<(), Strin
     tally.note_fill(fill);
     let store = stores::store(random, fill);
     let mut held = stores::held(random, &store);
-    let maker = &mut Maker {
-        random,
-        store: &store,
-        given: &[],
-    };
+    let maker = &mut Maker { random, store: &store, given: &[] };
     let question = maker.question(&EVENLY);
     let damaged = random.one_in(4);
     if damaged {
@@ -67,9 +57,7 @@ fn damage(random: &mut Random, held: &mut Held, question: &Question) -> (Damage,
 fn place_of(call: &Call) -> Option<(usize, usize)> {
     let (node, local) = match *call {
         Call::NewCluster { node, local, .. } => (node as usize, local as usize),
-        _ => call
-            .handle()
-            .map(|handle| (handle.node.into(), handle.local.into()))?,
+        _ => call.handle().map(|handle| (handle.node.into(), handle.local.into()))?,
     };
     (node < NODES && local < CLUSTERS).then_some((node, local))
 }
@@ -79,9 +67,7 @@ fn same_soundness(held: &mut Held) -> Result<(), String> {
     let before = held.image;
     let found = guard::is_sound(&mut held.image);
     if found != expected {
-        return Err(format!(
-            "sound is {expected} in the model, {found} in the library"
-        ));
+        return Err(format!("sound is {expected} in the model, {found} in the library"));
     }
     match held.image == before {
         true => Ok(()),
@@ -90,10 +76,7 @@ fn same_soundness(held: &mut Held) -> Result<(), String> {
 }
 
 fn same_conversion(random: &mut Random) -> Result<(), String> {
-    let parameter = match random.one_in(2) {
-        true => random.byte().into(),
-        false => random.number() as u16,
-    };
+    let parameter = if random.one_in(2) { random.byte().into() } else { random.number() as u16 };
     let password = password(random);
     let expected = convert(&password, parameter);
     let found = guard::convert(&password, parameter);

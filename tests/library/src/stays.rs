@@ -3,51 +3,27 @@
 
 use crate::chance::questions::Maker;
 use crate::chance::stores::{self, Fill};
-use crate::chance::{cases, handles};
-use crate::compare::Guard;
-use crate::image::decode;
-use crate::question::{Held, Question};
-use model::call::Call;
-use model::frozen::Watch;
-use model::random::Random;
-use model::store::{Cluster, Mode, Store};
-use model::table::FROZEN;
+use crate::words::*;
+use model::{frozen::Watch, met::Met};
 
 /// Calls of one row.
 pub const ROW_CALLS: u64 = 100;
 /// The codes of what changes something.
 const CHANGING: [u8; 12] = [1, 2, 2, 3, 3, 4, 4, 6, 6, 6, 9, 10];
 
-/// How many segments were frozen, how many calls were done, and how many were refused with 22.
-#[derive(Debug, Default)]
-pub struct Count {
-    pub frozen: usize,
-    pub done: u64,
-    pub refused: u64,
+const REFUSED: &str = "a call refused with 22 (frozen)";
+
+pub fn met() -> Met {
+    Met::new("what is frozen stays", ["a frozen segment", "a call done", REFUSED])
 }
 
-impl Count {
-    /// What rows have to come to, and these did not.
-    pub fn faults(&self) -> Vec<String> {
-        let due = [
-            (self.frozen as u64, "a frozen segment"),
-            (self.done, "a call done"),
-            (self.refused, "a call refused with 22 (frozen)"),
-        ];
-        let missing = due.iter().filter(|(count, _)| *count == 0);
-        missing
-            .map(|(_, what)| format!("not tried: what is frozen stays, {what}"))
-            .collect()
-    }
+pub fn compare(guard: Guard, seed: u64, rows: u64) -> Result<Met, String> {
+    let mut met = met();
+    cases(seed, rows, |random| one(guard, random, &mut met))?;
+    Ok(met)
 }
 
-pub fn compare(guard: Guard, seed: u64, rows: u64) -> Result<Count, String> {
-    let mut count = Count::default();
-    cases(seed, rows, |random| one(guard, random, &mut count))?;
-    Ok(count)
-}
-
-fn one(guard: Guard, random: &mut Random, count: &mut Count) -> Result<(), String> {
+fn one(guard: Guard, random: &mut Random, met: &mut Met) -> Result<(), String> {
     let fill = Fill::by_chance(random);
     let mut held = {
         let store = stores::store(random, fill);
@@ -58,13 +34,12 @@ fn one(guard: Guard, random: &mut Random, count: &mut Count) -> Result<(), Strin
         let store = seen(&mut watch, &held)?;
         let question = question(random, &store);
         let answer = guard(&mut held, &question);
-        seen(&mut watch, &held).map_err(|what| {
-            format!("call {at} of the row: {what}\n  asked:   {question}\n  library: {answer}")
-        })?;
-        count.done += u64::from(answer.reply.is_done());
-        count.refused += u64::from(answer.reply.number == FROZEN);
+        seen(&mut watch, &held)
+            .map_err(|what| format!("call {at} of the row: {what}\n  asked:   {question}\n  library: {answer}"))?;
+        met.note_if(answer.reply.is_done(), "a call done");
+        met.note_if(answer.reply.number == FROZEN, REFUSED);
     }
-    count.frozen += watch.met();
+    met.note_all((0..watch.met()).map(|_| "a frozen segment"));
     Ok(())
 }
 
@@ -77,11 +52,7 @@ pub fn seen(watch: &mut Watch, held: &Held) -> Result<Store, String> {
 
 /// A question; every second one by the write primary handle of a cluster that has a frozen segment, if there is one.
 fn question(random: &mut Random, store: &Store) -> Question {
-    let maker = &mut Maker {
-        random,
-        store,
-        given: &[],
-    };
+    let maker = &mut Maker { random, store, given: &[] };
     let mut question = maker.question(&CHANGING);
     let frozen = handles::place(random, store, Cluster::has_frozen);
     if let (Some((at, local)), true) = (frozen, random.one_in(2)) {

@@ -1,26 +1,14 @@
-//! Which answers, fills, damages, selectors, ways to nothing, frozen segments, looks, freezes, joins, new passwords and
-//! widths were met, and which still have to be.
+//! What calls have to come to and what they came to: the numbers of each, fills, damages, selectors, modes, and what
+//! [`damages`], [`sights`], [`widths`] and the model list.
 
 use crate::chance::damage::Damage;
 use crate::chance::stores::Fill;
-use crate::damages::{Damages, Where};
-use crate::image::decode;
-use crate::question::{name, Answer, Held, Question, BATCH, BEYOND, LOOK, VALIDATION};
-use crate::sights::Sights;
-use crate::widths::Widths;
-use model::call::{self, Call};
-use model::frozen::Case;
-use model::joins::Meeting;
-use model::nothing::Way;
-use model::renewals::Renewal;
-use model::sizes::SUBSELECTORS;
-use model::table::{
-    word, Found, ABSENT, APART, DONE, ELSEWHERE, EMPTY, FIELD, FROZEN, GAPPED, INACTIVE, IN_USE,
-    LENGTH, NOT_PRIMARY, NOT_REFERENCED, NO_ROOM, NO_SUCH_PLACE, OLD_PASSWORD, PRESENT, SHORT,
-    SPENT, TWINS, UNSOUND, VIOLATED_PROTECTION, WHOLE,
-};
-use std::collections::{BTreeMap, BTreeSet};
-use std::fmt;
+use crate::damages::{self, Where};
+use crate::words::*;
+use crate::{sights, widths};
+use model::call;
+use model::met::{self, Met};
+use std::{collections::BTreeMap, fmt};
 
 /// The numbers that the table of refusals allows each call, 0 for done among them.
 #[rustfmt::skip]
@@ -84,201 +72,111 @@ pub fn allowed(code: u8) -> &'static [u8] {
 /// Modes above a byte: right in the lowest byte, in the lowest two, or perhaps in the lowest four.
 const WIDE_MODES: [u32; 5] = [257, 258, 65_537, 65_538, BEYOND];
 /// What takes a mode.
-const NAMING_A_MODE: [u8; 5] = [
-    call::REDUCE,
-    call::NEW_PASSWORD,
-    call::JOIN,
-    VALIDATION,
-    BATCH,
-];
+const NAMING_A_MODE: [u8; 5] = [call::REDUCE, call::NEW_PASSWORD, call::JOIN, VALIDATION, BATCH];
 
-#[derive(Default)]
 pub struct Tally {
     pub pairs: BTreeMap<(u8, u8), u64>,
-    fills: BTreeMap<Fill, u64>,
-    damages: Damages,
-    /// Wide modes, with the codes of what they were given to.
-    modes: BTreeSet<(u8, u32)>,
-    /// Calls done, by how many subselectors of a handle that they present are not flat.
-    weakened: [u64; SUBSELECTORS + 1],
-    widths: Widths,
-    ways: BTreeMap<Way, u64>,
-    cases: BTreeMap<Case, u64>,
-    meetings: BTreeMap<Meeting, u64>,
-    renewals: BTreeMap<Renewal, u64>,
-    sights: Sights,
-    /// The numbers of weakenings beside a damaged store.
-    beside_damage: BTreeMap<u8, u64>,
+    pub met: Met,
+}
+
+impl Default for Tally {
+    fn default() -> Tally {
+        let pairs = allowed_pairs().map(in_words);
+        let fills = Fill::ALL.map(|fill| format!("store {fill:?}"));
+        let modes = NAMING_A_MODE.into_iter().flat_map(|code| WIDE_MODES.map(|mode| with_mode(code, mode)));
+        let weakened = (0..=SUBSELECTORS).map(not_flat);
+        let damaged = WEAKENING.iter().map(|number| beside_damage(*number));
+        let due = pairs.chain(fills).chain(modes).chain(weakened).chain(damaged).chain(met::due());
+        let due = due.chain(damages::due()).chain(widths::due()).chain(sights::due());
+        Tally { pairs: BTreeMap::new(), met: Met::new("calls", due) }
+    }
 }
 
 impl Tally {
     pub fn note(&mut self, question: &Question, answer: &Answer) {
-        let pair = (question.code(), answer.reply.number);
+        let (call, number) = (&question.call, answer.reply.number);
+        let pair = (question.code(), number);
         *self.pairs.entry(pair).or_default() += 1;
-        for handle in question.call.presented() {
+        self.met.note(in_words(pair));
+        for handle in call.presented().filter(|_| answer.reply.is_done()) {
             let (subselectors, flat) = (handle.selector.subselectors, handle.width().flat());
-            let converting = subselectors.iter().filter(|part| **part != flat);
-            self.weakened[converting.count()] += u64::from(answer.reply.is_done());
+            self.met.note(not_flat(subselectors.iter().filter(|part| **part != flat).count()));
         }
-        if let Some(way) = Way::of(&question.call, answer.reply.number) {
-            *self.ways.entry(way).or_default() += 1;
-        }
-        if let Some(mode) = question.call.named_mode() {
-            self.note_mode(question.code(), mode);
-        }
+        self.met.note_all(met::way(call, number));
+        self.met.note_all(call.named_mode().map(|mode| with_mode(question.code(), mode)));
     }
 
     /// What a question came to that hangs on what it was put to, which is `held`.
     pub fn note_held(&mut self, held: &Held, question: &Question, answer: &Answer) {
-        self.sights.note(held, question, answer);
+        self.met.note_all(sights::met(held, question, answer));
         self.note_widths(question.code(), held, question, answer);
-        let Some(store) = decode(&held.image) else {
-            return;
-        };
-        let found = Found::whole(&store, question.buffer.len());
-        if let Some(case) = Case::of(&found, &question.call, answer.reply.number) {
-            *self.cases.entry(case).or_default() += 1;
-        }
-        for meeting in Meeting::of(&found, &question.call, answer.reply.number) {
-            *self.meetings.entry(meeting).or_default() += 1;
-        }
-        if let Some(renewal) = Renewal::of(&found, &question.call, answer.reply.number) {
-            *self.renewals.entry(renewal).or_default() += 1;
+        if let Some(store) = decode(&held.image) {
+            let found = Found::whole(&store, question.buffer.len());
+            self.met.note_all(met::situations(&found, &question.call, answer.reply.number));
         }
     }
 
     /// The same of widths, for calls with this code or for the handles of a batch.
     pub fn note_widths(&mut self, code: u8, held: &Held, question: &Question, answer: &Answer) {
-        self.widths.note(code, held, question, answer);
+        self.met.note_all(widths::met(code, held, question, answer));
     }
 
-    /// A width that a batch was asked with.
-    pub fn note_width(&mut self, code: u8, width: usize) {
-        self.widths.note_asked(code, width);
-    }
-
-    pub fn note_mode(&mut self, code: u8, mode: u32) {
-        if WIDE_MODES.contains(&mode) {
-            self.modes.insert((code, mode));
-        }
+    /// A mode and a width that a batch was asked with.
+    pub fn note_batch(&mut self, mode: u32, width: usize) {
+        self.met.note(with_mode(BATCH, mode));
+        self.met.note_all(widths::asked(BATCH, width));
     }
 
     pub fn note_fill(&mut self, fill: Fill) {
-        *self.fills.entry(fill).or_default() += 1;
+        self.met.note(format_args!("store {fill:?}"));
     }
 
     pub fn note_damage(&mut self, code: u8, damage: Damage, place: Where) {
-        self.damages.note(code, damage, place);
+        self.met.note_all(damages::met(code, damage, place));
     }
 
     /// A call on a store that was damaged before.
     pub fn note_beside_damage(&mut self, question: &Question, answer: &Answer) {
         if let Call::Weaken { .. } = question.call {
-            *self.beside_damage.entry(answer.reply.number).or_default() += 1;
+            self.met.note(beside_damage(answer.reply.number));
         }
     }
 
     /// Everything that was to be met and was not, and pairs that were met and may not be.
     pub fn faults(&self) -> Vec<String> {
-        let pairs = ALLOWED.iter().flat_map(|(code, numbers)| {
-            let pair = move |number: &u8| (*code, *number);
-            numbers.iter().map(pair)
-        });
-        let allowed: Vec<(u8, u8)> = pairs.collect();
-        let missing = allowed
-            .iter()
-            .filter(|pair| !self.pairs.contains_key(pair))
-            .map(|pair| format!("not reached: {}", in_words(pair)));
-        let wrong = self
-            .pairs
-            .keys()
-            .filter(|pair| !allowed.contains(pair))
-            .map(|pair| format!("not allowed: {}", in_words(pair)));
-        missing.chain(wrong).chain(self.missing_cases()).collect()
-    }
-
-    fn missing_cases(&self) -> impl Iterator<Item = String> + '_ {
-        let fills = Fill::ALL
-            .into_iter()
-            .filter(|fill| !self.fills.contains_key(fill))
-            .map(|fill| format!("not tried: store {fill:?}"));
-        let modes = NAMING_A_MODE
-            .into_iter()
-            .flat_map(|code| WIDE_MODES.map(|mode| (code, mode)))
-            .filter(|pair| !self.modes.contains(pair))
-            .map(|(code, mode)| format!("not tried: {} with mode {mode}", name(code)));
-        let weakened = (0..=SUBSELECTORS)
-            .filter(|&count| self.weakened[count] == 0)
-            .map(|count| format!("not done: a call with {count} subselectors not flat"));
-        let ways = Way::ALL
-            .into_iter()
-            .filter(|way| !self.ways.contains_key(way))
-            .map(|way| format!("not tried: way to nothing {way:?}"));
-        let cases = Case::ALL
-            .into_iter()
-            .filter(|case| !self.cases.contains_key(case))
-            .map(|case| format!("not tried: something frozen, {case:?}"));
-        let meetings = Meeting::all()
-            .filter(|meeting| !self.meetings.contains_key(meeting))
-            .map(|meeting| format!("not tried: a join, {meeting:?}"));
-        let renewals = Renewal::all()
-            .filter(|renewal| !self.renewals.contains_key(renewal))
-            .map(|renewal| format!("not tried: passwords, {renewal:?}"));
-        let beside_damage = WEAKENING
-            .iter()
-            .filter(|number| !self.beside_damage.contains_key(number))
-            .map(|&number| format!("not tried: {}, damaged", in_words(&(call::WEAKEN, number))));
-        fills
-            .chain(modes)
-            .chain(self.damages.missing())
-            .chain(weakened)
-            .chain(self.widths.missing())
-            .chain(ways)
-            .chain(beside_damage)
-            .chain(cases)
-            .chain(meetings)
-            .chain(renewals)
-            .chain(self.sights.missing())
+        let allowed: Vec<(u8, u8)> = allowed_pairs().collect();
+        let wrong = self.pairs.keys().filter(|pair| !allowed.contains(pair));
+        let wrong = wrong.map(|pair| format!("not allowed: {}", in_words(*pair)));
+        self.met.faults().into_iter().chain(wrong).collect()
     }
 }
 
-fn in_words(&(code, number): &(u8, u8)) -> String {
+fn allowed_pairs() -> impl Iterator<Item = (u8, u8)> {
+    ALLOWED.into_iter().flat_map(|(code, numbers)| numbers.iter().map(move |number| (code, *number)))
+}
+
+fn in_words((code, number): (u8, u8)) -> String {
     let word = word(number).unwrap_or("no such number");
     format!("{} with {number} ({word})", name(code))
 }
 
+fn with_mode(code: u8, mode: u32) -> String {
+    format!("{} with mode {mode}", name(code))
+}
+
+/// Calls done, by how many subselectors of a handle that they present are not flat.
+fn not_flat(count: usize) -> String {
+    format!("a call with {count} subselectors not flat")
+}
+
+fn beside_damage(number: u8) -> String {
+    format!("{}, damaged", in_words((call::WEAKEN, number)))
+}
+
 impl fmt::Display for Tally {
     fn fmt(&self, to: &mut fmt::Formatter) -> fmt::Result {
-        let numbers = || (0..=SPENT).chain(EMPTY..=LENGTH);
-        let heads: String = numbers().map(|number| format!("{number:>7}")).collect();
-        writeln!(to, "{:<15}{heads}", "call \\ number")?;
-        for (code, _) in ALLOWED {
-            let cell = |number| match self.pairs.get(&(code, number)) {
-                Some(count) => format!("{count:>7}"),
-                None => format!("{:>7}", "."),
-            };
-            let cells: String = numbers().map(cell).collect();
-            writeln!(to, "{:<15}{cells}", name(code))?;
-        }
-        writeln!(to, "stores: {:?}", self.fills)?;
-        write!(to, "{}", self.damages)?;
-        let modes = self.modes.len();
-        writeln!(to, "wide modes, each in a call that names one: {modes}")?;
-        writeln!(to, "{}", self.widths)?;
-        writeln!(to, "ways to nothing: {:?}", self.ways)?;
-        writeln!(to, "something frozen: {:?}", self.cases)?;
-        writeln!(to, "joins: {:?}", self.meetings)?;
-        writeln!(to, "passwords: {:?}", self.renewals)?;
-        writeln!(to, "{}", self.sights)?;
-        let beside = &self.beside_damage;
-        writeln!(
-            to,
-            "weakenings beside a damaged store, by number: {beside:?}"
-        )?;
-        let weakened = &self.weakened;
-        write!(
-            to,
-            "calls done, by subselectors not flat (0 to 4): {weakened:?}"
-        )
+        let numbers: Vec<u8> = (0..=SPENT).chain(EMPTY..=LENGTH).collect();
+        let codes = ALLOWED.into_iter().map(|(code, _)| (code, name(code)));
+        write!(to, "{}{}", met::table(codes, &numbers, &self.pairs), self.met)
     }
 }

@@ -3,49 +3,29 @@
 
 use crate::chance::handles::{self, Wish};
 use crate::chance::stores::{self, active, Fill};
-use crate::chance::{below, bits, cases, password};
-use crate::compare::{same_bytes, Guard};
-use crate::image::password_at;
 use crate::pairs::ask_both;
-use crate::question::{Held, Question};
-use model::call::Call;
-use model::handle::{HandleBytes, Password, Width};
-use model::random::Random;
-use model::sizes::{CLUSTERS, NODES};
-use model::store::{Mode, Store};
-use model::table::OLD_PASSWORD;
+use crate::words::*;
+use model::met::Met;
 
-/// How many new passwords were asked for, how many were done and how many refused with 12. Of those done, by mode: how
-/// many were the other mode's in one of the images, and how many were put to a pair of which one image had equal
-/// passwords. Of all that were done, by the width of their cluster, how many.
-#[derive(Debug, Default)]
-pub struct Count {
-    pub asked: u64,
-    pub done: u64,
-    pub old: u64,
-    pub guessed: [u64; 2],
-    pub equal: [u64; 2],
-    pub widths: [u64; 3],
+const OLD: &str = "one refused with 12 (old password)";
+
+/// Done with the other mode's password in one of the images; done in a pair of which one image has equal passwords.
+fn guessed(mode: Mode) -> String {
+    format!("the {:?} password taken for the other mode", mode.other())
 }
 
-impl Count {
-    /// What pairs have to come to, and these did not.
-    pub fn faults(&self) -> Vec<String> {
-        let [read, write] = [0, 1].map(|mode| (self.guessed[mode], self.equal[mode]));
-        let due = [
-            (self.old, "one refused with 12 (old password)"),
-            (read.0, "the write password taken for reading"),
-            (write.0, "the read password taken for writing"),
-            (read.1, "one for reading, the two equal in one image"),
-            (write.1, "one for writing, the two equal in one image"),
-        ];
-        let widths = ["width 4", "width 8", "width 16"];
-        let due = due.into_iter().chain(self.widths.into_iter().zip(widths));
-        let missing = due.filter(|(count, _)| *count == 0);
-        missing
-            .map(|(_, what)| format!("not tried: new passwords in two images, {what}"))
-            .collect()
-    }
+fn equal(mode: Mode) -> String {
+    format!("{mode:?}, the two equal in one image")
+}
+
+fn of_width(width: Width) -> String {
+    format!("width {}", width.segments())
+}
+
+pub fn met() -> Met {
+    let modes = Mode::ALL.into_iter().flat_map(|mode| [guessed(mode), equal(mode)]);
+    let due = modes.chain(Width::ALL.map(of_width)).chain([OLD.to_string()]);
+    Met::new("new passwords in two images", due)
 }
 
 /// Two images, and a cluster whose password for the other mode than this one is all that they differ in.
@@ -58,14 +38,14 @@ struct Pair {
     others: [Password; 2],
 }
 
-pub fn compare(guard: Guard, seed: u64, pairs: u64) -> Result<Count, String> {
-    let mut count = Count::default();
-    cases(seed, pairs, |random| one(guard, random, &mut count))?;
-    Ok(count)
+pub fn compare(guard: Guard, seed: u64, pairs: u64) -> Result<Met, String> {
+    let mut met = met();
+    cases(seed, pairs, |random| one(guard, random, &mut met))?;
+    Ok(met)
 }
 
 /// Four new passwords, each put to the pair as it is: the mode's own, the other mode's in either image, and any.
-fn one(guard: Guard, random: &mut Random, count: &mut Count) -> Result<(), String> {
+fn one(guard: Guard, random: &mut Random, met: &mut Met) -> Result<(), String> {
     let fill = Fill::by_chance(random);
     let mut store = stores::store(random, fill);
     let pair = by_chance(random, &mut store);
@@ -74,22 +54,13 @@ fn one(guard: Guard, random: &mut Random, count: &mut Count) -> Result<(), Strin
     for password in [pair.own, first, second, password(random)] {
         let call = Call::new_password(pair.mode.number(), handle.clone(), password);
         let number = pair.asked(guard, &Question::of(call))?;
-        count.note(&pair, &password, number);
+        let done = number == DONE;
+        met.note_if(number == OLD_PASSWORD, OLD);
+        met.note_if(done && pair.others.contains(&password), guessed(pair.mode));
+        met.note_if(done && pair.others.contains(&pair.own), equal(pair.mode));
+        met.note_if(done, of_width(pair.width));
     }
     Ok(())
-}
-
-impl Count {
-    fn note(&mut self, pair: &Pair, password: &Password, number: u8) {
-        let mode = pair.mode as usize;
-        let done = number == 0;
-        self.asked += 1;
-        self.done += u64::from(done);
-        self.old += u64::from(number == OLD_PASSWORD);
-        self.guessed[mode] += u64::from(done && pair.others.contains(password));
-        self.equal[mode] += u64::from(done && pair.others.contains(&pair.own));
-        self.widths[pair.width as usize] += u64::from(done);
-    }
 }
 
 fn by_chance(random: &mut Random, store: &mut Store) -> Pair {
@@ -115,14 +86,7 @@ fn by_chance(random: &mut Random, store: &mut Store) -> Pair {
         *cluster.primary_mut(mode.other()) = other;
         first.with(store)
     });
-    Pair {
-        images,
-        place,
-        width,
-        mode,
-        own,
-        others,
-    }
+    Pair { images, place, width, mode, own, others }
 }
 
 impl Pair {
@@ -139,12 +103,7 @@ impl Pair {
                 primary
             }
             2 => {
-                let wish = Wish {
-                    mode: self.mode,
-                    primary: true,
-                    segments: true,
-                    width: None,
-                };
+                let wish = Wish { mode: self.mode, primary: true, segments: true, width: None };
                 handles::handle(random, store, &[], wish)
             }
             3 => return handles::presented(random, &primary),

@@ -7,10 +7,7 @@ use std::process::ExitCode;
 /// Reads a list, or just enough of a longer input to know that it is none.
 fn read_list() -> io::Result<Vec<u8>> {
     let mut list = Vec::with_capacity(MOST_LIST_BYTES + 1);
-    io::stdin()
-        .lock()
-        .take(MOST_LIST_BYTES as u64 + 1)
-        .read_to_end(&mut list)?;
+    io::stdin().lock().take(MOST_LIST_BYTES as u64 + 1).read_to_end(&mut list)?;
     Ok(list)
 }
 

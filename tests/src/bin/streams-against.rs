@@ -6,23 +6,14 @@ use model::list::{output, MOST_LIST_BYTES, RECORD_BYTES};
 use model::program::Program;
 use model::random::Random;
 use model::streams::{all, failures, inputs, outputs, Checked};
-use std::fs;
-use std::path::PathBuf;
-use std::process::ExitCode;
+use std::{fs, path::PathBuf, process::ExitCode};
 
 const USAGE: &str = "usage: streams-against PROGRAM SEED LIST...";
 const BAD_USAGE: u8 = 2;
 /// How many lists are made by chance.
 const CHANCE_LISTS: usize = 25;
 /// How many bytes the inputs have that are longer than any list, beyond the longest list.
-const BEYOND: [usize; 6] = [
-    1,
-    RECORD_BYTES - 1,
-    RECORD_BYTES,
-    RECORD_BYTES + 1,
-    4096,
-    100_000,
-];
+const BEYOND: [usize; 6] = [1, RECORD_BYTES - 1, RECORD_BYTES, RECORD_BYTES + 1, 4096, 100_000];
 /// More than a pipe holds.
 const LONG_TEXT: usize = 1 << 17;
 
@@ -71,18 +62,12 @@ fn lists(paths: &[PathBuf], random: &mut Random) -> Result<Lists, String> {
     let longest = find("that runs and is as long as can be", |list, text| {
         list.len() == MOST_LIST_BYTES && !text.starts_with(b"list")
     })?;
-    let wordy = find("whose text is longer than a pipe holds", |_, text| {
-        text.len() > LONG_TEXT
-    })?;
+    let wordy = find("whose text is longer than a pipe holds", |_, text| text.len() > LONG_TEXT)?;
     for _ in 0..CHANCE_LISTS {
         all.push(generate::list(&mut Random::from_seed(random.number())));
     }
     all.extend(BEYOND.map(|more| lengthened(&longest, more, random)));
-    Ok(Lists {
-        all,
-        longest,
-        wordy,
-    })
+    Ok(Lists { all, longest, wordy })
 }
 
 /// Reads and writes that fail.
@@ -104,9 +89,7 @@ fn compare(task: &Task) -> Checked {
     let pieces = all(lists.all.iter().map(in_pieces))?;
     let slow = outputs::taken_slowly(program, &lists.wordy)?;
     let failed = all([&lists.longest, &lists.wordy].map(|list| failing(program, list)))?;
-    println!(
-        "lists as files {files}, on pipes and in pieces {pieces}, taken slowly {slow}, failing {failed}"
-    );
+    println!("lists as files {files}, on pipes and in pieces {pieces}, taken slowly {slow}, failing {failed}");
     Ok(files + pieces + slow + failed)
 }
 

@@ -21,11 +21,7 @@ fn task() -> Option<Task> {
     let programs = [arguments.next()?, arguments.next()?];
     let rounds = arguments.next()?.to_str()?.parse().ok()?;
     let lists: Vec<OsString> = arguments.collect();
-    (rounds > 0 && !lists.is_empty()).then_some(Task {
-        programs,
-        rounds,
-        lists,
-    })
+    (rounds > 0 && !lists.is_empty()).then_some(Task { programs, rounds, lists })
 }
 
 fn once(program: &OsString, list: &OsString) -> io::Result<Duration> {

@@ -2,16 +2,12 @@
 
 use super::handles::{self, is_inactive, Wish};
 use super::joins;
-use crate::call::{self, Reply};
-use crate::handle::{Handle, Password};
+use crate::call;
 use crate::list::{
-    Record, Session, CODE_AT, DATA_AT, DATA_LENGTH_AT, FIRST_PASSWORD_AT, HANDLE_AT, HANDLE_BYTES,
-    MODE_AT, MOST_DATA_BYTES, NODE_AT, OTHER_HANDLE_AT, RECORD_BYTES, SECOND_PASSWORD_AT,
-    SEGMENT_AT, SIZE_AT, WIDTH,
+    Record, Session, CODE_AT, DATA_AT, DATA_LENGTH_AT, FIRST_PASSWORD_AT, HANDLE_AT, HANDLE_BYTES, MODE_AT,
+    MOST_DATA_BYTES, NODE_AT, OTHER_HANDLE_AT, RECORD_BYTES, SECOND_PASSWORD_AT, SEGMENT_AT, SIZE_AT, WIDTH,
 };
-use crate::random::Random;
-use crate::sizes::{CLUSTERS, NODES, NODE_BYTES, PASSWORD_BYTES};
-use crate::store::Mode;
+use crate::words::*;
 
 const SEGMENTS: usize = WIDTH.segments();
 /// A mask that keeps everything.
@@ -21,10 +17,8 @@ const PASSWORDS: u64 = 5;
 /// Node and local number in a handle.
 const NAME_BYTES: usize = 3;
 /// Codes as often as they are wanted: what fills the store comes more often than what empties it.
-const CODES: [u8; 31] = [
-    1, 1, 1, 2, 2, 3, 3, 3, 3, 3, 4, 4, 5, 5, 5, 5, 6, 6, 6, 6, 7, 7, 8, 8, 9, 9, 10, 10, 11, 11,
-    11,
-];
+const CODES: [u8; 31] =
+    [1, 1, 1, 2, 2, 3, 3, 3, 3, 3, 4, 4, 5, 5, 5, 5, 6, 6, 6, 6, 7, 7, 8, 8, 9, 9, 10, 10, 11, 11, 11];
 
 pub struct Maker {
     random: Random,
@@ -35,11 +29,7 @@ pub struct Maker {
 
 impl Maker {
     pub fn new(random: &mut Random) -> Maker {
-        Maker {
-            random: Random::from_seed(random.number()),
-            session: Session::starting(),
-            given: Vec::new(),
-        }
+        Maker { random: Random::from_seed(random.number()), session: Session::starting(), given: Vec::new() }
     }
 
     /// The records of a chain, in its order.
@@ -95,8 +85,7 @@ impl Maker {
             };
             let handles = [&reply.first, &reply.second];
             let handles = handles[..count].iter();
-            self.given
-                .extend(handles.filter_map(|bytes| Handle::from_bytes(bytes)));
+            self.given.extend(handles.filter_map(|bytes| Handle::from_bytes(bytes)));
         }
     }
 
@@ -126,8 +115,7 @@ impl Maker {
 
     /// A segment of the handle's cluster that is present, or is not, if there is one.
     fn segment(&mut self, handle: &Handle, present: bool) -> u8 {
-        let (node, local) = (usize::from(handle.node), usize::from(handle.local));
-        let cluster = self.session.store.cluster(node, local);
+        let cluster = self.session.store.cluster_of(handle);
         let referenced_only = !self.random.one_in(4);
         let fits = |segment: &u8| {
             let at = usize::from(*segment);
@@ -152,11 +140,7 @@ impl Maker {
     /// Calls 2, 3, 4 and 10.
     fn local_call(&mut self, record: &mut Record) {
         let wanted = matches!(record[CODE_AT], call::DELETE_SEGMENT | call::FREEZE);
-        let wish = Wish {
-            mode: Mode::Write,
-            primary: true,
-            segments: wanted || self.random.one_in(2),
-        };
+        let wish = Wish { mode: Mode::Write, primary: true, segments: wanted || self.random.one_in(2) };
         let handle = self.put_handle(record, wish);
         record[NODE_AT] = self.near(handle.node as u8, NODES);
         let present = wanted ^ self.random.one_in(10);
@@ -179,11 +163,7 @@ impl Maker {
 
     /// Calls 5 and 6.
     fn move_bytes(&mut self, record: &mut Record, mode: Mode) {
-        let wish = Wish {
-            mode,
-            primary: false,
-            segments: true,
-        };
+        let wish = Wish { mode, primary: false, segments: true };
         let handle = self.put_handle(record, wish);
         let present = !self.random.one_in(8);
         record[SEGMENT_AT] = self.segment(&handle, present);
@@ -199,11 +179,7 @@ impl Maker {
 
     fn weaken(&mut self, record: &mut Record) {
         let mode = self.mode();
-        let wish = Wish {
-            mode,
-            primary: false,
-            segments: true,
-        };
+        let wish = Wish { mode, primary: false, segments: true };
         let handle = self.put_handle(record, wish);
         let referenced = handle.selector.referenced() as u8;
         record[SEGMENT_AT] = match (self.random.below(8), referenced) {
@@ -230,11 +206,7 @@ impl Maker {
         let mode = self.mode();
         let primary = record[CODE_AT] == call::NEW_PASSWORD;
         let segments = self.random.one_in(2);
-        let wish = Wish {
-            mode,
-            primary,
-            segments,
-        };
+        let wish = Wish { mode, primary, segments };
         let handle = self.put_handle(record, wish);
         record[MODE_AT] = self.near(number_of(mode), 2);
         let password = self.next_password(&handle);
@@ -243,8 +215,7 @@ impl Maker {
 
     /// Often one of the two that the handle's cluster has.
     fn next_password(&mut self, handle: &Handle) -> Password {
-        let (node, local) = (usize::from(handle.node), usize::from(handle.local));
-        let cluster = self.session.store.cluster(node, local).copied();
+        let cluster = self.session.store.cluster_of(handle).copied();
         match (cluster, self.random.below(5)) {
             (Some(cluster), 0) => cluster.read,
             (Some(cluster), 1) => cluster.write,
@@ -255,10 +226,7 @@ impl Maker {
     /// Call 11. One in four has handles as other calls have them, the second mostly one that was given for the
     /// cluster of the first.
     fn join(&mut self, record: &mut Record) {
-        let aimed = match self.random.one_in(4) {
-            true => None,
-            false => joins::join(&mut self.random, &self.session.store),
-        };
+        let aimed = if self.random.one_in(4) { None } else { joins::join(&mut self.random, &self.session.store) };
         let Some(join) = aimed else {
             self.call_with_mode(record);
             return self.put_other(record);
@@ -274,9 +242,7 @@ impl Maker {
     fn put_other(&mut self, record: &mut Record) {
         let name = record[HANDLE_AT..HANDLE_AT + NAME_BYTES].to_vec();
         let given = self.given.iter().copied();
-        let given: Vec<Handle> = given
-            .filter(|handle| handle.to_bytes().starts_with(&name))
-            .collect();
+        let given: Vec<Handle> = given.filter(|handle| handle.to_bytes().starts_with(&name)).collect();
         let handle = match self.random.pick(&given) {
             Some(handle) => *handle,
             None => handles::any(&mut self.random),

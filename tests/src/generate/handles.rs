@@ -1,11 +1,6 @@
 //! Handles by chance: right ones for the store as it is, old ones, and ones with something wrong.
 
-use crate::handle::{Handle, HandleBytes, Selector};
-use crate::list;
-use crate::random::Random;
-use crate::sizes::{CLUSTERS, NODES, SUBSELECTORS};
-use crate::store::{Cluster, Mode, Store};
-use crate::width::Width;
+use crate::{list, words::*};
 
 /// What the call that a handle is made for would like.
 #[derive(Clone, Copy)]
@@ -17,16 +12,10 @@ pub struct Wish {
 }
 
 /// Node and local number of one of the clusters that `fits` is true of, if there are any.
-pub fn place(
-    random: &mut Random,
-    store: &Store,
-    fits: impl Fn(&Cluster) -> bool,
-) -> Option<(u16, u8)> {
+pub fn place(random: &mut Random, store: &Store, fits: impl Fn(&Cluster) -> bool) -> Option<(u16, u8)> {
     let all = (0..NODES).flat_map(|node| (0..CLUSTERS).map(move |local| (node, local)));
     let fitting = all.filter(|&(node, local)| fits(&store.clusters[node][local]));
-    let places: Vec<(u16, u8)> = fitting
-        .map(|(node, local)| (node as u16, local as u8))
-        .collect();
+    let places: Vec<(u16, u8)> = fitting.map(|(node, local)| (node as u16, local as u8)).collect();
     random.pick(&places).copied()
 }
 
@@ -85,9 +74,7 @@ pub fn bit(random: &mut Random, width: Width) -> u16 {
 
 /// A handle that validates, mostly in the mode that is wished for, if any cluster is active.
 fn right(random: &mut Random, store: &Store, wish: Wish) -> Handle {
-    let Some((node, local)) = active_place(random, store, wish) else {
-        return any(random);
-    };
+    let Some((node, local)) = active_place(random, store, wish) else { return any(random) };
     let cluster = &store.clusters[usize::from(node)][usize::from(local)];
     let width = width_of(cluster);
     let mode = match (wish.mode, random.one_in(10)) {
@@ -96,11 +83,7 @@ fn right(random: &mut Random, store: &Store, wish: Wish) -> Handle {
     };
     let primary = *cluster.primary(mode);
     let mut handle = Handle::primary(width, node, local, primary);
-    let times = if wish.primary && !random.one_in(6) {
-        0
-    } else {
-        random.below(6)
-    };
+    let times = if wish.primary && !random.one_in(6) { 0 } else { random.below(6) };
     if times > 0 && random.one_in(8) {
         return Handle::converted(node, local, &primary, to_nothing(random, width));
     }

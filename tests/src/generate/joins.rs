@@ -2,10 +2,7 @@
 //! of one cluster, each of them valid: none, one or two things are made wrong in them.
 
 use super::handles::{bits, gapped, is_inactive, noting, of_no_length, place, width_of};
-use crate::handle::{Handle, HandleBytes, Selector, Width};
-use crate::random::Random;
-use crate::sizes::{CLUSTERS, NODES, PASSWORD_BYTES};
-use crate::store::{Cluster, Mode, Store};
+use crate::{listed, words::*};
 
 /// What a join is asked with.
 pub struct Join {
@@ -15,17 +12,11 @@ pub struct Join {
     pub handles: [HandleBytes; 2],
 }
 
-/// In the order in which two of them are put into one join.
-#[derive(Clone, Copy)]
-enum Fault {
-    Inactive,
-    Apart,
-    OtherWidth,
-    Gapped,
-    NotValid,
-    Nowhere,
-    NoMode,
-    NoLength,
+listed! {
+    /// In the order in which two of them are put into one join.
+    enum Fault {
+        Inactive, Apart, OtherWidth, Gapped, NotValid, Nowhere, NoMode, NoLength,
+    }
 }
 
 /// Which of the two handles it is done to.
@@ -37,25 +28,8 @@ enum To {
 }
 
 /// What lists can have; they have one width.
-const IN_LISTS: [Fault; 6] = [
-    Fault::Inactive,
-    Fault::Apart,
-    Fault::Gapped,
-    Fault::NotValid,
-    Fault::Nowhere,
-    Fault::NoMode,
-];
-
-const ALL: [Fault; 8] = [
-    Fault::Inactive,
-    Fault::Apart,
-    Fault::OtherWidth,
-    Fault::Gapped,
-    Fault::NotValid,
-    Fault::Nowhere,
-    Fault::NoMode,
-    Fault::NoLength,
-];
+const IN_LISTS: [Fault; 6] =
+    [Fault::Inactive, Fault::Apart, Fault::Gapped, Fault::NotValid, Fault::Nowhere, Fault::NoMode];
 
 /// A join of a list; none where no cluster is active. Sometimes the cluster is one whose handles open both modes.
 pub fn join(random: &mut Random, store: &Store) -> Option<Join> {
@@ -64,25 +38,15 @@ pub fn join(random: &mut Random, store: &Store) -> Option<Join> {
 
 /// The same with handles of every width, of another width than their cluster's and of lengths that no handle has.
 pub fn join_of_widths(random: &mut Random, store: &Store) -> Option<Join> {
-    join_with(random, store, &ALL)
+    join_with(random, store, &Fault::ALL)
 }
 
 fn join_with(random: &mut Random, store: &Store, faults: &[Fault]) -> Option<Join> {
-    let equal = match random.one_in(5) {
-        true => place(random, store, Cluster::has_equal_passwords),
-        false => None,
-    };
+    let equal = if random.one_in(5) { place(random, store, Cluster::has_equal_passwords) } else { None };
     let (node, local) = equal.or_else(|| place(random, store, |cluster| cluster.active))?;
-    let mode = match random.one_in(2) {
-        true => Mode::Read,
-        false => Mode::Write,
-    };
-    let mut making = Making {
-        mode,
-        is_a_mode: true,
-        handles: two(random, store, (node, local), mode),
-        has_length: [true; 2],
-    };
+    let mode = if random.one_in(2) { Mode::Read } else { Mode::Write };
+    let mut making =
+        Making { mode, is_a_mode: true, handles: two(random, store, (node, local), mode), has_length: [true; 2] };
     let mut faults = chosen(random, faults);
     faults.sort_by_key(|(fault, _)| *fault as u8);
     for (fault, to) in faults {
@@ -144,10 +108,7 @@ impl Making {
     fn finished(self, random: &mut Random) -> Join {
         let [first, second] = self.handles.map(|handle| handle.to_bytes());
         let [keeps_first, keeps_second] = self.has_length;
-        let mut bytes = |bytes, keeps| match keeps {
-            true => bytes,
-            false => of_no_length(random, bytes),
-        };
+        let mut bytes = |bytes, keeps| if keeps { bytes } else { of_no_length(random, bytes) };
         Join {
             mode: self.mode,
             is_a_mode: self.is_a_mode,
@@ -225,10 +186,7 @@ fn apart(random: &mut Random, store: &Store, handle: &Handle) -> (u16, u8) {
 
 /// The handle with a selector that is gapped, and mostly with the password that would go with it.
 fn with_a_gap(random: &mut Random, store: &Store, handle: &Handle, mode: Mode) -> Handle {
-    let gapped = Handle {
-        selector: gapped(random, handle.width()),
-        ..*handle
-    };
+    let gapped = Handle { selector: gapped(random, handle.width()), ..*handle };
     match random.one_in(4) {
         true => gapped,
         false => moved(store, &gapped, gapped.name(), mode),
@@ -270,9 +228,6 @@ fn of_other_width(choice: u64, store: &Store, handle: &Handle, mode: Mode) -> Ha
         true => other.flat(),
         false => part & other.flat() & !1,
     });
-    let changed = Handle {
-        selector: Selector::new(other, subselectors),
-        ..*handle
-    };
+    let changed = Handle { selector: Selector::new(other, subselectors), ..*handle };
     moved(store, &changed, changed.name(), mode)
 }

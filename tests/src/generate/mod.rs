@@ -7,7 +7,7 @@ pub mod joins;
 use crate::list::{Record, MOST_LIST_BYTES, MOST_RECORDS, NEXT_AT, RECORD_BYTES};
 use crate::random::Random;
 use calls::Maker;
-pub use handles::to_nothing;
+pub use handles::{bit, bits, gapped, to_nothing};
 
 /// One list. Equal states of `random` make equal lists.
 pub fn list(random: &mut Random) -> Vec<u8> {
@@ -41,14 +41,8 @@ fn length_of_chain(random: &mut Random) -> usize {
 /// Bytes without any sense.
 fn noise(random: &mut Random) -> Vec<u8> {
     let records = random.below(6) as usize;
-    let more = if random.one_in(2) {
-        0
-    } else {
-        random.below(RECORD_BYTES as u64) as usize
-    };
-    (0..records * RECORD_BYTES + more)
-        .map(|_| random.byte())
-        .collect()
+    let more = if random.one_in(2) { 0 } else { random.below(RECORD_BYTES as u64) as usize };
+    (0..records * RECORD_BYTES + more).map(|_| random.byte()).collect()
 }
 
 /// Puts the records of a chain into a list, often out of order and with others between them.

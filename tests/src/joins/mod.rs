@@ -3,12 +3,7 @@
 
 mod refused;
 
-use crate::call::Call;
-use crate::handle::Handle;
-use crate::store::Mode;
-use crate::table::{
-    Found, APART, DONE, FIELD, GAPPED, INACTIVE, NO_SUCH_PLACE, UNSOUND, VIOLATED_PROTECTION, WHOLE,
-};
+use crate::words::*;
 use refused::Asked;
 use Whose::{Both, Call as Itself, First, Second};
 
@@ -60,90 +55,52 @@ pub enum Meeting {
     OtherWidthBefore(Whose, Applied),
 }
 
+#[rustfmt::skip]
 const DONE_OR_WHOLE: [Meeting; 13] = [
-    Meeting::Disjoint,
-    Meeting::Overlapping,
-    Meeting::FirstInside,
-    Meeting::SecondInside,
-    Meeting::Same,
-    Meeting::OneHandle,
-    Meeting::Nothing,
-    Meeting::FirstOften,
-    Meeting::SecondOften,
-    Meeting::Primaries,
-    Meeting::FirstPrimary,
-    Meeting::SecondPrimary,
-    Meeting::Together,
+    Meeting::Disjoint, Meeting::Overlapping, Meeting::FirstInside, Meeting::SecondInside, Meeting::Same,
+    Meeting::OneHandle, Meeting::Nothing, Meeting::FirstOften, Meeting::SecondOften, Meeting::Primaries,
+    Meeting::FirstPrimary, Meeting::SecondPrimary, Meeting::Together,
 ];
 
+#[rustfmt::skip]
 const GIVEN: [Applied; 10] = [
-    (NO_SUCH_PLACE, First),
-    (NO_SUCH_PLACE, Second),
-    (NO_SUCH_PLACE, Both),
-    (GAPPED, First),
-    (GAPPED, Second),
-    (GAPPED, Both),
-    (INACTIVE, Both),
-    (VIOLATED_PROTECTION, First),
-    (VIOLATED_PROTECTION, Second),
+    (NO_SUCH_PLACE, First), (NO_SUCH_PLACE, Second), (NO_SUCH_PLACE, Both), (GAPPED, First), (GAPPED, Second),
+    (GAPPED, Both), (INACTIVE, Both), (VIOLATED_PROTECTION, First), (VIOLATED_PROTECTION, Second),
     (VIOLATED_PROTECTION, Both),
 ];
 
 /// What a program mixes up that judges one handle whole before the other, or has two numbers in another order.
+#[rustfmt::skip]
 const BEFORE: [(Applied, Applied); 25] = [
-    ((NO_SUCH_PLACE, First), (FIELD, Itself)),
-    ((NO_SUCH_PLACE, Second), (FIELD, Itself)),
-    ((NO_SUCH_PLACE, First), (GAPPED, Second)),
-    ((NO_SUCH_PLACE, Second), (GAPPED, First)),
-    ((NO_SUCH_PLACE, First), (INACTIVE, Second)),
-    ((NO_SUCH_PLACE, Second), (INACTIVE, First)),
-    ((NO_SUCH_PLACE, First), (VIOLATED_PROTECTION, Second)),
-    ((NO_SUCH_PLACE, Second), (VIOLATED_PROTECTION, First)),
-    ((FIELD, Itself), (GAPPED, First)),
-    ((FIELD, Itself), (GAPPED, Second)),
-    ((GAPPED, First), (APART, Itself)),
-    ((GAPPED, Second), (APART, Itself)),
-    ((GAPPED, First), (INACTIVE, Both)),
-    ((GAPPED, Second), (INACTIVE, Both)),
-    ((GAPPED, First), (VIOLATED_PROTECTION, Second)),
-    ((GAPPED, Second), (VIOLATED_PROTECTION, First)),
-    ((APART, Itself), (INACTIVE, First)),
-    ((APART, Itself), (INACTIVE, Second)),
-    ((APART, Itself), (INACTIVE, Both)),
-    ((APART, Itself), (VIOLATED_PROTECTION, First)),
-    ((APART, Itself), (VIOLATED_PROTECTION, Second)),
-    ((INACTIVE, Both), (VIOLATED_PROTECTION, First)),
-    ((INACTIVE, Both), (VIOLATED_PROTECTION, Second)),
-    ((VIOLATED_PROTECTION, First), (WHOLE, Itself)),
-    ((VIOLATED_PROTECTION, Second), (WHOLE, Itself)),
+    ((NO_SUCH_PLACE, First), (FIELD, Itself)), ((NO_SUCH_PLACE, Second), (FIELD, Itself)),
+    ((NO_SUCH_PLACE, First), (GAPPED, Second)), ((NO_SUCH_PLACE, Second), (GAPPED, First)),
+    ((NO_SUCH_PLACE, First), (INACTIVE, Second)), ((NO_SUCH_PLACE, Second), (INACTIVE, First)),
+    ((NO_SUCH_PLACE, First), (VIOLATED_PROTECTION, Second)), ((NO_SUCH_PLACE, Second), (VIOLATED_PROTECTION, First)),
+    ((FIELD, Itself), (GAPPED, First)), ((FIELD, Itself), (GAPPED, Second)), ((GAPPED, First), (APART, Itself)),
+    ((GAPPED, Second), (APART, Itself)), ((GAPPED, First), (INACTIVE, Both)), ((GAPPED, Second), (INACTIVE, Both)),
+    ((GAPPED, First), (VIOLATED_PROTECTION, Second)), ((GAPPED, Second), (VIOLATED_PROTECTION, First)),
+    ((APART, Itself), (INACTIVE, First)), ((APART, Itself), (INACTIVE, Second)), ((APART, Itself), (INACTIVE, Both)),
+    ((APART, Itself), (VIOLATED_PROTECTION, First)), ((APART, Itself), (VIOLATED_PROTECTION, Second)),
+    ((INACTIVE, Both), (VIOLATED_PROTECTION, First)), ((INACTIVE, Both), (VIOLATED_PROTECTION, Second)),
+    ((VIOLATED_PROTECTION, First), (WHOLE, Itself)), ((VIOLATED_PROTECTION, Second), (WHOLE, Itself)),
 ];
 
 const HANDLES: [Whose; 3] = [First, Second, Both];
 
+#[rustfmt::skip]
 const AFTER_NO_LENGTH: [Applied; 8] = [
-    (UNSOUND, Itself),
-    (NO_SUCH_PLACE, First),
-    (NO_SUCH_PLACE, Second),
-    (FIELD, Itself),
-    (GAPPED, First),
-    (GAPPED, Second),
-    (VIOLATED_PROTECTION, First),
-    (VIOLATED_PROTECTION, Second),
+    (UNSOUND, Itself), (NO_SUCH_PLACE, First), (NO_SUCH_PLACE, Second), (FIELD, Itself), (GAPPED, First),
+    (GAPPED, Second), (VIOLATED_PROTECTION, First), (VIOLATED_PROTECTION, Second),
 ];
 
+#[rustfmt::skip]
 const BEFORE_OTHER_WIDTH: [(Applied, Whose); 5] = [
-    ((FIELD, Itself), Both),
-    ((GAPPED, First), Second),
-    ((GAPPED, Second), First),
-    ((APART, Itself), First),
+    ((FIELD, Itself), Both), ((GAPPED, First), Second), ((GAPPED, Second), First), ((APART, Itself), First),
     ((APART, Itself), Second),
 ];
 
-const AFTER_OTHER_WIDTH: [(Whose, Applied); 3] = [
-    (First, (VIOLATED_PROTECTION, Second)),
-    (Second, (VIOLATED_PROTECTION, First)),
-    (Both, (WHOLE, Itself)),
-];
+const AFTER_OTHER_WIDTH: [(Whose, Applied); 3] =
+    [(First, (VIOLATED_PROTECTION, Second)), (Second, (VIOLATED_PROTECTION, First)), (Both, (WHOLE, Itself))];
 
 impl Meeting {
     /// Everything that has to be met.
@@ -162,33 +119,18 @@ impl Meeting {
     pub fn in_lists() -> impl Iterator<Item = Meeting> {
         let given = GIVEN.map(|(number, whose)| Meeting::Given(number, whose));
         let before = BEFORE.map(|(given, later)| Meeting::Before(given, later));
-        DONE_OR_WHOLE
-            .into_iter()
-            .chain([Meeting::OtherNode, Meeting::OtherLocal])
-            .chain(given)
-            .chain(before)
+        DONE_OR_WHOLE.into_iter().chain([Meeting::OtherNode, Meeting::OtherLocal]).chain(given).chain(before)
     }
 
     /// What a join that came to `number` has met; `found` is what it was put to. Nothing of other calls.
     pub fn of(found: &Found, call: &Call, number: u8) -> Vec<Meeting> {
-        let Call::Join {
-            mode,
-            handle,
-            other,
-        } = call
-        else {
-            return Vec::new();
-        };
+        let Call::Join { mode, handle, other } = call else { return Vec::new() };
         let handles = [handle, other].map(|bytes| Handle::from_bytes(bytes));
         match (number, handles) {
             (DONE, [Some(first), Some(second)]) => done(&first, &second),
             (WHOLE, [Some(first), Some(second)]) => vec![whole(&first, &second)],
             _ => {
-                let asked = Asked {
-                    found,
-                    mode: Mode::from_number(*mode),
-                    handles,
-                };
+                let asked = Asked { found, mode: Mode::from_number(*mode), handles };
                 asked.refused(number)
             }
         }
@@ -209,10 +151,7 @@ fn done(first: &Handle, second: &Handle) -> Vec<Meeting> {
     let often = |handle: &Handle| handle.selector.first_flat() != Some(1);
     let first = often(first).then_some(Meeting::FirstOften);
     let second = often(second).then_some(Meeting::SecondOften);
-    [Some(meeting), first, second]
-        .into_iter()
-        .flatten()
-        .collect()
+    [Some(meeting), first, second].into_iter().flatten().collect()
 }
 
 fn whole(first: &Handle, second: &Handle) -> Meeting {

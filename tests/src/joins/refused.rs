@@ -2,12 +2,7 @@
 
 use super::Whose::{Both, Call as Itself, First, Second};
 use super::{Applied, Meeting, Whose, AFTER_NO_LENGTH, AFTER_OTHER_WIDTH, BEFORE};
-use crate::handle::Handle;
-use crate::store::{Cluster, Mode};
-use crate::table::{
-    Found, APART, FIELD, GAPPED, INACTIVE, LENGTH, NO_SUCH_PLACE, UNSOUND, VIOLATED_PROTECTION,
-    WHOLE,
-};
+use crate::words::*;
 
 /// A join that is refused.
 pub struct Asked<'a> {
@@ -28,12 +23,10 @@ impl Asked<'_> {
                 (None, None) => Vec::new(),
             };
         }
-        let Some(given) = self.applied(number) else {
-            return Vec::new();
-        };
-        let later = BEFORE.into_iter().filter(|(first, later)| {
-            *first == given && self.applied(later.0).is_some_and(|met| met == *later)
-        });
+        let Some(given) = self.applied(number) else { return Vec::new() };
+        let later = BEFORE
+            .into_iter()
+            .filter(|(first, later)| *first == given && self.applied(later.0).is_some_and(|met| met == *later));
         let before = later.map(|(given, later)| Meeting::Before(given, later));
         let apart = (number == APART).then(|| self.apart()).flatten();
         let of_width = other_width.map(|whose| Meeting::BeforeOtherWidth(given, whose));
@@ -42,17 +35,15 @@ impl Asked<'_> {
     }
 
     fn no_length(&self, whose: Whose) -> Vec<Meeting> {
-        let later = AFTER_NO_LENGTH
-            .into_iter()
-            .filter(|later| self.applied(later.0).is_some_and(|met| met == *later));
+        let later = AFTER_NO_LENGTH.into_iter().filter(|later| self.applied(later.0).is_some_and(|met| met == *later));
         let later = later.map(Meeting::NoLengthBefore);
         later.chain([Meeting::NoLength(whose)]).collect()
     }
 
     fn other_width(&self, whose: Whose) -> Vec<Meeting> {
-        let later = AFTER_OTHER_WIDTH.into_iter().filter(|(of, later)| {
-            *of == whose && self.applied(later.0).is_some_and(|met| met == *later)
-        });
+        let later = AFTER_OTHER_WIDTH
+            .into_iter()
+            .filter(|(of, later)| *of == whose && self.applied(later.0).is_some_and(|met| met == *later));
         let later = later.map(|(of, later)| Meeting::OtherWidthBefore(of, later));
         later.chain([Meeting::OtherWidth(whose)]).collect()
     }
@@ -64,8 +55,7 @@ impl Asked<'_> {
     }
 
     fn cluster_of(&self, handle: &Handle) -> Option<&Cluster> {
-        let (node, local) = (usize::from(handle.node), usize::from(handle.local));
-        self.found.store.cluster(node, local)
+        self.found.store.cluster_of(handle)
     }
 
     fn whose(&self, test: impl Fn(Option<Handle>) -> bool) -> Option<Whose> {
@@ -100,17 +90,13 @@ impl Asked<'_> {
             (NO_SUCH_PLACE, cluster, _) => cluster.is_none(),
             (GAPPED, ..) => handle.selector.is_gapped(),
             (INACTIVE, Some(cluster), _) => !cluster.active,
-            (VIOLATED_PROTECTION, Some(cluster), Some(mode)) => {
-                !handle.is_made_from(cluster.primary(mode))
-            }
+            (VIOLATED_PROTECTION, Some(cluster), Some(mode)) => !handle.is_made_from(cluster.primary(mode)),
             _ => false,
         }
     }
 
     fn apart(&self) -> Option<Meeting> {
-        let [Some(first), Some(second)] = self.handles else {
-            return None;
-        };
+        let [Some(first), Some(second)] = self.handles else { return None };
         match (first.node == second.node, first.local == second.local) {
             (false, true) => Some(Meeting::OtherNode),
             (true, false) => Some(Meeting::OtherLocal),

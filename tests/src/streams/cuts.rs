@@ -1,31 +1,15 @@
 //! A list cut into pieces.
 
 use crate::list::{MOST_LIST_BYTES, RECORD_BYTES};
-use crate::random::Random;
-use crate::sizes::NODE_BYTES;
+use crate::words::*;
 
 /// A record more than a list has: any list is one piece, and of a longer input `benchrun` reads no more than this.
 const SPACE: usize = MOST_LIST_BYTES + RECORD_BYTES;
 /// Pieces of these lengths, the last one shorter.
-const LENGTHS: [usize; 8] = [
-    1,
-    RECORD_BYTES - 1,
-    RECORD_BYTES,
-    RECORD_BYTES + 1,
-    NODE_BYTES - 1,
-    NODE_BYTES,
-    NODE_BYTES + 1,
-    SPACE,
-];
+const LENGTHS: [usize; 8] =
+    [1, RECORD_BYTES - 1, RECORD_BYTES, RECORD_BYTES + 1, NODE_BYTES - 1, NODE_BYTES, NODE_BYTES + 1, SPACE];
 /// Two pieces, with the border here.
-const BORDERS: [usize; 6] = [
-    1,
-    RECORD_BYTES,
-    NODE_BYTES,
-    MOST_LIST_BYTES,
-    MOST_LIST_BYTES + 1,
-    SPACE,
-];
+const BORDERS: [usize; 6] = [1, RECORD_BYTES, NODE_BYTES, MOST_LIST_BYTES, MOST_LIST_BYTES + 1, SPACE];
 
 /// Pieces of a list, and what they are called.
 pub struct Cut<'a> {

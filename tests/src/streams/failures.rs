@@ -66,11 +66,7 @@ fn writing(mut command: Command, list: &[u8]) -> io::Result<Outcome> {
     run(command, |running| running.feed(|pipe| pipe.write_all(list)))
 }
 
-fn writing_to(
-    program: &Program,
-    list: &[u8],
-    to: io::Result<impl Into<Stdio>>,
-) -> io::Result<Outcome> {
+fn writing_to(program: &Program, list: &[u8], to: io::Result<impl Into<Stdio>>) -> io::Result<Outcome> {
     let mut command = program.command();
     command.stdout(to?);
     writing(command, list)
@@ -88,10 +84,7 @@ fn unread_pipe(mut command: Command, list: &[u8]) -> io::Result<Outcome> {
 pub fn of_writes(program: &Program, list: &[u8]) -> Checked {
     let told = Outcome::ended(b"", UNWRITTEN);
     let untold = Outcome::ended(b"", "");
-    let killed = Outcome {
-        ending: Ending::Signal(SIGPIPE),
-        ..untold.clone()
-    };
+    let killed = Outcome { ending: Ending::Signal(SIGPIPE), ..untold.clone() };
     let full = || File::options().write(true).open("/dev/full");
     let after = |script| program.command_after(script);
     #[rustfmt::skip]
@@ -122,9 +115,7 @@ pub fn of_a_later_write(program: &Program, list: &[u8]) -> Checked {
     });
     let _ = fs::remove_file(&path);
     let found = found.map_err(|mistake| format!("{way}: {mistake}"))?;
-    let part = !found.output.is_empty()
-        && found.output.len() < text.len()
-        && text.starts_with(&found.output);
+    let part = !found.output.is_empty() && found.output.len() < text.len() && text.starts_with(&found.output);
     let expected = Outcome::ended(&found.output, UNWRITTEN);
     if part {
         check(way, &expected, Ok(found))

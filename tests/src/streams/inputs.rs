@@ -18,8 +18,8 @@ const PAUSE: Duration = Duration::from_millis(2);
 /// How many pieces come with pauses, about.
 const PAUSED_PIECES: usize = 4;
 
-/// One read gets one piece: each is a datagram, and an empty one is the end. A read has to ask for as much as a piece has,
-/// or for as much as is wanted at all, as those of `benchrun` do: the rest of a datagram is lost.
+/// One read gets one piece: each is a datagram, and an empty one is the end. A read has to ask for as much as a piece
+/// has, or for as much as is wanted at all, as those of `benchrun` do: the rest of a datagram is lost.
 fn piece_by_piece(program: &Program, pieces: &[&[u8]]) -> io::Result<Outcome> {
     let (ours, theirs) = UnixDatagram::pair()?;
     let mut command = program.command();
@@ -55,11 +55,7 @@ pub fn in_pieces(program: &Program, list: &[u8], random: &mut Random) -> Checked
     let paused = cuts::by_chance(list, some, random);
     all([
         check(&way("on a pipe"), &expected, program.answer(list)),
-        check(
-            &way("on a pipe with pauses"),
-            &expected,
-            with_pauses(program, &paused),
-        ),
+        check(&way("on a pipe with pauses"), &expected, with_pauses(program, &paused)),
         all(cuts::of(list, random).iter().map(|cut| {
             let found = piece_by_piece(program, &cut.pieces);
             check(&way(&cut.name), &expected, found)
@@ -79,9 +75,5 @@ pub fn from_file(program: &Program, path: &Path) -> Checked {
     let mut command = program.command();
     command.stdin(File::open(path).map_err(fault)?);
     let found = run(command, |_| {});
-    check(
-        &format!("{name} as a file"),
-        &Outcome::ended(&text, ""),
-        found,
-    )
+    check(&format!("{name} as a file"), &Outcome::ended(&text, ""), found)
 }

@@ -34,10 +34,7 @@ fn slowly(program: &Program, list: &[u8], between: fn(&Running)) -> io::Result<O
         running.feed(|pipe| pipe.write_all(list));
         text = sipped(reader, || between(running));
     })?;
-    Ok(Outcome {
-        output: text?,
-        ..outcome
-    })
+    Ok(Outcome { output: text?, ..outcome })
 }
 
 /// Stops the program for a while. A write that was under way then comes back with a part done.
@@ -54,15 +51,7 @@ fn stopped(running: &Running) {
 pub fn taken_slowly(program: &Program, list: &[u8]) -> Checked {
     let expected = Outcome::ended(&output(list), "");
     all([
-        check(
-            "a text that is taken slowly",
-            &expected,
-            slowly(program, list, |_| thread::sleep(PAUSE)),
-        ),
-        check(
-            "a program that is stopped and continued",
-            &expected,
-            slowly(program, list, stopped),
-        ),
+        check("a text that is taken slowly", &expected, slowly(program, list, |_| thread::sleep(PAUSE))),
+        check("a program that is stopped and continued", &expected, slowly(program, list, stopped)),
     ])
 }

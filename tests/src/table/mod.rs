@@ -79,17 +79,12 @@ pub struct Found<'a> {
 impl Found<'_> {
     /// With a memory that is as long as it should be.
     pub fn whole(store: &Store, buffer_bytes: usize) -> Found<'_> {
-        Found {
-            store,
-            memory_bytes: MEMORY_BYTES,
-            buffer_bytes,
-        }
+        Found { store, memory_bytes: MEMORY_BYTES, buffer_bytes }
     }
 
     /// The cluster that a handle names, if there is such a place.
     fn cluster_of(&self, handle: &Handle) -> Option<&Cluster> {
-        self.store
-            .cluster(usize::from(handle.node), usize::from(handle.local))
+        self.store.cluster_of(handle)
     }
 }
 
@@ -105,12 +100,7 @@ struct Asked<'a> {
 impl<'a> Asked<'a> {
     fn of(call: &'a Call, found: &'a Found) -> Asked<'a> {
         let mut handles = call.presented_bytes().map(Handle::from_bytes);
-        Asked {
-            call,
-            handle: handles.next().flatten(),
-            other: handles.next().flatten(),
-            found,
-        }
+        Asked { call, handle: handles.next().flatten(), other: handles.next().flatten(), found }
     }
 
     /// Every handle; none is missing below the first row.
@@ -185,10 +175,7 @@ pub fn refusal(call: &Call, found: &Found) -> Option<u8> {
 
 /// The first number that applies of those standing above `row`; above 25 is above its first place.
 pub fn refusal_above(row: u8, call: &Call, found: &Found) -> Option<u8> {
-    let above = ROWS
-        .iter()
-        .take_while(|(number, ..)| *number != row)
-        .count();
+    let above = ROWS.iter().take_while(|(number, ..)| *number != row).count();
     first_of(&ROWS[..above], call, found)
 }
 

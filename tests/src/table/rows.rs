@@ -23,9 +23,7 @@ pub fn no_such_place(asked: &Asked) -> bool {
     let no_local = |local: u32| local as usize >= CLUSTERS;
     asked.call.current_node().is_some_and(no_node)
         || matches!(*asked.call, Call::NewCluster { local, .. } if no_local(local))
-        || asked
-            .handles()
-            .any(|handle| no_node(handle.node.into()) || no_local(handle.local.into()))
+        || asked.handles().any(|handle| no_node(handle.node.into()) || no_local(handle.local.into()))
 }
 
 /// A mode, a size, the width of a new cluster, or a segment, which goes by the handle's width.
@@ -64,11 +62,9 @@ pub fn elsewhere(asked: &Asked) -> bool {
 
 pub fn in_use(asked: &Asked) -> bool {
     match *asked.call {
-        Call::NewCluster { node, local, .. } => asked
-            .found
-            .store
-            .cluster(node as usize, local as usize)
-            .is_some_and(|cluster| cluster.active),
+        Call::NewCluster { node, local, .. } => {
+            asked.found.store.cluster(node as usize, local as usize).is_some_and(|cluster| cluster.active)
+        }
         _ => false,
     }
 }
@@ -93,15 +89,11 @@ pub fn inactive(asked: &Asked) -> bool {
 
 /// 25 at its second place.
 pub fn other_width(asked: &Asked) -> bool {
-    any_judged(asked, |handle, cluster, _| {
-        !cluster.has_width(handle.width())
-    })
+    any_judged(asked, |handle, cluster, _| !cluster.has_width(handle.width()))
 }
 
 pub fn violated_protection(asked: &Asked) -> bool {
-    any_judged(asked, |handle, cluster, mode| {
-        !handle.validates(cluster, mode)
-    })
+    any_judged(asked, |handle, cluster, mode| !handle.validates(cluster, mode))
 }
 
 /// The two are of one width: the cluster's.
@@ -131,9 +123,7 @@ pub fn not_referenced(asked: &Asked) -> bool {
 /// nothing of the other's.
 pub fn old_password(asked: &Asked) -> bool {
     match (asked.call, asked.call.needed_mode(), asked.named_cluster()) {
-        (Call::NewPassword { password, .. }, Some(mode), Some(cluster)) => {
-            password == cluster.primary(mode)
-        }
+        (Call::NewPassword { password, .. }, Some(mode), Some(cluster)) => password == cluster.primary(mode),
         _ => false,
     }
 }
@@ -143,9 +133,7 @@ pub fn present(asked: &Asked) -> bool {
 }
 
 pub fn absent(asked: &Asked) -> bool {
-    asked
-        .named_segment()
-        .is_some_and(|segment| !segment.is_present())
+    asked.named_segment().is_some_and(|segment| !segment.is_present())
 }
 
 pub fn frozen(asked: &Asked) -> bool {
@@ -153,9 +141,7 @@ pub fn frozen(asked: &Asked) -> bool {
 }
 
 pub fn short(asked: &Asked) -> bool {
-    asked
-        .named_extent()
-        .is_some_and(|extent| asked.found.buffer_bytes < extent.length)
+    asked.named_extent().is_some_and(|extent| asked.found.buffer_bytes < extent.length)
 }
 
 pub fn no_room(asked: &Asked) -> bool {

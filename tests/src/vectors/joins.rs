@@ -2,9 +2,7 @@
 
 use super::tables::{joined, whole, Pair};
 use super::{Cluster, Family};
-use crate::handle::{Handle, Password};
-use crate::hexadecimal::encode;
-use crate::table::{APART, WHOLE};
+use crate::{hexadecimal::encode, words::*};
 
 /// The pairs of one family.
 pub fn of(family: &Family, primary: Handle) -> String {
@@ -15,9 +13,7 @@ pub fn of(family: &Family, primary: Handle) -> String {
     for pair in whole(primary.width()) {
         let [one, two] = both(primary, *pair).map(|handle| encode(&handle.to_bytes()));
         let secret = family.secret();
-        text.push_str(&format!(
-            "whole {secret} one={one} two={two} number={WHOLE}\n"
-        ));
+        text.push_str(&format!("whole {secret} one={one} two={two} number={WHOLE}\n"));
     }
     text
 }
@@ -46,12 +42,7 @@ pub fn apart(cluster: &Cluster) -> String {
     text
 }
 
-fn apart_in(
-    cluster: &Cluster,
-    mode: &'static str,
-    primary: &Password,
-    (node, local): (u16, u8),
-) -> String {
+fn apart_in(cluster: &Cluster, mode: &'static str, primary: &Password, (node, local): (u16, u8)) -> String {
     let secret = Family { mode, primary }.secret();
     let one = cluster.primary(*primary);
     let one = one.weaken(0x1818).expect("all are flat");

@@ -6,9 +6,7 @@ mod tables;
 mod validations;
 mod widths;
 
-use crate::handle::{convert, Handle, Password, Width};
-use crate::hexadecimal::encode;
-use crate::table::{word, EMPTY, SPENT};
+use crate::{hexadecimal::encode, words::*};
 use tables::paths;
 
 const HEADER: &str = "\
@@ -32,14 +30,7 @@ impl Cluster {
 }
 
 const CLUSTERS: [Cluster; 4] = [
-    Cluster {
-        name: "a",
-        width: Width::Eight,
-        node: 0,
-        local: 2,
-        read: [0x11; 16],
-        write: [0x22; 16],
-    },
+    Cluster { name: "a", width: Width::Eight, node: 0, local: 2, read: [0x11; 16], write: [0x22; 16] },
     Cluster {
         name: "b",
         width: Width::Eight,
@@ -48,14 +39,7 @@ const CLUSTERS: [Cluster; 4] = [
         read: [0, 1, 2, 3, 4, 5, 6, 7, 8, 9, 10, 11, 12, 13, 14, 15],
         write: *b"sixteen  letters",
     },
-    Cluster {
-        name: "c",
-        width: Width::Eight,
-        node: 1,
-        local: 0,
-        read: [0; 16],
-        write: [0xff; 16],
-    },
+    Cluster { name: "c", width: Width::Eight, node: 1, local: 0, read: [0; 16], write: [0xff; 16] },
     // The key of FIPS 197, appendix B, and the outcome there.
     Cluster {
         name: "d",
@@ -92,11 +76,7 @@ fn digits(width: Width, number: u16) -> String {
 }
 
 fn conversions(clusters: &[Cluster], parameters: &[u16]) -> String {
-    let pairs = clusters.iter().flat_map(|cluster| {
-        parameters
-            .iter()
-            .map(move |parameter| (cluster, *parameter))
-    });
+    let pairs = clusters.iter().flat_map(|cluster| parameters.iter().map(move |parameter| (cluster, *parameter)));
     let line = |(cluster, parameter): (&Cluster, u16)| {
         let outcome = encode(&convert(&cluster.read, parameter));
         let (password, parameter) = (encode(&cluster.read), digits(cluster.width, parameter));
@@ -142,14 +122,8 @@ impl Family<'_> {
 
     /// Each weakening, and each of its outcomes reduced.
     fn weakenings(&self, mut handle: Handle, masks: &[u16]) -> String {
-        let all: Vec<String> = masks
-            .iter()
-            .map(|mask| digits(handle.width(), *mask))
-            .collect();
-        let between = match all.iter().all(|digits| digits.len() == 2) {
-            true => "",
-            false => " ",
-        };
+        let all: Vec<String> = masks.iter().map(|mask| digits(handle.width(), *mask)).collect();
+        let between = if all.iter().all(|digits| digits.len() == 2) { "" } else { " " };
         let mut text = format!("# Masks {}.\n", all.join(between));
         for &mask in masks {
             let Some(weaker) = handle.weaken(mask) else {

@@ -38,11 +38,7 @@ const PATHS_OF_SIXTEEN: [Path; 7] = [
 ];
 
 /// Masks of sixteen bits for handles of width 8.
-pub const WIDE_PATHS_OF_EIGHT: [Path; 3] = [
-    &[0xff7f, 0xab3f, 0x010f, 0x8000],
-    &[0xffff, 0x0120, 0xff00],
-    &[0x8000],
-];
+pub const WIDE_PATHS_OF_EIGHT: [Path; 3] = [&[0xff7f, 0xab3f, 0x010f, 0x8000], &[0xffff, 0x0120, 0xff00], &[0x8000]];
 
 pub fn paths(width: Width) -> &'static [Path] {
     match width {
@@ -98,21 +94,11 @@ pub fn joined(width: Width) -> &'static [Pair] {
 
 /// All of the width: by two handles that share none, by two that share some, by the primary one beside another, and by
 /// the primary one twice.
-const WHOLE_OF_FOUR: [Pair; 5] = [
-    (&[0x0003], &[0x000c]),
-    (&[0x000e], &[0x0007, 0x0003]),
-    (&[], &[0x0004]),
-    (&[0x000e, 0x000c], &[]),
-    (&[], &[]),
-];
+const WHOLE_OF_FOUR: [Pair; 5] =
+    [(&[0x0003], &[0x000c]), (&[0x000e], &[0x0007, 0x0003]), (&[], &[0x0004]), (&[0x000e, 0x000c], &[]), (&[], &[])];
 
-const WHOLE_OF_EIGHT: [Pair; 5] = [
-    (&[0x0f], &[0xf0]),
-    (&[0xfe, 0x7e], &[0xf7, 0xf1]),
-    (&[], &[0x18]),
-    (&[0xfe, 0x7d, 0x70], &[]),
-    (&[], &[]),
-];
+const WHOLE_OF_EIGHT: [Pair; 5] =
+    [(&[0x0f], &[0xf0]), (&[0xfe, 0x7e], &[0xf7, 0xf1]), (&[], &[0x18]), (&[0xfe, 0x7d, 0x70], &[]), (&[], &[])];
 
 const WHOLE_OF_SIXTEEN: [Pair; 5] = [
     (&[0x00ff], &[0xff00]),

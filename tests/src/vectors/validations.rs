@@ -1,10 +1,7 @@
 //! Validation by itself.
 
 use super::{Cluster, Family};
-use crate::handle::{convert, Handle, Password, Selector};
-use crate::hexadecimal::encode;
-use crate::sizes::{PASSWORD_BYTES, SUBSELECTORS};
-use crate::table::{DONE, GAPPED, VIOLATED_PROTECTION};
+use crate::{hexadecimal::encode, words::*};
 
 /// Handles of one active cluster with the number that validating them gives in each mode.
 pub fn of(cluster: &Cluster) -> String {

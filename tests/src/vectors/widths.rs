@@ -3,9 +3,7 @@
 use super::tables::WIDE_PATHS_OF_EIGHT;
 use super::validations::validation_in;
 use super::{conversions, families, joins, refused, validations, Cluster, Family, CLUSTERS};
-use crate::handle::{Handle, HandleBytes, Selector, Width};
-use crate::hexadecimal::encode;
-use crate::table::LENGTH;
+use crate::{hexadecimal::encode, words::*};
 
 const OTHERS: [Cluster; 2] = [
     Cluster {
@@ -26,9 +24,7 @@ const OTHERS: [Cluster; 2] = [
     },
 ];
 
-const PARAMETERS: [u16; 8] = [
-    0x0000, 0x000e, 0x00ff, 0x0100, 0x0102, 0x7fff, 0xfffe, 0xffff,
-];
+const PARAMETERS: [u16; 8] = [0x0000, 0x000e, 0x00ff, 0x0100, 0x0102, 0x7fff, 0xfffe, 0xffff];
 
 /// All that follows what is published of handles of 23 bytes.
 pub fn text() -> String {
@@ -83,9 +79,7 @@ fn masks_of_sixteen_bits(cluster: &Cluster) -> String {
 fn other_widths(cluster: &Cluster) -> String {
     let name = cluster.name;
     let mut text = format!("\n# Handles of other widths, cluster {name}.\n");
-    let widths = Width::ALL
-        .into_iter()
-        .filter(|width| *width != cluster.width);
+    let widths = Width::ALL.into_iter().filter(|width| *width != cluster.width);
     for width in widths {
         for (mode, primary) in [("read", &cluster.read), ("write", &cluster.write)] {
             let right = cluster.primary(*primary).weaken(1).expect("all are flat");

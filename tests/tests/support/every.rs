@@ -14,11 +14,7 @@ pub struct Rest {
 
 /// A read handle is needed by the last three.
 pub fn every(handle: &HandleBytes, other: &HandleBytes, rest: Rest) -> Vec<Call> {
-    let Rest {
-        node,
-        segment,
-        mode,
-    } = rest;
+    let Rest { node, segment, mode } = rest;
     let [write, read] = [WRITE_MODE, READ_MODE].map(|right| mode.unwrap_or(right));
     let (size, mask, password) = (4, 1, [9; 16]);
     let (handle, other) = (|| handle.clone(), || other.clone());

@@ -87,9 +87,7 @@ impl Faulty {
 /// One for every set of the kind's numbers and each width. Where 22 is none of them, each is there twice: with the
 /// segment frozen and not. No absent segment is frozen, so that 14 and 22 do not meet.
 pub fn all(kind: Kind) -> impl Iterator<Item = Faulty> {
-    Width::ALL
-        .into_iter()
-        .flat_map(move |width| of(kind, width))
+    Width::ALL.into_iter().flat_map(move |width| of(kind, width))
 }
 
 pub fn of(kind: Kind, width: Width) -> impl Iterator<Item = Faulty> {
@@ -101,10 +99,7 @@ pub fn of(kind: Kind, width: Width) -> impl Iterator<Item = Faulty> {
     });
     let can_meet = |set: &Vec<u8>| !(set.contains(&14) && set.contains(&22));
     sets.filter(can_meet).flat_map(move |set| {
-        let marks = match numbers.contains(&22) {
-            true => vec![set.contains(&22)],
-            false => vec![false, true],
-        };
+        let marks = if numbers.contains(&22) { vec![set.contains(&22)] } else { vec![false, true] };
         let faulty = move |frozen| with(kind, width, set.clone(), frozen);
         marks.into_iter().map(faulty)
     })
@@ -140,10 +135,7 @@ fn store(kind: Kind, width: Width, low: usize, frozen: bool) -> Store {
 /// A call with the faults that stand for these numbers, each of them something of its own.
 fn with(kind: Kind, width: Width, faults: Vec<u8>, frozen: bool) -> Faulty {
     let has = |number: u8| faults.contains(&number);
-    let own = match has(OTHER_WIDTH) {
-        true => others(width).nth(faults.len() % 2).expect("there are two"),
-        false => width,
-    };
+    let own = if has(OTHER_WIDTH) { others(width).nth(faults.len() % 2).expect("there are two") } else { width };
     let low = own.segments().min(width.segments()) - 4;
     let node = match (has(2), has(5)) {
         (true, _) => 4,
@@ -157,10 +149,7 @@ fn with(kind: Kind, width: Width, faults: Vec<u8>, frozen: bool) -> Faulty {
         (false, true) => low + 1,
         (true, true) => low,
     };
-    let asked = match has(3) {
-        true => own.number().into(),
-        false => segment as u32,
-    };
+    let asked = if has(3) { own.number().into() } else { segment as u32 };
     let mut store = store(kind, width, low, frozen);
     if has(1) {
         make_unsound(&mut store);
@@ -178,10 +167,7 @@ fn with(kind: Kind, width: Width, faults: Vec<u8>, frozen: bool) -> Faulty {
 fn call(kind: Kind, node: u32, segment: u32, faults: &[u8], handle: HandleBytes) -> Call {
     let has = |number: u8| faults.contains(&number);
     let size = if has(16) { 4096 } else { LENGTH as u32 };
-    let mode = |right| match has(3) {
-        true => 3 * (faults.len() as u32 % 2),
-        false => right,
-    };
+    let mode = |right| if has(3) { 3 * (faults.len() as u32 % 2) } else { right };
     #[rustfmt::skip]
     let call = match kind {
         Kind::DeleteCluster => Call::DeleteCluster { node, handle },

@@ -22,16 +22,7 @@ fn pairs(width: Width) -> [[[u16; 4]; 2]; PAIRS] {
     let flat = width.flat();
     let (all, one) = ([flat; 4], [0b0011, flat, flat, flat]);
     let two = [flat - 1, union(width), flat, flat];
-    [
-        [one, two],
-        [
-            [flat - 1, flat, flat, flat],
-            [flat - 2, union(width), flat, flat],
-        ],
-        [all, two],
-        [one, all],
-        [all; 2],
-    ]
+    [[one, two], [[flat - 1, flat, flat, flat], [flat - 2, union(width), flat, flat]], [all, two], [one, all], [all; 2]]
 }
 
 /// How the second handle's name differs, and which of the two clusters are inactive: bit 0 stands for the first, bit 1
@@ -85,8 +76,7 @@ pub fn all() -> impl Iterator<Item = Joint> {
 }
 
 fn with(choices: [usize; 10], width: Width) -> Joint {
-    let [cut_off, unsound, nowhere, field, gapped, names, wide, violated, selectors, write] =
-        choices;
+    let [cut_off, unsound, nowhere, field, gapped, names, wide, violated, selectors, write] = choices;
     let ((more_nodes, more_locals), inactive) = NAMES[names];
     let apart = NAMES[names].0 != (0, 0);
     let applying = [
@@ -128,11 +118,7 @@ fn with(choices: [usize; 10], width: Width) -> Joint {
         make_unsound(&mut put_to);
     }
     Joint {
-        faults: applying
-            .iter()
-            .filter(|(fault, _)| *fault != 0)
-            .map(|(_, number)| *number)
-            .collect(),
+        faults: applying.iter().filter(|(fault, _)| *fault != 0).map(|(_, number)| *number).collect(),
         call: Call::join([1, 2, 0, 3][2 * field + write], handle(0), handle(1)),
         width,
         primary: [READ, WRITE][write],

@@ -11,8 +11,7 @@ pub use model::store::{Cluster, Extent, Mode, Place, Segment, Store};
 use library::guard::run;
 #[cfg(not(of_the_library))]
 use model::model::run;
-use std::borrow::Borrow;
-use std::ops::Range;
+use std::{borrow::Borrow, ops::Range};
 
 pub mod every;
 pub mod faults;
@@ -34,10 +33,7 @@ pub struct Bench {
 
 impl Bench {
     pub fn starting() -> Bench {
-        Bench {
-            store: Store::starting(),
-            memory: vec![0; MEMORY_BYTES],
-        }
+        Bench { store: Store::starting(), memory: vec![0; MEMORY_BYTES] }
     }
 
     /// Cluster 2 of node 0 is active; its handles are [`reader`] and [`writer`].
@@ -79,8 +75,7 @@ impl Bench {
     }
 
     pub fn write(&mut self, segment: u32, data: &[u8], handle: impl Into<HandleBytes>) -> u8 {
-        self.ask(Call::write(segment, handle), &mut data.to_vec())
-            .number
+        self.ask(Call::write(segment, handle), &mut data.to_vec()).number
     }
 
     /// The bytes of a segment, or the number of the refusal.
@@ -97,12 +92,7 @@ impl Bench {
 
     /// The bytes that a look shows, or the number of the refusal. It changes nothing, not even a
     /// buffer beside it, and gives nothing but the part.
-    pub fn look(
-        &mut self,
-        node: u32,
-        segment: u32,
-        handle: impl Into<HandleBytes>,
-    ) -> Result<Vec<u8>, u8> {
+    pub fn look(&mut self, node: u32, segment: u32, handle: impl Into<HandleBytes>) -> Result<Vec<u8>, u8> {
         let (before, mut buffer) = (self.clone(), [0xee; 3]);
         let call = Call::look(node, segment, handle);
         let reply = self.ask(&call, &mut buffer);
@@ -111,13 +101,7 @@ impl Bench {
         let number = reply.number;
         match number {
             0 => {
-                assert_eq!(
-                    reply,
-                    Reply {
-                        shown,
-                        ..Reply::DONE
-                    }
-                );
+                assert_eq!(reply, Reply { shown, ..Reply::DONE });
                 Ok(shown.of(&self.memory).expect("a part of it").to_vec())
             }
             _ => {
@@ -198,13 +182,7 @@ pub fn new_cluster(node: u32, local: u32) -> Call {
 }
 
 pub fn new_cluster_of(width: Width, node: u32, local: u32) -> Call {
-    Call::NewCluster {
-        node,
-        local,
-        width: width.segments(),
-        read: READ_SECRET,
-        write: WRITE_SECRET,
-    }
+    Call::NewCluster { node, local, width: width.segments(), read: READ_SECRET, write: WRITE_SECRET }
 }
 
 pub fn new_segment(segment: u32, size: u32) -> Call {

@@ -50,12 +50,7 @@ pub fn selectors_of(width: Width, first: u16) -> Vec<[u16; 4]> {
         return vec![[flat; 4]];
     };
     let last = others[others.len() - 1];
-    vec![
-        [first, flat, flat, flat],
-        [one, first, flat, flat],
-        [first, one, last, flat],
-        [one, last, one, first],
-    ]
+    vec![[first, flat, flat, flat], [one, first, flat, flat], [first, one, last, flat], [one, last, one, first]]
 }
 
 /// The selectors of every set of segments.

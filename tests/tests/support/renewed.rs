@@ -54,8 +54,7 @@ pub fn all() -> impl Iterator<Item = Renewed> {
 }
 
 fn with(choices: [usize; 13]) -> Renewed {
-    let [cut_off, unsound, nowhere, field, gapped, inactive, wide, violated, weaker, rest @ ..] =
-        choices;
+    let [cut_off, unsound, nowhere, field, gapped, inactive, wide, violated, weaker, rest @ ..] = choices;
     let [chosen, write, equal, at] = rest;
     let other = [OTHER, OWN][equal];
     let password = [THIRD, other, OWN][chosen];
@@ -96,11 +95,7 @@ fn with(choices: [usize; 13]) -> Renewed {
         make_unsound(&mut store);
     }
     Renewed {
-        faults: applying
-            .iter()
-            .filter(|(fault, _)| *fault != 0)
-            .map(|(_, number)| *number)
-            .collect(),
+        faults: applying.iter().filter(|(fault, _)| *fault != 0).map(|(_, number)| *number).collect(),
         store,
         call: Call::new_password([1, 2, 0, 3][2 * field + write], handle, password),
         mode,
@@ -111,26 +106,15 @@ fn with(choices: [usize; 13]) -> Renewed {
 
 /// The cluster beside it has the same passwords, and cluster 0 of node 0 has the third in both modes.
 fn store(mode: Mode, width: Width, other: Password) -> Store {
-    let active = Cluster {
-        active: true,
-        width: width.number(),
-        ..Cluster::INACTIVE
-    };
+    let active = Cluster { active: true, width: width.number(), ..Cluster::INACTIVE };
     let mut own = active;
     (*own.primary_mut(mode), *own.primary_mut(mode.other())) = (OWN, other);
     let mut store = Store::starting();
     let node = usize::from(NODE);
-    for (at, cluster) in store.clusters[node][usize::from(LOCAL)..]
-        .iter_mut()
-        .enumerate()
-    {
+    for (at, cluster) in store.clusters[node][usize::from(LOCAL)..].iter_mut().enumerate() {
         *cluster = own;
         cluster.segments[at] = Segment::present(10 * at as u16, 9);
     }
-    store.clusters[0][0] = Cluster {
-        read: THIRD,
-        write: THIRD,
-        ..active
-    };
+    store.clusters[0][0] = Cluster { read: THIRD, write: THIRD, ..active };
     store
 }

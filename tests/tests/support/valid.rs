@@ -56,14 +56,14 @@ pub fn valid_call(random: &mut Random, bench: &Bench) -> Call {
         first => first,
     };
     let password: Password = random.bytes();
-    let [read, write] = [cluster.write, cluster.read].map(|other| match random.one_in(2) {
-        true => other,
-        false => password,
-    });
+    let [read, write] = [cluster.write, cluster.read].map(|other| if random.one_in(2) { other } else { password });
     let size = 1 + random.below(40) as u32;
     #[rustfmt::skip]
     let call = match random.below(42) {
-        0..=3 => Call::NewCluster { node, local: local.into(), width: any.segments(), read: random.bytes(), write: password },
+        0..=3 => {
+            let (local, width) = (local.into(), any.segments());
+            Call::NewCluster { node, local, width, read: random.bytes(), write: password }
+        }
         4..=7 => Call::DeleteCluster { node, handle: handle.into() },
         8..=17 => Call::NewSegment { node, segment, size, handle: handle.into() },
         18..=23 => Call::DeleteSegment { node, segment, handle: handle.into() },

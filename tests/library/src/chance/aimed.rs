@@ -1,16 +1,12 @@
 //! Looks and freezes by chance. What speaks against one of them seldom meets by itself, so that half of them
 //! are made from one that would be done: none, one or two things are made wrong in it.
 
-use super::handles::{self, gapped, of_another_width, of_no_length};
+use super::handles::{self, of_another_width, of_no_length};
 use super::questions::Maker;
 use super::stores::segments_of;
-use super::{below, bits, near};
-use crate::question::BEYOND;
-use model::call::Call;
-use model::handle::{Handle, HandleBytes};
-use model::random::Random;
-use model::sizes::NODES;
-use model::store::{Cluster, Mode, Segment, Store};
+use super::{below, bits, gapped, near};
+use crate::words::*;
+use model::listed;
 
 /// What a call about one segment of a node is asked with.
 struct Aimed {
@@ -21,35 +17,14 @@ struct Aimed {
     has_length: bool,
 }
 
-/// In the order in which two of them are put into one call.
-#[derive(Clone, Copy)]
-enum Fault {
-    Absent,
-    /// By a handle that is not primary either.
-    NotReferenced,
-    NotValid,
-    OtherWidth,
-    Inactive,
-    Elsewhere,
-    Gapped,
-    NoSegment,
-    NoNode,
-    NoLength,
-}
-
-impl Fault {
-    const ALL: [Fault; 10] = [
-        Fault::Absent,
-        Fault::NotReferenced,
-        Fault::NotValid,
-        Fault::OtherWidth,
-        Fault::Inactive,
-        Fault::Elsewhere,
-        Fault::Gapped,
-        Fault::NoSegment,
-        Fault::NoNode,
-        Fault::NoLength,
-    ];
+listed! {
+    /// In the order in which two of them are put into one call.
+    enum Fault {
+        Absent,
+        /// By a handle that is not primary either.
+        NotReferenced,
+        NotValid, OtherWidth, Inactive, Elsewhere, Gapped, NoSegment, NoNode, NoLength,
+    }
 }
 
 impl Maker<'_> {
@@ -65,10 +40,7 @@ impl Maker<'_> {
 
     /// What needs a write handle needs a primary one.
     fn aimed(&mut self, mode: Mode) -> Aimed {
-        let right = match self.random.one_in(2) {
-            true => right(self.random, self.store, mode),
-            false => None,
-        };
+        let right = if self.random.one_in(2) { right(self.random, self.store, mode) } else { None };
         match right {
             Some(aimed) => with_faults(self.random, self.store, aimed),
             None => self.any(mode),
@@ -108,12 +80,7 @@ fn right(random: &mut Random, store: &Store, mode: Mode) -> Option<Aimed> {
         let mask = bits(random, handle.width()) | 1 << segment;
         handle = handle.weaken(mask).unwrap_or(handle);
     }
-    Some(Aimed {
-        node: node as u32,
-        segment: segment as u32,
-        handle,
-        has_length: true,
-    })
+    Some(Aimed { node: node as u32, segment: segment as u32, handle, has_length: true })
 }
 
 fn with_faults(random: &mut Random, store: &Store, mut aimed: Aimed) -> Aimed {
@@ -148,15 +115,8 @@ impl Aimed {
                 self.handle = weaker.unwrap_or(self.handle);
             }
             // Where the two passwords are equal, the other mode's is no fault.
-            Fault::NotValid
-                if random.one_in(2)
-                    && self.handle.selector.is_primary()
-                    && !own.has_equal_passwords() =>
-            {
-                self.handle.password = match self.handle.password == own.read {
-                    true => own.write,
-                    false => own.read,
-                };
+            Fault::NotValid if random.one_in(2) && self.handle.selector.is_primary() && !own.has_equal_passwords() => {
+                self.handle.password = if self.handle.password == own.read { own.write } else { own.read };
             }
             Fault::NotValid => self.handle.password = near(random, self.handle.password),
             Fault::OtherWidth => self.handle = of_another_width(random, store, self.handle),
@@ -176,9 +136,7 @@ impl Aimed {
     }
 
     fn go_to_an_inactive_cluster(&mut self, random: &mut Random, store: &Store) {
-        let Some((node, local)) = handles::place(random, store, |cluster| !cluster.active) else {
-            return;
-        };
+        let Some((node, local)) = handles::place(random, store, |cluster| !cluster.active) else { return };
         (self.handle.node, self.handle.local) = (node as u16, local as u8);
         self.node = node as u32;
     }

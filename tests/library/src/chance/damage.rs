@@ -1,98 +1,45 @@
 //! Every way in which a store or its image can be damaged.
 
-use super::below;
-use super::faults::fault;
-use crate::image::{decode, encode, record_at, segment_at, MARK_AT, SEGMENTS_AT};
-use crate::question::Held;
-use model::random::Random;
-use model::sizes::{CLUSTERS, NODES, SEGMENTS};
+use super::{below, faults::fault};
+use crate::words::*;
+use model::listed;
 
 /// The node and the local number of the last record.
 pub const LAST_PLACE: (usize, usize) = (NODES - 1, CLUSTERS - 1);
 
-#[derive(Clone, Copy, Debug, PartialEq, Eq, PartialOrd, Ord)]
-pub enum Damage {
-    ActiveByteTwo,
-    ActiveByteAbove,
-    /// The image's form of a present segment of length zero.
-    AbsentWithBase,
-    InactiveWithReadPassword,
-    InactiveWithWritePassword,
-    /// The byte before the segments.
-    InactiveWithLastPasswordByte,
-    InactiveWithBase,
-    InactiveWithSegment,
-    /// The last byte of the record: a mark of 1 on its last segment.
-    InactiveWithLastByte,
-    InactiveWithMark,
-    InactiveWithMarkAbove,
-    /// A mark of 1 on an absent segment, and one that is no mark.
-    AbsentWithMark,
-    AbsentWithMarkAbove,
-    /// On a present segment.
-    MarkTwo,
-    MarkAbove,
-    /// An active cluster whose width is 0, and one whose width is another that is none of the three.
-    ActiveOfNoWidth,
-    ActiveOfAnotherWidth,
-    /// An inactive cluster with one of the three, and with another.
-    InactiveWithWidth,
-    InactiveWithAnotherWidth,
-    /// A segment is present, and its number is the width, or above it.
-    PresentAtTheWidth,
-    PresentAboveTheWidth,
-    BaseAbove,
-    LengthAbove,
-    EndAbove,
-    /// Base 4,095 and length 2.
-    LastByteAndOneMore,
-    OverlapInACluster,
-    OverlapOfClusters,
-    /// One byte is shared, at a multiple of 64; the next two have it beside one.
-    OverlapAtAWord,
-    OverlapBeforeAWord,
-    OverlapAfterAWord,
-    /// A segment is in the midst of a longer one.
-    OverlapInsideWords,
-    /// One of the two is the whole node.
-    OverlapOfTheNode,
-}
-
-impl Damage {
-    pub const ALL: [Damage; 32] = [
-        Damage::ActiveByteTwo,
-        Damage::ActiveByteAbove,
-        Damage::AbsentWithBase,
-        Damage::InactiveWithReadPassword,
-        Damage::InactiveWithWritePassword,
-        Damage::InactiveWithLastPasswordByte,
-        Damage::InactiveWithBase,
-        Damage::InactiveWithSegment,
-        Damage::InactiveWithLastByte,
-        Damage::InactiveWithMark,
-        Damage::InactiveWithMarkAbove,
-        Damage::AbsentWithMark,
-        Damage::AbsentWithMarkAbove,
-        Damage::MarkTwo,
-        Damage::MarkAbove,
-        Damage::ActiveOfNoWidth,
-        Damage::ActiveOfAnotherWidth,
-        Damage::InactiveWithWidth,
-        Damage::InactiveWithAnotherWidth,
-        Damage::PresentAtTheWidth,
-        Damage::PresentAboveTheWidth,
-        Damage::BaseAbove,
-        Damage::LengthAbove,
-        Damage::EndAbove,
-        Damage::LastByteAndOneMore,
-        Damage::OverlapInACluster,
-        Damage::OverlapOfClusters,
-        Damage::OverlapAtAWord,
-        Damage::OverlapBeforeAWord,
-        Damage::OverlapAfterAWord,
-        Damage::OverlapInsideWords,
-        Damage::OverlapOfTheNode,
-    ];
+listed! {
+    pub enum Damage {
+        ActiveByteTwo, ActiveByteAbove,
+        /// The image's form of a present segment of length zero.
+        AbsentWithBase,
+        InactiveWithReadPassword, InactiveWithWritePassword,
+        /// The byte before the segments.
+        InactiveWithLastPasswordByte,
+        InactiveWithBase, InactiveWithSegment,
+        /// The last byte of the record: a mark of 1 on its last segment.
+        InactiveWithLastByte,
+        InactiveWithMark, InactiveWithMarkAbove,
+        /// A mark of 1 on an absent segment, and one that is no mark.
+        AbsentWithMark, AbsentWithMarkAbove,
+        /// On a present segment.
+        MarkTwo, MarkAbove,
+        /// An active cluster whose width is 0, and one whose width is another that is none of the three.
+        ActiveOfNoWidth, ActiveOfAnotherWidth,
+        /// An inactive cluster with one of the three, and with another.
+        InactiveWithWidth, InactiveWithAnotherWidth,
+        /// A segment is present, and its number is the width, or above it.
+        PresentAtTheWidth, PresentAboveTheWidth,
+        BaseAbove, LengthAbove, EndAbove,
+        /// Base 4,095 and length 2.
+        LastByteAndOneMore,
+        OverlapInACluster, OverlapOfClusters,
+        /// One byte is shared, at a multiple of 64; the next two have it beside one.
+        OverlapAtAWord, OverlapBeforeAWord, OverlapAfterAWord,
+        /// A segment is in the midst of a longer one.
+        OverlapInsideWords,
+        /// One of the two is the whole node.
+        OverlapOfTheNode,
+    }
 }
 
 /// Damages a sound store, at the cluster of `place` where that makes a difference.
@@ -105,13 +52,7 @@ pub fn inflict(random: &mut Random, held: &mut Held, damage: Damage, place: (usi
 }
 
 /// Damage that only an image can hold.
-fn damage_bytes(
-    random: &mut Random,
-    held: &mut Held,
-    damage: Damage,
-    (node, local): (usize, usize),
-    segment: usize,
-) {
+fn damage_bytes(random: &mut Random, held: &mut Held, damage: Damage, (node, local): (usize, usize), segment: usize) {
     let record = record_at(node, local).start;
     let place = &mut held.image[segment_at(node, local, segment)];
     match damage {

@@ -4,23 +4,14 @@ use super::damage::Damage;
 use super::stores::{active, extents, gaps, present};
 use super::words::{self, Beside};
 use super::{below, width};
-use model::handle::Width;
-use model::random::Random;
-use model::sizes::{CLUSTERS, NODE_BYTES, PASSWORD_BYTES, SEGMENTS};
-use model::store::{Cluster, Extent, Segment, Store};
+use model::words::*;
 
 /// The numbers that two bytes can hold.
 const TWO_BYTES: usize = 1 << 16;
 
 /// Puts something wrong into the cluster at `place`, or makes it what damage to its bytes needs:
 /// active, or inactive with nothing in it.
-pub fn fault(
-    random: &mut Random,
-    store: &mut Store,
-    damage: Damage,
-    place: (usize, usize),
-    segment: usize,
-) {
+pub fn fault(random: &mut Random, store: &mut Store, damage: Damage, place: (usize, usize), segment: usize) {
     match damage {
         Damage::BaseAbove | Damage::LengthAbove | Damage::EndAbove | Damage::LastByteAndOneMore => {
             let extent = out_of_range(random, store, damage, place.0);
@@ -61,11 +52,7 @@ fn other_cluster(random: &mut Random, (node, local): (usize, usize)) -> (usize, 
 }
 
 /// The cluster, which is made active if it was not.
-fn activated<'a>(
-    random: &mut Random,
-    store: &'a mut Store,
-    (node, local): (usize, usize),
-) -> &'a mut Cluster {
+fn activated<'a>(random: &mut Random, store: &'a mut Store, (node, local): (usize, usize)) -> &'a mut Cluster {
     let cluster = &mut store.clusters[node][local];
     if !cluster.active {
         *cluster = active(random);
@@ -74,12 +61,7 @@ fn activated<'a>(
 }
 
 /// A segment of a cluster, which is made active if it was not, and wide enough.
-fn segment_of<'a>(
-    random: &mut Random,
-    store: &'a mut Store,
-    place: (usize, usize),
-    segment: usize,
-) -> &'a mut Segment {
+fn segment_of<'a>(random: &mut Random, store: &'a mut Store, place: (usize, usize), segment: usize) -> &'a mut Segment {
     let cluster = activated(random, store, place);
     if segment >= cluster.width.into() {
         cluster.width = Width::Sixteen.number();
@@ -119,19 +101,11 @@ fn beyond_the_width(random: &mut Random, store: &mut Store, damage: Damage, plac
         Damage::PresentAtTheWidth => width,
         _ => width + 1 + below(random, SEGMENTS - width - 1),
     };
-    cluster.segments[segment] = Segment {
-        frozen,
-        ..present(base, 1)
-    };
+    cluster.segments[segment] = Segment { frozen, ..present(base, 1) };
 }
 
 /// Makes a segment present if it was not, of one byte.
-fn present_somewhere(
-    random: &mut Random,
-    store: &mut Store,
-    place: (usize, usize),
-    segment: usize,
-) {
+fn present_somewhere(random: &mut Random, store: &mut Store, place: (usize, usize), segment: usize) {
     if segment_of(random, store, place, segment).is_present() {
         return;
     }
@@ -174,22 +148,12 @@ fn out_of_range(random: &mut Random, store: &Store, damage: Damage, node: usize)
             };
             Extent { base, length }
         }
-        Damage::LastByteAndOneMore => Extent {
-            base: NODE_BYTES - 1,
-            length: 2,
-        },
+        Damage::LastByteAndOneMore => Extent { base: NODE_BYTES - 1, length: 2 },
         _ => {
             let base = free_from.clamp(1, NODE_BYTES - 1);
             let least = NODE_BYTES - base + 1;
-            let more = if random.one_in(2) {
-                0
-            } else {
-                below(random, base)
-            };
-            Extent {
-                base,
-                length: least + more,
-            }
+            let more = if random.one_in(2) { 0 } else { below(random, base) };
+            Extent { base, length: least + more }
         }
     }
 }
@@ -216,18 +180,9 @@ fn sharing(random: &mut Random, extent: Extent) -> Extent {
     match random.below(5) {
         0 => extent,
         1 => Extent { base, length: 1 },
-        2 => Extent {
-            base: extent.end() - 1,
-            length: 1 + below(random, NODE_BYTES - extent.end() + 1),
-        },
-        3 => Extent {
-            base: 0,
-            length: base + 1,
-        },
-        _ => Extent {
-            base: base + below(random, length),
-            length: 1,
-        },
+        2 => Extent { base: extent.end() - 1, length: 1 + below(random, NODE_BYTES - extent.end() + 1) },
+        3 => Extent { base: 0, length: base + 1 },
+        _ => Extent { base: base + below(random, length), length: 1 },
     }
 }
 
@@ -248,16 +203,10 @@ fn put_both(random: &mut Random, store: &mut Store, both: [Extent; 2], place: (u
     for extent in both {
         make_room(store, place.0, extent);
     }
-    let [first, second] = match random.one_in(2) {
-        true => both,
-        false => [both[1], both[0]],
-    };
+    let [first, second] = if random.one_in(2) { both } else { [both[1], both[0]] };
     let at = below(random, SEGMENTS);
     let other = (at + 1 + below(random, SEGMENTS - 1)) % SEGMENTS;
-    let second_place = match random.one_in(2) {
-        true => place,
-        false => other_cluster(random, place),
-    };
+    let second_place = if random.one_in(2) { place } else { other_cluster(random, place) };
     *segment_of(random, store, place, at) = present(first.base, first.length);
     *segment_of(random, store, second_place, other) = present(second.base, second.length);
 }

@@ -1,11 +1,7 @@
 //! Handles by chance: right ones for the store as it is, old ones, and ones with something wrong, of every width.
 
-use super::{below, bit, bits, bytes, near, password, width};
-use model::generate::to_nothing;
-use model::handle::{derive, Handle, HandleBytes, Selector, Width};
-use model::random::Random;
-use model::sizes::{CLUSTERS, NODES, PASSWORD_BYTES, SUBSELECTORS};
-use model::store::{Cluster, Mode, Store};
+use super::{below, bit, bits, bytes, gapped, near, password, width};
+use model::{generate::to_nothing, words::*};
 
 /// Bytes that are presented for a handle mostly have at most so many; a length byte tells up to 255.
 pub const MOST_BYTES: usize = 40;
@@ -76,14 +72,9 @@ pub fn everywhere() -> impl Iterator<Item = (usize, usize)> {
 }
 
 /// Those of one of the clusters that `fits` is true of, if there are any.
-pub fn place(
-    random: &mut Random,
-    store: &Store,
-    fits: impl Fn(&Cluster) -> bool,
-) -> Option<(usize, usize)> {
-    let fitting: Vec<(usize, usize)> = everywhere()
-        .filter(|&(node, local)| fits(&store.clusters[node][local]))
-        .collect();
+pub fn place(random: &mut Random, store: &Store, fits: impl Fn(&Cluster) -> bool) -> Option<(usize, usize)> {
+    let fitting: Vec<(usize, usize)> =
+        everywhere().filter(|&(node, local)| fits(&store.clusters[node][local])).collect();
     random.pick(&fitting).copied()
 }
 
@@ -199,17 +190,8 @@ fn elsewhere(random: &mut Random, store: &Store, handle: Handle) -> Handle {
     let inactive = place(random, store, |cluster| !cluster.active);
     match inactive.filter(|_| random.one_in(2)) {
         // Its passwords are zero, so that nothing but its being inactive speaks against this.
-        Some((node, local)) => Handle::primary(
-            handle.width(),
-            node as u16,
-            local as u8,
-            [0; PASSWORD_BYTES],
-        ),
-        None => Handle {
-            node: below(random, NODES) as u16,
-            local: below(random, CLUSTERS) as u8,
-            ..handle
-        },
+        Some((node, local)) => Handle::primary(handle.width(), node as u16, local as u8, [0; PASSWORD_BYTES]),
+        None => Handle { node: below(random, NODES) as u16, local: below(random, CLUSTERS) as u8, ..handle },
     }
 }
 
@@ -232,22 +214,6 @@ pub fn of_another_width(random: &mut Random, store: &Store, handle: Handle) -> H
 /// has room, but for segment 0, so that none becomes flat.
 pub fn at_width(handle: &Handle, width: Width) -> Handle {
     let own = handle.width();
-    let at = |part: u16| match part == own.flat() {
-        true => width.flat(),
-        false => part & width.flat() & !1,
-    };
-    Handle {
-        selector: Selector::new(width, handle.selector.subselectors.map(at)),
-        ..*handle
-    }
-}
-
-pub fn gapped(random: &mut Random, width: Width) -> Selector {
-    let mut selector = Selector::primary(width);
-    let at = 1 + below(random, SUBSELECTORS - 1);
-    selector.subselectors[at] = bits(random, width) & !1;
-    if random.one_in(2) {
-        selector.subselectors[0] = bits(random, width);
-    }
-    selector
+    let at = |part: u16| if part == own.flat() { width.flat() } else { part & width.flat() & !1 };
+    Handle { selector: Selector::new(width, handle.selector.subselectors.map(at)), ..*handle }
 }

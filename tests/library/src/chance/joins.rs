@@ -2,27 +2,16 @@
 //! that a list cannot name besides.
 
 use super::questions::Maker;
-use crate::question::{BEYOND, WRITE_MODE};
-use model::call::Call;
+use crate::words::*;
 use model::generate::joins;
-use model::handle::Handle;
-use model::random::Random;
 
 impl Maker<'_> {
     pub(super) fn join(&mut self) -> Call {
-        let aimed = match self.random.one_in(4) {
-            true => None,
-            false => joins::join_of_widths(self.random, self.store),
-        };
-        let Some(join) = aimed else {
-            return self.as_other_calls();
-        };
+        let aimed = if self.random.one_in(4) { None } else { joins::join_of_widths(self.random, self.store) };
+        let Some(join) = aimed else { return self.as_other_calls() };
         let [handle, other] = join.handles;
         let right = join.mode.number();
-        let mode = match join.is_a_mode {
-            true => right,
-            false => no_mode(self.random, right),
-        };
+        let mode = if join.is_a_mode { right } else { no_mode(self.random, right) };
         Call::join(mode, handle, other)
     }
 
@@ -31,9 +20,7 @@ impl Maker<'_> {
         let (mode, number) = self.mode();
         let handle = self.handle(mode, false, true);
         let given = self.given.iter().copied();
-        let same: Vec<Handle> = given
-            .filter(|given| given.name() == handle.name())
-            .collect();
+        let same: Vec<Handle> = given.filter(|given| given.name() == handle.name()).collect();
         let other = match self.random.pick(&same) {
             Some(other) => *other,
             None => self.handle(mode, false, true),

@@ -1,10 +1,7 @@
 //! Calls 1 and 7 by chance, in which widths and masks matter.
 
-use super::handles;
-use super::questions::Maker;
-use super::{below, bit, bits, password, width};
-use model::call::Call;
-use model::sizes::{CLUSTERS, NODES, SEGMENTS};
+use super::{below, bit, bits, handles, password, questions::Maker, width};
+use model::words::*;
 
 impl Maker<'_> {
     pub(super) fn new_cluster(&mut self) -> Call {
@@ -15,10 +12,7 @@ impl Maker<'_> {
         let any = (below(self.random, NODES), below(self.random, CLUSTERS));
         let (node, local) = inactive.unwrap_or(any);
         let read = password(self.random);
-        let write = match self.random.one_in(6) {
-            true => read,
-            false => password(self.random),
-        };
+        let write = if self.random.one_in(6) { read } else { password(self.random) };
         Call::NewCluster {
             node: self.near(node, NODES),
             local: self.near(local, CLUSTERS),
@@ -63,9 +57,6 @@ impl Maker<'_> {
             1 => u16::MAX,
             _ => random.number() as u16,
         };
-        Call::weaken(
-            mask & width.flat() | above & !width.flat(),
-            self.presented(&handle),
-        )
+        Call::weaken(mask & width.flat() | above & !width.flat(), self.presented(&handle))
     }
 }

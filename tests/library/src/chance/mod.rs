@@ -10,9 +10,8 @@ pub mod questions;
 pub mod stores;
 pub mod words;
 
-use model::handle::{Password, Width};
-use model::random::Random;
-use model::sizes::PASSWORD_BYTES;
+pub use model::generate::{bit, bits, gapped};
+use model::words::*;
 
 /// Few passwords, so that equal ones meet; sixteen zero bytes are one of them.
 const PASSWORDS: u64 = 5;
@@ -44,23 +43,9 @@ pub fn width(random: &mut Random) -> Width {
     Width::ALL[below(random, Width::ALL.len())]
 }
 
-/// A subselector of this width.
-pub fn bits(random: &mut Random, width: Width) -> u16 {
-    random.number() as u16 & width.flat()
-}
-
-/// One of its bits.
-pub fn bit(random: &mut Random, width: Width) -> u16 {
-    1 << below(random, width.segments())
-}
-
 /// Tries `case` as often as told, each time with chance of its own. An `Err` comes back with the
 /// number of its case, which the seed repeats.
-pub fn cases(
-    seed: u64,
-    count: u64,
-    mut case: impl FnMut(&mut Random) -> Result<(), String>,
-) -> Result<(), String> {
+pub fn cases(seed: u64, count: u64, mut case: impl FnMut(&mut Random) -> Result<(), String>) -> Result<(), String> {
     let mut seeds = Random::from_seed(seed);
     for at in 1..=count {
         let mut random = Random::from_seed(seeds.number());

@@ -3,21 +3,15 @@
 use super::handles::{self, Wish};
 use super::stores::gaps;
 use super::{below, bytes, fill, near, password};
-use crate::ffi::HANDLE_MAX;
-use crate::guard::handles::Behind;
-use crate::question::{Question, BEYOND, LOOK, READ_MODE, VALIDATION, WRITE_MODE};
-use model::call::{self, Call};
-use model::handle::{Handle, HandleBytes, Password};
-use model::random::Random;
-use model::sizes::{NODES, NODE_BYTES, SEGMENTS};
-use model::store::{Cluster, Mode, Segment, Store};
+use crate::{ffi::HANDLE_MAX, guard::handles::Behind, words::*};
+use model::call;
 
 /// Codes for single calls: all alike.
 pub const EVENLY: [u8; 13] = [1, 2, 3, 4, 5, 6, 7, 8, 9, 10, 11, VALIDATION, LOOK];
 /// Codes for rows of calls: what fills the store comes more often than what empties it.
 pub const FILLING: [u8; 34] = [
-    1, 1, 1, 2, 3, 3, 3, 3, 3, 4, 5, 5, 5, 5, 6, 6, 6, 6, 7, 7, 8, 8, 9, 9, 10, 10, 11, 11, 11,
-    VALIDATION, LOOK, LOOK, LOOK, LOOK,
+    1, 1, 1, 2, 3, 3, 3, 3, 3, 4, 5, 5, 5, 5, 6, 6, 6, 6, 7, 7, 8, 8, 9, 9, 10, 10, 11, 11, 11, VALIDATION, LOOK, LOOK,
+    LOOK, LOOK,
 ];
 
 /// Modes are numbered from 1.
@@ -41,23 +35,18 @@ impl Maker<'_> {
             call::DELETE_CLUSTER => self.delete_cluster(),
             call::NEW_SEGMENT => self.new_segment(),
             call::DELETE_SEGMENT => self.delete_segment(),
-            call::READ => self.read(),
-            call::WRITE => self.write(),
+            call::READ => self.moving(Mode::Read, Call::read),
+            call::WRITE => self.moving(Mode::Write, Call::write),
             call::WEAKEN => self.weaken(),
-            call::REDUCE => self.reduce(),
+            call::REDUCE => self.with_mode(Call::reduce),
             call::NEW_PASSWORD => self.new_password(),
             call::FREEZE => self.freeze(),
             call::JOIN => self.join(),
             LOOK => self.look(),
-            _ => self.validate(),
+            _ => self.with_mode(Call::validate),
         };
         let buffer_bytes = self.buffer_bytes(&call);
-        Question {
-            call,
-            beyond: self.beyond(),
-            buffer: bytes(self.random, buffer_bytes),
-            behind: self.behind(),
-        }
+        Question { call, beyond: self.beyond(), buffer: bytes(self.random, buffer_bytes), behind: self.behind() }
     }
 
     /// Zeros, as in a handle that was given, or anything.
@@ -71,10 +60,7 @@ impl Maker<'_> {
 
     /// A number that no `u32` holds. In fewer bytes some of them would be small.
     fn beyond(&mut self) -> usize {
-        let bound = match self.random.one_in(2) {
-            true => NODES,
-            false => SEGMENTS + 1,
-        };
+        let bound = if self.random.one_in(2) { NODES } else { SEGMENTS + 1 };
         let small = below(self.random, bound);
         match self.random.below(4) {
             0 => usize::MAX,
@@ -99,10 +85,7 @@ impl Maker<'_> {
 
     /// A mode, and mostly its number.
     pub(super) fn mode(&mut self) -> (Mode, u32) {
-        let (mode, number) = match self.random.one_in(2) {
-            true => (Mode::Read, READ_MODE),
-            false => (Mode::Write, WRITE_MODE),
-        };
+        let (mode, number) = if self.random.one_in(2) { (Mode::Read, READ_MODE) } else { (Mode::Write, WRITE_MODE) };
         match self.random.one_in(20) {
             true => (mode, self.random.byte().into()),
             false => (mode, self.near(number as usize, MODES)),
@@ -110,12 +93,7 @@ impl Maker<'_> {
     }
 
     pub(super) fn handle(&mut self, mode: Mode, primary: bool, segments: bool) -> Handle {
-        let wish = Wish {
-            mode,
-            primary,
-            segments,
-            width: None,
-        };
+        let wish = Wish { mode, primary, segments, width: None };
         handles::handle(self.random, self.store, self.given, wish)
     }
 
@@ -125,8 +103,7 @@ impl Maker<'_> {
     }
 
     fn cluster(&self, handle: &Handle) -> Option<&Cluster> {
-        let (node, local) = (usize::from(handle.node), usize::from(handle.local));
-        self.store.cluster(node, local)
+        self.store.cluster_of(handle)
     }
 
     pub(super) fn current_node(&mut self, handle: &Handle) -> u32 {
@@ -158,10 +135,7 @@ impl Maker<'_> {
     /// Often just what a gap of the node has room for, or one byte more.
     fn size(&mut self, handle: &Handle) -> u32 {
         let node = usize::from(handle.node) % NODES;
-        let gap = self
-            .random
-            .pick(&gaps(self.store, node))
-            .map(|gap| gap.length);
+        let gap = self.random.pick(&gaps(self.store, node)).map(|gap| gap.length);
         let likely = match (self.random.below(8), gap) {
             (0, Some(gap)) => gap,
             (1, Some(gap)) => gap + 1,
@@ -176,9 +150,7 @@ impl Maker<'_> {
     /// For reads and writes, mostly about as many bytes as the segment has; nothing else is lent
     /// a buffer.
     fn buffer_bytes(&mut self, call: &Call) -> usize {
-        let (true, Some(segment)) = (call.moves_bytes(), call.segment()) else {
-            return 0;
-        };
+        let (true, Some(segment)) = (call.moves_bytes(), call.segment()) else { return 0 };
         let handle = call.handle();
         let cluster = handle.and_then(|handle| self.cluster(&handle));
         let found = cluster.and_then(|cluster| cluster.segments.get(segment as usize));
@@ -214,35 +186,21 @@ impl Maker<'_> {
     fn delete_segment(&mut self) -> Call {
         let handle = self.handle(Mode::Write, true, true);
         let present = !self.random.one_in(8);
-        Call::delete_segment(
-            self.current_node(&handle),
-            self.segment(&handle, present),
-            self.presented(&handle),
-        )
+        Call::delete_segment(self.current_node(&handle), self.segment(&handle, present), self.presented(&handle))
     }
 
-    fn read(&mut self) -> Call {
-        let handle = self.handle(Mode::Read, false, true);
+    /// A read or a write.
+    fn moving(&mut self, mode: Mode, call: fn(u32, HandleBytes) -> Call) -> Call {
+        let handle = self.handle(mode, false, true);
         let present = !self.random.one_in(8);
-        Call::read(self.segment(&handle, present), self.presented(&handle))
+        call(self.segment(&handle, present), self.presented(&handle))
     }
 
-    fn write(&mut self) -> Call {
-        let handle = self.handle(Mode::Write, false, true);
-        let present = !self.random.one_in(8);
-        Call::write(self.segment(&handle, present), self.presented(&handle))
-    }
-
-    fn reduce(&mut self) -> Call {
+    /// A reduction or a validation.
+    fn with_mode(&mut self, call: fn(u32, HandleBytes) -> Call) -> Call {
         let (mode, number) = self.mode();
         let handle = self.handle(mode, false, true);
-        Call::reduce(number, self.presented(&handle))
-    }
-
-    fn validate(&mut self) -> Call {
-        let (mode, number) = self.mode();
-        let handle = self.handle(mode, false, true);
-        Call::validate(number, self.presented(&handle))
+        call(number, self.presented(&handle))
     }
 
     fn new_password(&mut self) -> Call {

@@ -1,16 +1,8 @@
 //! Sound stores by chance, from empty ones to ones in which nothing is left, with clusters of every width.
 
-use super::handles::everywhere;
-use super::words::WORD;
-use super::{below, fill, passwords, width};
-use crate::image::encode;
-use crate::question::Held;
-use model::handle::Width;
-use model::random::Random;
-use model::sizes::{CLUSTERS, MEMORY_BYTES, NODE_BYTES};
-use model::store::{Cluster, Extent, Segment, Store};
-use std::collections::BTreeSet;
-use std::ops::Range;
+use super::{below, fill, handles::everywhere, passwords, width, words::WORD};
+use crate::words::*;
+use std::{collections::BTreeSet, ops::Range};
 
 /// How many of so many segments are frozen is chosen for a store.
 const FROZEN_OF: u64 = 8;
@@ -32,13 +24,7 @@ pub enum Fill {
 }
 
 impl Fill {
-    pub const ALL: [Fill; 5] = [
-        Fill::Empty,
-        Fill::Partial,
-        Fill::NoByteFree,
-        Fill::NoSegmentAbsent,
-        Fill::AtWords,
-    ];
+    pub const ALL: [Fill; 5] = [Fill::Empty, Fill::Partial, Fill::NoByteFree, Fill::NoSegmentAbsent, Fill::AtWords];
 
     /// One of them, the partial one most often.
     pub fn by_chance(random: &mut Random) -> Fill {
@@ -100,10 +86,7 @@ fn freeze_one_of_each(random: &mut Random, store: &mut Store) {
 pub fn held(random: &mut Random, store: &Store) -> Held {
     let mut memory = [0; MEMORY_BYTES];
     fill(random, &mut memory);
-    Held {
-        image: encode(store),
-        memory,
-    }
+    Held { image: encode(store), memory }
 }
 
 fn partial(random: &mut Random, clusters: &mut [Cluster; CLUSTERS]) {
@@ -171,9 +154,8 @@ pub fn active_of(random: &mut Random, width: Width) -> Cluster {
 
 /// The active clusters' segments, as local number and segment, in any order.
 fn places(random: &mut Random, clusters: &[Cluster; CLUSTERS]) -> Vec<(usize, usize)> {
-    let mut places: Vec<(usize, usize)> = (0..CLUSTERS)
-        .flat_map(|local| segments_of(&clusters[local]).map(move |segment| (local, segment)))
-        .collect();
+    let mut places: Vec<(usize, usize)> =
+        (0..CLUSTERS).flat_map(|local| segments_of(&clusters[local]).map(move |segment| (local, segment))).collect();
     random.shuffle(&mut places);
     places
 }
@@ -237,9 +219,7 @@ pub fn segments(store: &Store) -> Vec<(usize, usize, usize)> {
 
 /// The present segments of a node in the order of their bases.
 pub fn extents(store: &Store, node: usize) -> Vec<Extent> {
-    let segments = store.clusters[node]
-        .iter()
-        .flat_map(|cluster| &cluster.segments);
+    let segments = store.clusters[node].iter().flat_map(|cluster| &cluster.segments);
     let mut extents: Vec<Extent> = segments.filter_map(Segment::extent).collect();
     extents.sort();
     extents
@@ -249,10 +229,7 @@ pub fn extents(store: &Store, node: usize) -> Vec<Extent> {
 pub fn gaps(store: &Store, node: usize) -> Vec<Extent> {
     let mut base = 0;
     let mut gaps = Vec::new();
-    let end = Extent {
-        base: NODE_BYTES,
-        length: 0,
-    };
+    let end = Extent { base: NODE_BYTES, length: 0 };
     for taken in extents(store, node).into_iter().chain([end]) {
         if base < taken.base {
             let length = taken.base - base;

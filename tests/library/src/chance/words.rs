@@ -2,9 +2,7 @@
 //! of 64.
 
 use super::below;
-use model::random::Random;
-use model::sizes::NODE_BYTES;
-use model::store::Extent;
+use model::words::*;
 
 pub const WORD: usize = 64;
 const WORDS: usize = NODE_BYTES / WORD;
@@ -51,14 +49,8 @@ pub fn extent(random: &mut Random) -> Extent {
 pub fn sharing_a_byte(random: &mut Random, beside: Beside) -> [Extent; 2] {
     let shared = beside.byte_of(below(random, WORDS));
     let before = length(random, shared + 1);
-    let first = Extent {
-        base: shared + 1 - before,
-        length: before,
-    };
-    let second = Extent {
-        base: shared,
-        length: length(random, NODE_BYTES - shared),
-    };
+    let first = Extent { base: shared + 1 - before, length: before };
+    let second = Extent { base: shared, length: length(random, NODE_BYTES - shared) };
     [first, second]
 }
 
@@ -68,33 +60,18 @@ pub fn one_inside(random: &mut Random) -> [Extent; 2] {
     let last = first + 2 + below(random, WORDS - 2 - first);
     let from = first * WORD + below(random, WORD);
     let to = last * WORD + 1 + below(random, WORD);
-    let outer = Extent {
-        base: from,
-        length: to - from,
-    };
+    let outer = Extent { base: from, length: to - from };
     let word = (first + 1 + below(random, last - first - 1)) * WORD;
     let inner = match random.below(3) {
-        0 => Extent {
-            base: word,
-            length: WORD,
-        },
-        1 => Extent {
-            base: word + WORD - 1,
-            length: 1,
-        },
-        _ => Extent {
-            base: word + below(random, WORD),
-            length: 1,
-        },
+        0 => Extent { base: word, length: WORD },
+        1 => Extent { base: word + WORD - 1, length: 1 },
+        _ => Extent { base: word + below(random, WORD), length: 1 },
     };
     [outer, inner]
 }
 
 /// The whole node, and another.
 pub fn with_the_node(random: &mut Random) -> [Extent; 2] {
-    let node = Extent {
-        base: 0,
-        length: NODE_BYTES,
-    };
+    let node = Extent { base: 0, length: NODE_BYTES };
     [node, extent(random)]
 }

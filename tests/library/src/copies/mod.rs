@@ -6,31 +6,24 @@ mod count;
 use crate::chance::handles::at_width;
 use crate::chance::questions::{Maker, FILLING};
 use crate::chance::stores::{self, Fill};
-use crate::chance::{below, cases, fill, password, passwords, width};
-use crate::compare::{by_model, same_bytes, Guard};
-use crate::image::{decode, passwords_at, record_at};
 use crate::pairs::{ask_both, parts_of, set_apart, validates, Pair};
-use crate::question::{change_handle, Answer, Held, Question};
-pub use count::{Count, Kept};
-use model::call::Call;
-use model::handle::{derive, Handle, Password};
-use model::random::Random;
-use model::store::{Cluster, Mode, Store};
-use model::table::VIOLATED_PROTECTION;
+use crate::words::*;
+pub use count::met;
+use model::met::Met;
 use std::ops::Range;
 
 /// Calls of one list.
 pub const LIST_CALLS: u64 = 100;
 
-pub fn compare(guard: Guard, seed: u64, pairs: u64) -> Result<Count, String> {
-    let mut count = Count::default();
-    cases(seed, pairs, |random| one(guard, random, &mut count))?;
-    Ok(count)
+pub fn compare(guard: Guard, seed: u64, pairs: u64) -> Result<Met, String> {
+    let mut met = met();
+    cases(seed, pairs, |random| one(guard, random, &mut met))?;
+    Ok(met)
 }
 
-fn one(guard: Guard, random: &mut Random, count: &mut Count) -> Result<(), String> {
+fn one(guard: Guard, random: &mut Random, met: &mut Met) -> Result<(), String> {
     let mut pair = by_chance(random);
-    count.note_pair(&pair);
+    count::note_pair(met, &pair);
     let own = parts_of(&pair.stores()?[0], pair.apart);
     let start = pair.copies.clone();
     let mut given = Vec::new();
@@ -39,7 +32,7 @@ fn one(guard: Guard, random: &mut Random, count: &mut Count) -> Result<(), Strin
         let question = pair.question(random, &stores, &given);
         let answer = ask_both(guard, &mut pair.copies, &question, |_| Ok(()))
             .map_err(|what| format!("call {at} of the list: {what}"))?;
-        count.note(&pair, &stores, &question, &answer);
+        count::note(met, &pair, &stores, &question, &answer);
         given.extend(answer.handles(&question));
     }
     pair.agree(&own)?;
@@ -56,10 +49,7 @@ fn by_chance(random: &mut Random) -> Pair {
     for part in parts_of(&store, apart) {
         fill(random, &mut second.memory[part]);
     }
-    Pair {
-        copies: [first, second],
-        apart,
-    }
+    Pair { copies: [first, second], apart }
 }
 
 impl Pair {
@@ -68,18 +58,13 @@ impl Pair {
     fn question(&self, random: &mut Random, stores: &[Store; 2], given: &[Handle]) -> Question {
         loop {
             let store = &stores[below(random, stores.len())];
-            let maker = &mut Maker {
-                random,
-                store,
-                given,
-            };
+            let maker = &mut Maker { random, store, given };
             let mut question = maker.question(&FILLING);
             if random.one_in(4) {
                 self.aim(random, store, &mut question);
             }
             let weakening = matches!(question.call, Call::Weaken { .. });
-            let opens =
-                |handle: Handle| self.is_apart(&handle) && validates(stores, &handle, &Mode::ALL);
+            let opens = |handle: Handle| self.is_apart(&handle) && validates(stores, &handle, &Mode::ALL);
             if weakening || !question.call.presented().any(opens) {
                 return question;
             }
@@ -95,10 +80,7 @@ impl Pair {
             aimed.remove(below(random, 2));
         }
         // As wide as the cluster, as a rule, so that nothing but passwords speaks against it.
-        let wide = match random.one_in(4) {
-            true => width(random),
-            false => cluster.known_width().expect("it is active"),
-        };
+        let wide = if random.one_in(4) { width(random) } else { cluster.known_width().expect("it is active") };
         for bytes in aimed {
             change_handle(bytes, |handle| {
                 handle.node = self.apart.0 as u16;
@@ -121,12 +103,7 @@ impl Pair {
             password[0] ^= 1;
             password
         };
-        let choices = [
-            password(random),
-            near(cluster.read),
-            near(cluster.write),
-            cluster.read,
-        ];
+        let choices = [password(random), near(cluster.read), near(cluster.write), cluster.read];
         if !cluster.has_width(handle.width()) {
             let primary = [cluster.read, cluster.write][below(random, 2)];
             handle.password = derive(&primary, &handle.selector);
@@ -139,16 +116,8 @@ impl Pair {
     /// cluster.
     fn kept_by_the_passwords(&self, question: &Question, answer: &Answer) -> bool {
         let [copy, _] = &self.copies;
-        let (Some(store), VIOLATED_PROTECTION) = (decode(&copy.image), answer.reply.number) else {
-            return false;
-        };
-        let Some(mode) = question
-            .call
-            .needed_mode()
-            .filter(|_| self.names_apart(question))
-        else {
-            return false;
-        };
+        let (Some(store), VIOLATED_PROTECTION) = (decode(&copy.image), answer.reply.number) else { return false };
+        let Some(mode) = question.call.needed_mode().filter(|_| self.names_apart(question)) else { return false };
         let primary = *store.clusters[self.apart.0][self.apart.1].primary(mode);
         let opening = question.with_handles(|handle| {
             handle.password = derive(&primary, &handle.selector);
@@ -175,11 +144,7 @@ impl Pair {
         let record = record_at(self.apart.0, self.apart.1);
         for (before, after) in start.iter().zip(&self.copies) {
             let (image, memory) = (&before.image, &before.memory);
-            same_bytes(
-                "records set apart",
-                &image[record.clone()],
-                &after.image[record.clone()],
-            )?;
+            same_bytes("records set apart", &image[record.clone()], &after.image[record.clone()])?;
             for part in own {
                 let now = &after.memory[part.clone()];
                 same_bytes("segments set apart", &memory[part.clone()], now)?;

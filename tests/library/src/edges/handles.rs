@@ -1,10 +1,7 @@
 //! Handles from bytes that came from elsewhere: every length that a byte can tell, and more.
 
-use crate::chance::{bytes, cases};
-use crate::compare::same_bytes;
 use crate::ffi::{gelmuszta_handle, HANDLE_MAX};
-use model::handle::Width;
-use model::table::{DONE, LENGTH};
+use crate::words::*;
 
 /// Something that makes a handle of bytes; [`crate::guard::handle_of`] is the one to be compared.
 pub type Maker<'a> = &'a dyn Fn(&[u8]) -> (u8, gelmuszta_handle);

@@ -2,25 +2,13 @@
 
 use super::{around, narrow};
 use crate::chance::stores::{self, segments_of, Fill};
-use crate::chance::{below, cases};
-use crate::compare::{ask, Guard, Sides};
-use crate::question::{Held, Question, READ_MODE, WRITE_MODE};
-use model::call::Call;
-use model::handle::{Handle, Selector, Width};
-use model::random::Random;
-use model::sizes::{CLUSTERS, NODES};
-use model::store::{Mode, Segment};
+use crate::words::*;
 
 /// Modes are numbered from 1.
 const MODES: usize = WRITE_MODE as usize + 1;
 /// What the two handles reference, as far as they have room: some each, the same, nothing, and all but one.
-const SEGMENTS: [(u16, u16); 5] = [
-    (0x1803, 0x6018),
-    (0x3c3c, 0x0f0c),
-    (0x2022, 0x2022),
-    (0x0000, 0x0000),
-    (0x7f76, 0x8081),
-];
+const SEGMENTS: [(u16, u16); 5] =
+    [(0x1803, 0x6018), (0x3c3c, 0x0f0c), (0x2022, 0x2022), (0x0000, 0x0000), (0x7f76, 0x8081)];
 
 /// Two valid handles of one cluster.
 struct Both {
@@ -60,20 +48,12 @@ pub fn joins(guard: Guard, seed: u64) -> Result<(u64, u64), String> {
 impl Arguments {
     fn question(&self) -> Question {
         let [handle, other] = self.handles.map(|handle| handle.to_bytes());
-        Question {
-            beyond: self.mode,
-            ..Question::of(Call::join(narrow(self.mode), handle, other))
-        }
+        Question { beyond: self.mode, ..Question::of(Call::join(narrow(self.mode), handle, other)) }
     }
 }
 
 impl Both {
-    fn by_chance(
-        random: &mut Random,
-        (node, mode): (usize, u32),
-        width: Width,
-        segments: (u16, u16),
-    ) -> Both {
+    fn by_chance(random: &mut Random, (node, mode): (usize, u32), width: Width, segments: (u16, u16)) -> Both {
         let mut store = stores::store(random, Fill::Partial);
         let local = below(random, CLUSTERS);
         let cluster = &mut store.clusters[node][local];
@@ -97,14 +77,8 @@ impl Both {
 
     /// In each all but one are right.
     fn arguments(&self) -> Vec<Arguments> {
-        let modes = around(self.mode, MODES).map(|mode| Arguments {
-            mode,
-            handles: self.handles,
-        });
-        let named = self.names().into_iter().map(|handles| Arguments {
-            mode: self.mode,
-            handles,
-        });
+        let modes = around(self.mode, MODES).map(|mode| Arguments { mode, handles: self.handles });
+        let named = self.names().into_iter().map(|handles| Arguments { mode: self.mode, handles });
         modes.chain(named).collect()
     }
 
@@ -118,16 +92,8 @@ impl Both {
         names
             .flat_map(|(node, local)| {
                 let [first, second] = self.handles;
-                let named = |handle| Handle {
-                    node,
-                    local,
-                    ..handle
-                };
-                [
-                    [named(first), second],
-                    [first, named(second)],
-                    [named(first), named(second)],
-                ]
+                let named = |handle| Handle { node, local, ..handle };
+                [[named(first), second], [first, named(second)], [named(first), named(second)]]
             })
             .collect()
     }

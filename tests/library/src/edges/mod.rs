@@ -9,17 +9,9 @@ mod widths;
 
 use crate::chance::stores::{self, active_of, present, Fill};
 use crate::chance::words::{Beside, LENGTHS};
-use crate::chance::{below, cases};
-use crate::compare::{ask, is_sound, Guard, Sides};
-use crate::image::{encode, Image, READ_AT, RECORD_BYTES, SEGMENTS_AT};
-use crate::question::{Held, Question, BEYOND};
+use crate::words::*;
 pub use handles::{handles, Maker};
 pub use joins::joins;
-use model::call::Call;
-use model::handle::{Handle, Width};
-use model::random::Random;
-use model::sizes::{CLUSTERS, MEMORY_BYTES, NODES, NODE_BYTES, SEGMENTS};
-use model::store::{Cluster, Extent, Mode, Store};
 pub use widths::{lengths, masks, new_clusters, segments};
 
 /// Something that tells whether an image holds a sound store; [`crate::guard::is_sound`] is the one
@@ -30,16 +22,10 @@ pub type Judge<'a> = &'a dyn Fn(&mut Image) -> bool;
 const WORDS: [usize; 10] = [0, 1, 2, 3, 31, 32, 33, 62, 63, 64];
 
 /// Segments that are looked at and frozen: base and length.
+#[rustfmt::skip]
 const STRETCHES: [(usize, usize); 9] = [
-    (0, 1),
-    (0, NODE_BYTES - 1),
-    (0, NODE_BYTES),
-    (1, NODE_BYTES - 1),
-    (63, 2),
-    (255, 256),
-    (256, 255),
-    (NODE_BYTES - 2, 2),
-    (NODE_BYTES - 1, 1),
+    (0, 1), (0, NODE_BYTES - 1), (0, NODE_BYTES), (1, NODE_BYTES - 1), (63, 2), (255, 256), (256, 255),
+    (NODE_BYTES - 2, 2), (NODE_BYTES - 1, 1),
 ];
 /// Added to a number that is right, these are seen in its highest bytes alone.
 const HIGH: [usize; 5] = [1 << 8, 1 << 16, 1 << 32, 1 << 48, 1 << 63];
@@ -67,8 +53,7 @@ pub fn every_byte(judge: Judge, seed: u64) -> Result<u64, String> {
             let kept = held.image[at];
             for value in values(fill, at) {
                 held.image[at] = value;
-                same(judge, &mut held)
-                    .map_err(|what| format!("{fill:?} with byte {at} made {value}: {what}"))?;
+                same(judge, &mut held).map_err(|what| format!("{fill:?} with byte {at} made {value}: {what}"))?;
                 judged += 1;
             }
             held.image[at] = kept;
@@ -84,12 +69,9 @@ pub fn pairs_at_words(judge: Judge, seed: u64) -> Result<(u64, u64), String> {
     let (mut judged, mut sound) = (0, 0);
     cases(seed, 1, |random| {
         for (first, second) in pairs() {
-            let mut held = Held {
-                image: encode(&with_both(random, first, second)),
-                memory: [0; MEMORY_BYTES],
-            };
-            let is_sound = same(judge, &mut held)
-                .map_err(|what| format!("segments at {first:?} and {second:?}: {what}"))?;
+            let mut held = Held { image: encode(&with_both(random, first, second)), memory: [0; MEMORY_BYTES] };
+            let is_sound =
+                same(judge, &mut held).map_err(|what| format!("segments at {first:?} and {second:?}: {what}"))?;
             judged += 1;
             sound += u64::from(is_sound);
         }
@@ -99,19 +81,10 @@ pub fn pairs_at_words(judge: Judge, seed: u64) -> Result<(u64, u64), String> {
 }
 
 fn pairs() -> impl Iterator<Item = (Extent, Extent)> {
-    let bases = WORDS
-        .into_iter()
-        .flat_map(|word| Beside::ALL.map(|beside| beside.byte_of(word)));
-    let extents: Vec<Extent> = bases
-        .flat_map(|base| LENGTHS.map(|length| Extent { base, length }))
-        .collect();
+    let bases = WORDS.into_iter().flat_map(|word| Beside::ALL.map(|beside| beside.byte_of(word)));
+    let extents: Vec<Extent> = bases.flat_map(|base| LENGTHS.map(|length| Extent { base, length })).collect();
     let others = extents.clone();
-    extents.into_iter().flat_map(move |first| {
-        others
-            .clone()
-            .into_iter()
-            .map(move |second| (first, second))
-    })
+    extents.into_iter().flat_map(move |first| others.clone().into_iter().map(move |second| (first, second)))
 }
 
 /// A store with two segments and no more, in one cluster of a node or in two of them, which have room for sixteen.
@@ -138,14 +111,12 @@ fn same(judge: Judge, held: &mut Held) -> Result<bool, String> {
     let found = judge(&mut held.image);
     match found == expected && held.image == before {
         true => Ok(expected),
-        false => Err(format!(
-            "sound is {expected} in the model, {found} in the library"
-        )),
+        false => Err(format!("sound is {expected} in the model, {found} in the library")),
     }
 }
 
-/// Each stretch in each node, in a cluster of each width, looked at with every argument where it changes. Gives how many
-/// looks there were, and how many of them showed something.
+/// Each stretch in each node, in a cluster of each width, looked at with every argument where it changes. Gives how
+/// many looks there were, and how many of them showed something.
 pub fn looks(guard: Guard, seed: u64) -> Result<(u64, u64), String> {
     around_segments(guard, seed, |lone, current, segment| {
         let primary = lone.handle(Mode::Read);
@@ -207,14 +178,7 @@ impl LoneSegment {
         let cluster = &mut store.clusters[node][local];
         *cluster = active_of(random, width);
         cluster.segments[segment] = present(extent.base, extent.length);
-        LoneSegment {
-            cluster: *cluster,
-            held: stores::held(random, &store),
-            node,
-            local,
-            width,
-            segment,
-        }
+        LoneSegment { cluster: *cluster, held: stores::held(random, &store), node, local, width, segment }
     }
 
     fn handle(&self, mode: Mode) -> Handle {
@@ -255,8 +219,5 @@ fn narrow(number: usize) -> u32 {
 
 /// At most one of the two is more than four bytes hold.
 fn wide(call: Call, current: usize, segment: usize) -> Question {
-    Question {
-        beyond: current.max(segment),
-        ..Question::of(call)
-    }
+    Question { beyond: current.max(segment), ..Question::of(call) }
 }

@@ -4,15 +4,7 @@
 use super::{around, narrow, HIGH};
 use crate::chance::handles::at_width;
 use crate::chance::stores::{self, active_of, present};
-use crate::chance::{bytes, cases, fill};
-use crate::compare::{ask, Guard, Sides};
-use crate::image::record_at;
-use crate::question::{Held, Question, READ_MODE};
-use model::call::Call;
-use model::handle::{derive, Handle, Selector, Width};
-use model::random::Random;
-use model::sizes::{NODES, PASSWORD_BYTES, SEGMENTS};
-use model::store::{Mode, Store};
+use crate::words::*;
 
 /// Widths are tried from 0 up to so many: one more byte is begun.
 const MOST_WIDTH: usize = 300;
@@ -40,8 +32,8 @@ impl Known {
         *cluster = active_of(random, width);
         (cluster.read, cluster.write) = (random.bytes(), random.bytes());
         cluster.segments[THERE as usize] = present(100, LENGTH);
-        let [reader, writer] = [cluster.read, cluster.write]
-            .map(|password| Handle::primary(width, NODE as u16, LOCAL as u8, password));
+        let [reader, writer] =
+            [cluster.read, cluster.write].map(|password| Handle::primary(width, NODE as u16, LOCAL as u8, password));
         let weaken = |mask| reader.weaken(mask).expect("all are flat").to_bytes();
         let (one, other) = (weaken(0b0110), weaken(0b0100));
         let (node, segment, mode) = (NODE as u32, THERE, READ_MODE);
@@ -61,15 +53,8 @@ impl Known {
             Call::Reduce { mode, handle: one.clone() },
             Call::Join { mode, handle: one, other },
         ];
-        let question = |call| Question {
-            buffer: vec![0x33; LENGTH],
-            ..Question::of(call)
-        };
-        Known {
-            held: stores::held(random, &store),
-            store,
-            questions: calls.map(question).to_vec(),
-        }
+        let question = |call| Question { buffer: vec![0x33; LENGTH], ..Question::of(call) };
+        Known { held: stores::held(random, &store), store, questions: calls.map(question).to_vec() }
     }
 
     /// As it is, with the store not sound, and with the image damaged; neither touches the cluster.
@@ -82,10 +67,7 @@ impl Known {
 }
 
 /// Each case with a cluster of each width.
-fn with_each(
-    seed: u64,
-    mut case: impl FnMut(&mut Random, Width, &Known) -> Result<(), String>,
-) -> Result<(), String> {
+fn with_each(seed: u64, mut case: impl FnMut(&mut Random, Width, &Known) -> Result<(), String>) -> Result<(), String> {
     let mut widths = Width::ALL.into_iter();
     cases(seed, Width::ALL.len() as u64, |random| {
         let width = widths.next().expect("there are as many cases");
@@ -102,17 +84,15 @@ fn put(guard: Guard, held: &Held, question: &Question, asked: &mut Asked) -> Res
     Ok(())
 }
 
-/// Every call with every length byte in every handle that it takes, alone and, of two, in both; what a handle of 28 bytes
-/// has behind its length is anything.
+/// Every call with every length byte in every handle that it takes, alone and, of two, in both; what a handle of 28
+/// bytes has behind its length is anything.
 pub fn lengths(guard: Guard, seed: u64) -> Result<Asked, String> {
     let mut asked = (0, 0);
     with_each(seed, |random, _, known| {
         for question in &known.questions {
             let handles = question.call.presented_bytes().count();
-            for (held, chosen) in known
-                .each()
-                .iter()
-                .flat_map(|held| (1..1 << handles).map(move |chosen| (held, chosen)))
+            for (held, chosen) in
+                known.each().iter().flat_map(|held| (1..1 << handles).map(move |chosen| (held, chosen)))
             {
                 for length in 0..=u8::MAX.into() {
                     let more = bytes(random, length);
@@ -138,11 +118,7 @@ pub fn segments(guard: Guard, seed: u64) -> Result<Asked, String> {
     let mut asked = (0, 0);
     with_each(seed, |_, own, known| {
         let cluster = &known.store.clusters[NODE][LOCAL];
-        for (question, width) in known
-            .questions
-            .iter()
-            .flat_map(|question| Width::ALL.map(|width| (question, width)))
-        {
+        for (question, width) in known.questions.iter().flat_map(|question| Width::ALL.map(|width| (question, width))) {
             let mode = question.call.needed_mode().unwrap_or(Mode::Read);
             let wide = question.with_handles(|handle| {
                 if width != own {
@@ -189,10 +165,7 @@ pub fn masks(guard: Guard, seed: u64) -> Result<Asked, String> {
     let mut asked = (0, 0);
     with_each(seed, |_, width, known| {
         let flat = width.flat();
-        let selectors = [
-            [flat & 0x7bda, flat, flat, flat],
-            [flat - 1, flat - 2, flat - 1, flat - 2],
-        ];
+        let selectors = [[flat & 0x7bda, flat, flat, flat], [flat - 1, flat - 2, flat - 1, flat - 2]];
         for subselectors in selectors {
             let selector = Selector::new(width, subselectors);
             let (node, local) = (NODE as u16, LOCAL as u8);

@@ -2,31 +2,22 @@
 
 use super::UNWRITTEN;
 use crate::ffi::{gelmuszta_handle, HANDLE_MAX};
-use model::call::Call;
-use model::handle::HandleBytes;
+use model::words::*;
 
 /// What lies behind the length of the handles that a call is lent, from there on.
 pub type Behind = [u8; HANDLE_MAX];
 
 impl gelmuszta_handle {
     /// As it is before the call, so that what is not written is seen.
-    pub const UNWRITTEN: gelmuszta_handle = gelmuszta_handle {
-        bytes: [UNWRITTEN; HANDLE_MAX],
-        length: UNWRITTEN,
-    };
+    pub const UNWRITTEN: gelmuszta_handle = gelmuszta_handle { bytes: [UNWRITTEN; HANDLE_MAX], length: UNWRITTEN };
 
     /// As a refusal leaves it.
-    pub const NONE: gelmuszta_handle = gelmuszta_handle {
-        bytes: [0; HANDLE_MAX],
-        length: 0,
-    };
+    pub const NONE: gelmuszta_handle = gelmuszta_handle { bytes: [0; HANDLE_MAX], length: 0 };
 
     /// The first of these bytes, as many as there is room for, what lies behind them, and how many they are.
     pub fn of(bytes: &[u8], behind: &Behind) -> gelmuszta_handle {
-        let mut held = gelmuszta_handle {
-            bytes: *behind,
-            length: u8::try_from(bytes.len()).expect("a length is a byte"),
-        };
+        let mut held =
+            gelmuszta_handle { bytes: *behind, length: u8::try_from(bytes.len()).expect("a length is a byte") };
         let own = bytes.len().min(HANDLE_MAX);
         held.bytes[..own].copy_from_slice(&bytes[..own]);
         held
@@ -50,13 +41,8 @@ pub struct Presented {
 
 impl Presented {
     pub fn of(call: &Call, behind: &Behind) -> Presented {
-        let mut handles = call
-            .presented_bytes()
-            .map(|bytes| gelmuszta_handle::of(bytes, behind));
+        let mut handles = call.presented_bytes().map(|bytes| gelmuszta_handle::of(bytes, behind));
         let mut next = || handles.next().unwrap_or(gelmuszta_handle::NONE);
-        Presented {
-            handle: next(),
-            other: next(),
-        }
+        Presented { handle: next(), other: next() }
     }
 }

@@ -11,14 +11,8 @@ mod calls;
 pub mod handles;
 
 use crate::ffi::{self, gelmuszta_handle, gelmuszta_image, gelmuszta_memory, gelmuszta_password};
-use crate::image::{decode, encode, Image};
-use crate::question::{Answer, Held, Memory, Question, BEYOND};
-use calls::weaken;
+use crate::words::*;
 use handles::Presented;
-use model::call::{Call, Reply};
-use model::handle::Password;
-use model::sizes::PASSWORD_BYTES;
-use model::store::Store;
 use std::ptr::{from_mut, from_ref};
 
 /// What outputs hold before the call, so that one that is not written is seen.
@@ -63,22 +57,14 @@ pub fn handle_of(bytes: &[u8]) -> (u8, gelmuszta_handle) {
 }
 
 pub fn convert(password: &Password, parameter: u16) -> Password {
-    let mut converted = gelmuszta_password {
-        bytes: [UNWRITTEN; PASSWORD_BYTES],
-    };
+    let mut converted = gelmuszta_password { bytes: [UNWRITTEN; PASSWORD_BYTES] };
     // SAFETY: see the head of this file.
     unsafe { ffi::gelmuszta_convert(password_of(password), parameter, &mut converted) }
     converted.bytes
 }
 
 /// Validates the handles of one width that stand in `handles` one after the other; gives how many were judged.
-pub fn validate_all(
-    held: &mut Held,
-    mode: usize,
-    width: usize,
-    handles: &[u8],
-    numbers: &mut [u8],
-) -> usize {
+pub fn validate_all(held: &mut Held, mode: usize, width: usize, handles: &[u8], numbers: &mut [u8]) -> usize {
     // SAFETY: see the head of this file.
     unsafe {
         ffi::gelmuszta_validate_all(
@@ -96,11 +82,7 @@ pub fn validate_all(
 /// Puts a question to the library.
 pub fn ask(held: &mut Held, question: &Question) -> Answer {
     let mut buffer = question.buffer.clone();
-    let lent = Lent {
-        image: &mut held.image,
-        memory: &mut held.memory,
-        buffer: &mut buffer,
-    };
+    let lent = Lent { image: &mut held.image, memory: &mut held.memory, buffer: &mut buffer };
     let presented = Presented::of(&question.call, &question.behind);
     let reply = lent.run(&question.call, &presented, question.beyond);
     Answer { reply, buffer }
@@ -110,16 +92,10 @@ pub fn ask(held: &mut Held, question: &Question) -> Answer {
 /// memory of another length cannot be lent, nor a handle whose length is no byte: the model answers then.
 pub fn run(store: &mut Store, memory: &mut [u8], buffer: &mut [u8], call: &Call) -> Reply {
     let mut lengths = call.presented_bytes().map(<[u8]>::len);
-    let (true, Ok(lent)) = (
-        lengths.all(|length| u8::try_from(length).is_ok()),
-        Memory::try_from(&*memory),
-    ) else {
+    let (true, Ok(lent)) = (lengths.all(|length| u8::try_from(length).is_ok()), Memory::try_from(&*memory)) else {
         return model::model::run(store, memory, buffer, call);
     };
-    let mut held = Held {
-        image: encode(store),
-        memory: lent,
-    };
+    let mut held = Held { image: encode(store), memory: lent };
     let mut question = Question::of(call.clone());
     question.buffer = buffer.to_vec();
     let answer = ask(&mut held, &question);
@@ -135,40 +111,4 @@ pub struct Lent<'a> {
     pub image: &'a mut Image,
     pub memory: &'a mut Memory,
     pub buffer: &'a mut [u8],
-}
-
-impl Lent<'_> {
-    /// Runs one call by the handles that it presents, with `beyond` in the place of arguments that are [`BEYOND`].
-    pub fn run(self, call: &Call, presented: &Presented, beyond: usize) -> Reply {
-        let wide = |number: &u32| match *number {
-            BEYOND => beyond,
-            number => number as usize,
-        };
-        let Presented { handle, other } = presented;
-        #[rustfmt::skip]
-        let reply = match call {
-            Call::NewCluster { node, local, width, read, write } => {
-                self.new_cluster((wide(node), wide(local)), *width, read, write)
-            }
-            Call::DeleteCluster { node, .. } => self.delete_cluster(wide(node), handle),
-            Call::NewSegment { node, segment, size, .. } => {
-                self.new_segment(wide(node), wide(segment), wide(size), handle)
-            }
-            Call::DeleteSegment { node, segment, .. } => {
-                self.delete_segment(wide(node), wide(segment), handle)
-            }
-            Call::Read { segment, .. } => self.read(wide(segment), handle),
-            Call::Write { segment, .. } => self.write(wide(segment), handle),
-            Call::Weaken { mask, .. } => weaken(*mask, handle),
-            Call::Reduce { mode, .. } => self.reduce(wide(mode), handle),
-            Call::NewPassword { mode, password, .. } => {
-                self.new_password(wide(mode), handle, password)
-            }
-            Call::Freeze { node, segment, .. } => self.freeze(wide(node), wide(segment), handle),
-            Call::Join { mode, .. } => self.join(wide(mode), handle, other),
-            Call::Look { node, segment, .. } => self.look(wide(node), wide(segment), handle),
-            Call::Validate { mode, .. } => self.validate(wide(mode), handle),
-        };
-        reply
-    }
 }

@@ -3,14 +3,8 @@
 use crate::chance::handles::of_another_width;
 use crate::chance::questions::{Maker, FILLING};
 use crate::chance::stores::gaps;
-use crate::chance::{below, near, passwords, width};
 use crate::pairs::{does, names, validates, Pair};
-use crate::question::{Question, LOOK, VALIDATION};
-use model::call::{Call, DELETE_CLUSTER, FREEZE};
-use model::handle::{derive, Handle};
-use model::random::Random;
-use model::sizes::CLUSTERS;
-use model::store::{Mode, Store};
+use crate::words::*;
 use std::ops::Range;
 
 /// What writers do at any time.
@@ -75,17 +69,10 @@ impl Asking {
         given: &[Handle],
         at: u64,
     ) -> Question {
-        let reads =
-            |handle: Handle| pair.is_apart(&handle) && validates(stores, &handle, &[Mode::Read]);
+        let reads = |handle: Handle| pair.is_apart(&handle) && validates(stores, &handle, &[Mode::Read]);
         loop {
             let store = &stores[below(random, stores.len())];
-            let question = Made {
-                random,
-                pair,
-                store,
-                given,
-            }
-            .question(&self.codes(at));
+            let question = Made { random, pair, store, given }.question(&self.codes(at));
             let call = &question.call;
             if call.needed_mode() != Some(Mode::Read) || !call.presented().any(reads) {
                 return question;
@@ -115,11 +102,7 @@ impl Made<'_> {
             }
             _ => {
                 let (random, store, given) = (self.random, self.store, self.given);
-                let maker = &mut Maker {
-                    random,
-                    store,
-                    given,
-                };
+                let maker = &mut Maker { random, store, given };
                 maker.question(&FILLING)
             }
         }
@@ -155,11 +138,7 @@ impl Made<'_> {
         let mut known = Store::starting();
         known.clusters[place.0][place.1] = self.store.clusters[place.0][place.1];
         let given = self.given.iter().filter(|handle| names(handle, place));
-        let maker = &mut Maker {
-            random: self.random,
-            store: &known,
-            given: &given.copied().collect::<Vec<Handle>>(),
-        };
+        let maker = &mut Maker { random: self.random, store: &known, given: &given.copied().collect::<Vec<Handle>>() };
         let mut question = maker.question(codes);
         if let (Call::NewSegment { size, .. }, true) = (&mut question.call, self.random.one_in(2)) {
             let gap = self.random.pick(&gaps(self.store, place.0)).copied();
@@ -209,14 +188,8 @@ impl Made<'_> {
 }
 
 /// The part of the memory that a write to a segment of the cluster is about.
-pub(super) fn written_part(
-    store: &Store,
-    pair: &Pair,
-    question: &Question,
-) -> Option<Range<usize>> {
-    let Call::Write { segment, handle } = &question.call else {
-        return None;
-    };
+pub(super) fn written_part(store: &Store, pair: &Pair, question: &Question) -> Option<Range<usize>> {
+    let Call::Write { segment, handle } = &question.call else { return None };
     let handle = Handle::from_bytes(handle)?;
     let (node, local) = Some(pair.apart).filter(|_| pair.is_apart(&handle))?;
     let segments = &store.clusters[node][local].segments;

@@ -1,109 +1,56 @@
 //! What lists of writers came to, and what they have to come to.
 
-use super::calls::written_part;
-use super::freed::Freed;
+use super::{calls::written_part, freed::Freed};
 use crate::pairs::{parts_of, validates, Pair};
-use crate::question::{Answer, Held, Question};
-use model::call::Call;
-use model::handle::{Handle, Width};
-use model::store::{Cluster, Mode, Store};
-use model::table::{DONE, FROZEN, INACTIVE, LENGTH, VIOLATED_PROTECTION};
-use std::collections::BTreeMap;
+use crate::words::*;
+use model::met::Met;
 
-/// What the freedom of writers allows. Where nothing else is said it is done, by handles that open the cluster for
-/// writing.
-#[derive(Clone, Copy, Debug, PartialEq, Eq, PartialOrd, Ord)]
-pub enum Deed {
-    Written,
-    /// By a handle that is not primary.
-    WrittenByAWeaker,
-    /// Data that lies there in one copy and not in the other.
-    WrittenGuess,
-    Made,
-    /// A segment of the cluster that lies where one of it was before.
-    MadeAgain,
-    Deleted,
-    Frozen,
-    Reduced,
-    Joined,
-    Validated,
-    NewPassword,
-    /// A new write password that is the read password of one copy and not of the other; and anything by handles that
-    /// open both modes in one copy and not in the other.
-    Guessed,
-    ByBothInOne,
-    ClusterDeleted,
-    /// Call 1 for the cluster, which was deleted; and a write and a deletion from then on.
-    MadeAnew,
-    WrittenAnew,
-    DeletedAnew,
-    /// Call 1 for it, at another width than it had; and a write by a handle of each width.
-    MadeWider,
-    MadeSmaller,
-    WrittenAt(Width),
-    /// 25, where a handle of another width asks for reading that has a password made from the read password.
-    ReaderOfAnotherWidth,
-    /// Call 7 with a handle that opens the cluster for reading.
-    ReaderWeakened,
-    /// 9 by handles that open the cluster for writing: for a read, for a look, and for another call in mode 1.
-    ReadRefused,
-    LookRefused,
-    Mode1Refused,
-    /// 9 by a handle that opens the cluster for reading alone, where writing is asked for.
-    WriteRefused,
-    /// 8 at the cluster, which was deleted.
-    WhileDeleted,
-    /// 22 for a write, and for the cluster.
-    FrozenNotWritten,
-    FrozenNotDeleted,
-    /// Another cluster has a new segment where the cluster had one, and a read or a look of it shows zeros.
-    MadeByAnother,
-    ReadByAnother,
+/// What the freedom of writers allows, by name.
+pub type Deed = &'static str;
+
+/// Done by handles that open the cluster for writing, if nothing else is said.
+#[rustfmt::skip]
+const DEEDS: [Deed; 30] = [
+    "Written", "Made", "Deleted", "Frozen", "Reduced", "Joined", "Validated", "NewPassword", "ClusterDeleted",
+    // By a handle that is not primary; data that lies there in one copy and not in the other.
+    "WrittenByAWeaker", "WrittenGuess",
+    // A segment of the cluster that lies where one of it was before.
+    "MadeAgain",
+    // A new write password that is the read password of one copy alone; anything by handles that open both modes in
+    // one.
+    "Guessed", "ByBothInOne",
+    // Call 1 for the cluster, which was deleted; a write and a deletion from then on; at another width than it had.
+    "MadeAnew", "WrittenAnew", "DeletedAnew", "MadeWider", "MadeSmaller",
+    // 25, where a handle of another width asks for reading that has a password made from the read password.
+    "ReaderOfAnotherWidth",
+    // Call 7 with a handle that opens the cluster for reading.
+    "ReaderWeakened",
+    // 9 by handles that open the cluster for writing: for a read, for a look, and for another call in mode 1.
+    "ReadRefused", "LookRefused", "Mode1Refused",
+    // 9 by a handle that opens the cluster for reading alone, where writing is asked for.
+    "WriteRefused",
+    // 8 at the cluster, which was deleted; 22 for a write, and for the cluster.
+    "WhileDeleted", "FrozenNotWritten", "FrozenNotDeleted",
+    // Another cluster has a new segment where the cluster had one, and a read or a look of it shows zeros.
+    "MadeByAnother", "ReadByAnother",
+];
+
+/// Both the bytes of the cluster's segments and its read passwords.
+const DIFFERING: &str = "copies that differ to the end";
+
+/// By a handle of this width.
+fn written_at(width: Width) -> String {
+    format!("WrittenAt({width:?})")
 }
 
-impl Deed {
-    #[rustfmt::skip]
-    pub const ALL: [Deed; 33] = [
-        Deed::Written, Deed::WrittenByAWeaker, Deed::WrittenGuess, Deed::Made, Deed::MadeAgain,
-        Deed::Deleted, Deed::Frozen, Deed::Reduced, Deed::Joined, Deed::Validated,
-        Deed::NewPassword, Deed::Guessed, Deed::ByBothInOne, Deed::ClusterDeleted, Deed::MadeAnew,
-        Deed::WrittenAnew, Deed::DeletedAnew, Deed::ReaderWeakened, Deed::ReadRefused,
-        Deed::LookRefused, Deed::Mode1Refused, Deed::WriteRefused, Deed::WhileDeleted,
-        Deed::FrozenNotWritten, Deed::FrozenNotDeleted, Deed::MadeByAnother, Deed::ReadByAnother,
-        Deed::MadeWider, Deed::MadeSmaller, Deed::WrittenAt(Width::Four),
-        Deed::WrittenAt(Width::Eight), Deed::WrittenAt(Width::Sixteen), Deed::ReaderOfAnotherWidth,
-    ];
-}
-
-/// How many calls there were, how many were done, and how many of these by handles that open the cluster for writing;
-/// what they came to; and at the end of how many lists both the bytes of the cluster's segments and its read passwords
-/// still differ.
-#[derive(Debug, Default)]
-pub struct Count {
-    pub calls: u64,
-    pub done: u64,
-    pub by_writers: u64,
-    pub deeds: BTreeMap<Deed, u64>,
-    pub differing: u64,
-}
-
-impl Count {
-    /// What lists have to come to, and these did not.
-    pub fn faults(&self) -> Vec<String> {
-        let met = |deed: &Deed| self.deeds.contains_key(deed);
-        let missing = Deed::ALL.iter().filter(|deed| !met(deed));
-        let differing = match self.differing {
-            0 => Some("not tried: writers, copies that differ to the end".to_string()),
-            _ => None,
-        };
-        let missing = missing.map(|deed| format!("not tried: writers, {deed:?}"));
-        missing.chain(differing).collect()
-    }
+pub fn met() -> Met {
+    let due = DEEDS.into_iter().chain([DIFFERING]).map(String::from).chain(Width::ALL.map(written_at));
+    Met::new("writers", due)
 }
 
 /// One list, and what it has come to so far.
 pub(super) struct Watch<'a> {
-    count: &'a mut Count,
+    met: &'a mut Met,
     freed: Freed,
     /// How wide the cluster was when it was there last.
     width: u8,
@@ -112,14 +59,8 @@ pub(super) struct Watch<'a> {
 }
 
 impl Watch<'_> {
-    pub fn of<'a>(count: &'a mut Count, pair: &Pair, [store, _]: &[Store; 2]) -> Watch<'a> {
-        Watch {
-            count,
-            freed: Freed::new(pair.apart),
-            width: cluster_of(pair, store).width,
-            anew: false,
-            guess: false,
-        }
+    pub fn of<'a>(met: &'a mut Met, pair: &Pair, [store, _]: &[Store; 2]) -> Watch<'a> {
+        Watch { met, freed: Freed::new(pair.apart), width: cluster_of(pair, store).width, anew: false, guess: false }
     }
 
     /// What can be told of a question only before it is asked.
@@ -133,28 +74,19 @@ impl Watch<'_> {
     }
 
     /// The copies were the first two stores before the call, and are the others since.
-    pub fn note(
-        &mut self,
-        pair: &Pair,
-        [before, after]: [&[Store; 2]; 2],
-        question: &Question,
-        answer: &Answer,
-    ) {
+    pub fn note(&mut self, pair: &Pair, [before, after]: [&[Store; 2]; 2], question: &Question, answer: &Answer) {
         let call = &question.call;
-        self.count.calls += 1;
         if let Some(deed) = of_cluster(pair, before, call, answer.reply.number) {
-            self.add(deed);
+            self.met.note(deed);
             self.note_more(deed, call);
         }
         self.note_width(pair, &after[0]);
         if !answer.reply.is_done() {
             return;
         }
-        self.count.done += 1;
         if call.needed_mode().is_some() && call.presented().all(|handle| pair.is_apart(&handle)) {
-            self.count.by_writers += 1;
             if in_one(pair, before, Cluster::has_equal_passwords) {
-                self.add(Deed::ByBothInOne);
+                self.met.note("ByBothInOne");
             }
         }
         let shown = match call {
@@ -163,12 +95,8 @@ impl Watch<'_> {
         };
         let stores = [&before[0], &after[0]];
         if let Some(deed) = self.freed.note(stores, call, shown.unwrap_or_default()) {
-            self.add(deed);
+            self.met.note(deed);
         }
-    }
-
-    fn add(&mut self, deed: Deed) {
-        *self.count.deeds.entry(deed).or_default() += 1;
     }
 
     /// What the cluster is since, if it is there.
@@ -176,8 +104,8 @@ impl Watch<'_> {
         let width = cluster_of(pair, store).width;
         match width {
             0 => return,
-            _ if width > self.width => self.add(Deed::MadeWider),
-            _ if width < self.width => self.add(Deed::MadeSmaller),
+            _ if width > self.width => self.met.note("MadeWider"),
+            _ if width < self.width => self.met.note("MadeSmaller"),
             _ => {}
         }
         self.width = width;
@@ -185,34 +113,31 @@ impl Watch<'_> {
 
     /// What such a deed is besides.
     fn note_more(&mut self, deed: Deed, call: &Call) {
-        if let (Deed::Written, Some(handle)) = (deed, call.handle()) {
-            self.add(Deed::WrittenAt(handle.width()));
+        if let ("Written", Some(handle)) = (deed, call.handle()) {
+            self.met.note(written_at(handle.width()));
         }
         let weaker = call.presented().any(|handle| !handle.selector.is_primary());
-        self.anew |= deed == Deed::MadeAnew;
+        self.anew |= deed == "MadeAnew";
         let more = match deed {
-            Deed::Written => vec![
-                (weaker, Deed::WrittenByAWeaker),
-                (self.guess, Deed::WrittenGuess),
-                (self.anew, Deed::WrittenAnew),
-            ],
-            Deed::Deleted => vec![(self.anew, Deed::DeletedAnew)],
-            Deed::Guessed => vec![(true, Deed::NewPassword)],
+            "Written" => {
+                vec![(weaker, "WrittenByAWeaker"), (self.guess, "WrittenGuess"), (self.anew, "WrittenAnew")]
+            }
+            "Deleted" => vec![(self.anew, "DeletedAnew")],
+            "Guessed" => vec![(true, "NewPassword")],
             _ => vec![],
         };
         for (_, deed) in more.into_iter().filter(|(is_so, _)| *is_so) {
-            self.add(deed);
+            self.met.note(deed);
         }
     }
 
     /// The copies are these stores at the end.
     pub fn note_end(self, pair: &Pair, stores: &[Store; 2]) {
         let [first, second] = &pair.copies;
-        let bytes = parts_of(&stores[0], pair.apart)
-            .into_iter()
-            .any(|part| first.memory[part.clone()] != second.memory[part]);
+        let bytes =
+            parts_of(&stores[0], pair.apart).into_iter().any(|part| first.memory[part.clone()] != second.memory[part]);
         let [one, other] = stores.each_ref().map(|store| cluster_of(pair, store).read);
-        self.count.differing += u64::from(bytes && one != other);
+        self.met.note_if(bytes && one != other, DIFFERING);
     }
 }
 
@@ -224,7 +149,7 @@ fn cluster_of<'a>(pair: &Pair, store: &'a Store) -> &'a Cluster {
 fn of_cluster(pair: &Pair, stores: &[Store; 2], call: &Call, number: u8) -> Option<Deed> {
     if let Call::NewCluster { node, local, .. } = call {
         let own = (*node as usize, *local as usize) == pair.apart;
-        return (own && number == DONE).then_some(Deed::MadeAnew);
+        return (own && number == DONE).then_some("MadeAnew");
     }
     let known = call.presented().count() == call.presented_bytes().count();
     if !known || !call.presented().all(|handle| pair.is_apart(&handle)) {
@@ -235,25 +160,23 @@ fn of_cluster(pair: &Pair, stores: &[Store; 2], call: &Call, number: u8) -> Opti
         call.presented().all(opens)
     };
     match (call, number) {
-        (Call::Weaken { .. }, DONE) => open(Mode::Read).then_some(Deed::ReaderWeakened),
+        (Call::Weaken { .. }, DONE) => open(Mode::Read).then_some("ReaderWeakened"),
         (Call::Weaken { .. }, _) => None,
         (_, DONE) => done(pair, stores, call),
-        (_, INACTIVE) => Some(Deed::WhileDeleted),
+        (_, INACTIVE) => Some("WhileDeleted"),
         (_, LENGTH) if call.needed_mode() == Some(Mode::Read) => {
             let [read, _] = stores.each_ref().map(|store| cluster_of(pair, store).read);
             let made_from = |handle: Handle| handle.is_made_from(&read);
-            call.presented()
-                .any(made_from)
-                .then_some(Deed::ReaderOfAnotherWidth)
+            call.presented().any(made_from).then_some("ReaderOfAnotherWidth")
         }
-        (Call::Write { .. }, FROZEN) => Some(Deed::FrozenNotWritten),
-        (Call::DeleteCluster { .. }, FROZEN) => Some(Deed::FrozenNotDeleted),
+        (Call::Write { .. }, FROZEN) => Some("FrozenNotWritten"),
+        (Call::DeleteCluster { .. }, FROZEN) => Some("FrozenNotDeleted"),
         (_, VIOLATED_PROTECTION) => match (call, call.needed_mode()?) {
-            (_, Mode::Write) => open(Mode::Read).then_some(Deed::WriteRefused),
+            (_, Mode::Write) => open(Mode::Read).then_some("WriteRefused"),
             _ if !open(Mode::Write) => None,
-            (Call::Read { .. }, _) => Some(Deed::ReadRefused),
-            (Call::Look { .. }, _) => Some(Deed::LookRefused),
-            _ => Some(Deed::Mode1Refused),
+            (Call::Read { .. }, _) => Some("ReadRefused"),
+            (Call::Look { .. }, _) => Some("LookRefused"),
+            _ => Some("Mode1Refused"),
         },
         _ => None,
     }
@@ -262,28 +185,24 @@ fn of_cluster(pair: &Pair, stores: &[Store; 2], call: &Call, number: u8) -> Opti
 /// What a call comes to that was done by handles that open the cluster. No list has one that reads.
 fn done(pair: &Pair, stores: &[Store; 2], call: &Call) -> Option<Deed> {
     match call {
-        Call::DeleteCluster { .. } => Some(Deed::ClusterDeleted),
-        Call::NewSegment { .. } => Some(Deed::Made),
-        Call::DeleteSegment { .. } => Some(Deed::Deleted),
-        Call::Write { .. } => Some(Deed::Written),
-        Call::Reduce { .. } => Some(Deed::Reduced),
-        Call::NewPassword { password, .. } => {
-            match in_one(pair, stores, |cluster| cluster.read == *password) {
-                true => Some(Deed::Guessed),
-                false => Some(Deed::NewPassword),
-            }
-        }
-        Call::Freeze { .. } => Some(Deed::Frozen),
-        Call::Join { .. } => Some(Deed::Joined),
-        Call::Validate { .. } => Some(Deed::Validated),
+        Call::DeleteCluster { .. } => Some("ClusterDeleted"),
+        Call::NewSegment { .. } => Some("Made"),
+        Call::DeleteSegment { .. } => Some("Deleted"),
+        Call::Write { .. } => Some("Written"),
+        Call::Reduce { .. } => Some("Reduced"),
+        Call::NewPassword { password, .. } => match in_one(pair, stores, |cluster| cluster.read == *password) {
+            true => Some("Guessed"),
+            false => Some("NewPassword"),
+        },
+        Call::Freeze { .. } => Some("Frozen"),
+        Call::Join { .. } => Some("Joined"),
+        Call::Validate { .. } => Some("Validated"),
         _ => None,
     }
 }
 
 /// Whether this is so of the cluster in one copy and not in the other.
 fn in_one(pair: &Pair, stores: &[Store; 2], is_so: impl Fn(&Cluster) -> bool) -> bool {
-    let [one, other] = stores
-        .each_ref()
-        .map(|store| is_so(cluster_of(pair, store)));
+    let [one, other] = stores.each_ref().map(|store| is_so(cluster_of(pair, store)));
     one != other
 }

@@ -1,11 +1,8 @@
 //! Memory that was the cluster's when it was given back, and what is made there afterwards.
 
-use super::Deed;
+use super::count::Deed;
 use crate::pairs::{names, parts_of};
-use model::call::Call;
-use model::handle::Handle;
-use model::sizes::MEMORY_BYTES;
-use model::store::Store;
+use model::words::*;
 
 /// A segment as node, local number and segment.
 type Named = (usize, usize, usize);
@@ -20,20 +17,11 @@ pub(super) struct Freed {
 
 impl Freed {
     pub fn new(apart: (usize, usize)) -> Freed {
-        Freed {
-            apart,
-            bytes: vec![false; MEMORY_BYTES],
-            made: Vec::new(),
-        }
+        Freed { apart, bytes: vec![false; MEMORY_BYTES], made: Vec::new() }
     }
 
     /// What a call that was done comes to in such memory, if anything. A read or a look has shown these bytes.
-    pub fn note(
-        &mut self,
-        [before, after]: [&Store; 2],
-        call: &Call,
-        shown: &[u8],
-    ) -> Option<Deed> {
+    pub fn note(&mut self, [before, after]: [&Store; 2], call: &Call, shown: &[u8]) -> Option<Deed> {
         let kept = parts_of(after, self.apart);
         for part in parts_of(before, self.apart) {
             if !kept.contains(&part) {
@@ -54,7 +42,7 @@ impl Freed {
             }
             (Call::Read { .. } | Call::Look { .. }, Some(named)) => {
                 let zeros = shown.iter().all(|byte| *byte == 0);
-                (zeros && self.made.contains(&named)).then_some(Deed::ReadByAnother)
+                (zeros && self.made.contains(&named)).then_some("ReadByAnother")
             }
             _ => None,
         }
@@ -69,10 +57,10 @@ impl Freed {
             return None;
         }
         if (node, local) == self.apart {
-            return Some(Deed::MadeAgain);
+            return Some("MadeAgain");
         }
         self.made.push((node, local, segment));
-        Some(Deed::MadeByAnother)
+        Some("MadeByAnother")
     }
 }
 

@@ -1,6 +1,6 @@
-//! Two copies of a store that differ in what lies in one cluster's segments, in its read password, and in memory that is
-//! no segment's: whoever does not read by handles of that cluster gets the same from both, also by handles that open it
-//! for writing. Judged by the library's side alone; what a list may not have is judged by the model.
+//! Two copies of a store that differ in what lies in one cluster's segments, in its read password, and in memory that
+//! is no segment's: whoever does not read by handles of that cluster gets the same from both, also by handles that open
+//! it for writing. Judged by the library's side alone; what a list may not have is judged by the model.
 
 mod calls;
 mod count;
@@ -8,43 +8,33 @@ mod freed;
 
 use crate::chance::handles::everywhere;
 use crate::chance::stores::{self, gaps, Fill};
-use crate::chance::{below, cases, fill, password};
-use crate::compare::{is_sound, same_bytes, Guard};
-use crate::image::{decode, password_at};
 use crate::pairs::{ask_both, parts_of, set_apart, Pair};
-use crate::question::Held;
+use crate::words::*;
 use calls::Asking;
+pub use count::met;
 use count::Watch;
-pub use count::{Count, Deed};
-use model::random::Random;
-use model::sizes::NODES;
-use model::store::{Mode, Store};
+use model::met::Met;
 use std::ops::Range;
 
 /// Calls of one list.
 pub const LIST_CALLS: u64 = 100;
 /// In stores without a free byte, new segments lie where others were.
-const FILLS: [Fill; 4] = [
-    Fill::Partial,
-    Fill::Partial,
-    Fill::NoByteFree,
-    Fill::AtWords,
-];
+const FILLS: [Fill; 4] = [Fill::Partial, Fill::Partial, Fill::NoByteFree, Fill::AtWords];
 
-pub fn compare(guard: Guard, seed: u64, pairs: u64) -> Result<Count, String> {
-    let mut count = Count::default();
-    cases(seed, pairs, |random| one(guard, random, &mut count))?;
-    Ok(count)
+pub fn compare(guard: Guard, seed: u64, pairs: u64) -> Result<Met, String> {
+    let mut met = met();
+    cases(seed, pairs, |random| one(guard, random, &mut met))?;
+    Ok(met)
 }
 
 /// A list may end after any of its calls, so that the copies have to agree after each.
-fn one(guard: Guard, random: &mut Random, count: &mut Count) -> Result<(), String> {
+fn one(guard: Guard, random: &mut Random, met: &mut Met) -> Result<(), String> {
     let asking = Asking::by_chance(random);
     let mut pair = by_chance(random, asking);
     let apart = pair.apart;
     let mut stores = pair.stores()?;
     let mut given = Vec::new();
-    let mut watch = Watch::of(count, &pair, &stores);
+    let mut watch = Watch::of(met, &pair, &stores);
     for at in 1..=LIST_CALLS {
         let question = asking.question(random, &pair, &stores, &given, at);
         watch.expect(&pair, &stores, &question);
@@ -80,16 +70,12 @@ fn by_chance(random: &mut Random, asking: Asking) -> Pair {
         let parts = [&mut first, &mut second].map(|held| &mut held.memory[part.clone()]);
         differ(random, parts);
     }
-    Pair {
-        copies: [first, second],
-        apart,
-    }
+    Pair { copies: [first, second], apart }
 }
 
 /// The parts of the memory that are no segment's.
 fn free(store: &Store) -> Vec<Range<usize>> {
-    let gaps =
-        (0..NODES).flat_map(|node| gaps(store, node).into_iter().map(move |gap| (node, gap)));
+    let gaps = (0..NODES).flat_map(|node| gaps(store, node).into_iter().map(move |gap| (node, gap)));
     gaps.map(|(node, gap)| gap.in_memory(node)).collect()
 }
 

@@ -4,17 +4,10 @@ use crate::support::every::every;
 use crate::support::faults::{self, Kind, LOCAL, NODE};
 use crate::wide::{asked, held, local, primary, refused, READ, REST, WRITE};
 use library::chance::damage::{inflict, Damage, LAST_PLACE};
-use library::chance::stores;
 use library::ffi::gelmuszta_handle;
 use library::guard;
-use library::image::{encode, record_at, segment_at, MARK_AT, WIDTH_AT};
-use library::question::{Held, READ_MODE, WRITE_MODE};
-use model::call::{Call, Reply};
-use model::handle::{Handle, HandleBytes, Width};
+use library::words::*;
 use model::hexadecimal;
-use model::random::Random;
-use model::sizes::SEGMENTS;
-use model::store::Store;
 
 fn given(held: &Held, call: Call) -> HandleBytes {
     let (reply, _) = asked(held, &call);
@@ -43,16 +36,9 @@ fn bytes_of_each_width() {
         let end = hexadecimal::encode(&handle[19..]);
         let bytes = hexadecimal::decode(selector).expect("it is hexadecimal");
         let parts: Vec<u16> = match width {
-            Width::Four => vec![
-                (bytes[0] % 16).into(),
-                (bytes[0] / 16).into(),
-                (bytes[1] % 16).into(),
-            ],
+            Width::Four => vec![(bytes[0] % 16).into(), (bytes[0] / 16).into(), (bytes[1] % 16).into()],
             Width::Eight => bytes[..3].iter().map(|byte| u16::from(*byte)).collect(),
-            Width::Sixteen => bytes[..6]
-                .chunks(2)
-                .map(|pair| 256 * u16::from(pair[0]) + u16::from(pair[1]))
-                .collect(),
+            Width::Sixteen => bytes[..6].chunks(2).map(|pair| 256 * u16::from(pair[0]) + u16::from(pair[1])).collect(),
         };
         for parameter in parts {
             password = guard::convert(&password, parameter);
@@ -62,10 +48,7 @@ fn bytes_of_each_width() {
         assert_eq!(handle[3..19], password);
         for handle in taken {
             let mode = READ_MODE;
-            assert_eq!(
-                asked(&held, &Call::Validate { mode, handle }).0,
-                Reply::DONE
-            );
+            assert_eq!(asked(&held, &Call::Validate { mode, handle }).0, Reply::DONE);
         }
     }
 }
@@ -75,13 +58,7 @@ fn bytes_of_each_width() {
 fn the_record_of_a_new_cluster() {
     let before = held();
     for width in Width::ALL {
-        let call = Call::NewCluster {
-            node: 3,
-            local: 5,
-            width: width.segments(),
-            read: READ,
-            write: WRITE,
-        };
+        let call = Call::NewCluster { node: 3, local: 5, width: width.segments(), read: READ, write: WRITE };
         let (reply, after) = asked(&before, &call);
         assert_eq!(reply.number, 0);
         let mut made = before.clone();
@@ -104,10 +81,7 @@ fn widths_of_records() {
         for width in 0..=u8::MAX {
             let mut held = before.clone();
             held.image[record_at(node, place).start + WIDTH_AT] = width;
-            let sound = match active {
-                true => [4, 8, 16].contains(&width),
-                false => width == 0,
-            };
+            let sound = if active { [4, 8, 16].contains(&width) } else { width == 0 };
             assert_eq!(guard::is_sound(&mut held.image), sound);
             let number = match (sound, active && width != 8) {
                 (false, _) => 1,
@@ -181,10 +155,7 @@ fn batches_of_one_width() {
             right.weaken(0b0110).expect("all are flat"),
             Handle { local: 7, ..right },
             Handle { node: 4, ..right },
-            Handle {
-                local: local(Width::ALL[(width as usize + 1) % 3]) as u8,
-                ..right
-            },
+            Handle { local: local(Width::ALL[(width as usize + 1) % 3]) as u8, ..right },
         ];
         let mut joined = handles.map(|handle| handle.to_bytes()).concat();
         joined.extend([0; 20]);
@@ -211,9 +182,7 @@ fn lengths_that_no_handle_has() {
         inflict(random, &mut damaged, damage, LAST_PLACE);
         damaged
     });
-    let right = primary(Width::Eight, WRITE)
-        .weaken(1)
-        .expect("all are flat");
+    let right = primary(Width::Eight, WRITE).weaken(1).expect("all are flat");
     for length in (0..=255).filter(|length| ![21, 23, 27].contains(length)) {
         let mut wrong = right.to_bytes();
         wrong.resize(length, 0xff);
@@ -260,15 +229,7 @@ fn handles_as_they_are_given() {
 fn handles_as_they_are_taken() {
     let behind: [u8; 27] = std::array::from_fn(|at| 101 + at as u8);
     let bytes: Vec<u8> = (1..=255).collect();
-    for (length, own) in [
-        (0, 0),
-        (1, 1),
-        (21, 21),
-        (26, 26),
-        (27, 27),
-        (28, 27),
-        (255, 27),
-    ] {
+    for (length, own) in [(0, 0), (1, 1), (21, 21), (26, 26), (27, 27), (28, 27), (255, 27)] {
         let taken = gelmuszta_handle::of(&bytes[..length], &behind);
         assert_eq!(usize::from(taken.length), length);
         assert_eq!(taken.bytes[..own], bytes[..own]);

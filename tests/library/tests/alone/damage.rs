@@ -5,22 +5,12 @@ use crate::support::faults::{self, Kind, LOCAL, NODE};
 use crate::support::{joint, renewed};
 use crate::wide::{asked, held, primary, refused, READ};
 use library::chance::damage::{inflict, Damage, LAST_PLACE};
-use library::chance::{below, stores};
-use model::call::{Call, Reply};
-use model::handle::{Handle, Selector, Width};
-use model::random::Random;
-use model::store::Store;
+use library::words::*;
 
+#[rustfmt::skip]
 const KINDS: [Kind; 9] = [
-    Kind::DeleteCluster,
-    Kind::NewSegment,
-    Kind::DeleteSegment,
-    Kind::Read,
-    Kind::Write,
-    Kind::Reduce,
-    Kind::Freeze,
-    Kind::Look,
-    Kind::Validate,
+    Kind::DeleteCluster, Kind::NewSegment, Kind::DeleteSegment, Kind::Read, Kind::Write, Kind::Reduce, Kind::Freeze,
+    Kind::Look, Kind::Validate,
 ];
 const PLACES: [(usize, usize); 3] = [(NODE, LOCAL), (0, 0), LAST_PLACE];
 /// Of all joins with every set of faults, one in so many: it shares no factor with the numbers of ways but 2, so that
@@ -28,19 +18,11 @@ const PLACES: [(usize, usize); 3] = [(NODE, LOCAL), (0, 0), LAST_PLACE];
 const EVERY: usize = 13 * 8;
 
 /// Refused beside the damage, whatever else is wrong with the call.
-fn beside(
-    random: &mut Random,
-    (store, call): &(Store, Call),
-    damage: Damage,
-    place: (usize, usize),
-) {
+fn beside(random: &mut Random, (store, call): &(Store, Call), damage: Damage, place: (usize, usize)) {
     let mut held = stores::held(random, store);
     inflict(random, &mut held, damage, place);
     let mut lengths = call.presented_bytes().map(<[u8]>::len);
-    let number = match lengths.all(|length| [21, 23, 27].contains(&length)) {
-        true => 1,
-        false => 25,
-    };
+    let number = if lengths.all(|length| [21, 23, 27].contains(&length)) { 1 } else { 25 };
     refused(&held, call, number);
 }
 
@@ -65,11 +47,7 @@ fn whatever_else_is_wrong() {
 #[test]
 fn where_nothing_else_is() {
     let random = &mut Random::from_seed(2);
-    let right = KINDS.map(|kind| {
-        faults::all(kind)
-            .next()
-            .expect("the empty set is the first")
-    });
+    let right = KINDS.map(|kind| faults::all(kind).next().expect("the empty set is the first"));
     let right = right.map(|faulty| (faulty.store, faulty.call));
     let joined = joint::all().next().expect("the first is done");
     let renewed = renewed::all().filter(|new| new.faults.iter().all(|fault| *fault == 12));
@@ -88,10 +66,7 @@ fn where_nothing_else_is() {
 #[test]
 fn weakening_does_not_look_at_it() {
     let random = &mut Random::from_seed(3);
-    for (damage, width) in Damage::ALL
-        .into_iter()
-        .flat_map(|damage| Width::ALL.map(|width| (damage, width)))
-    {
+    for (damage, width) in Damage::ALL.into_iter().flat_map(|damage| Width::ALL.map(|width| (damage, width))) {
         let flat = width.flat();
         let with = |parts| Handle::converted(1, 2, &READ, Selector::new(width, parts));
         let primary = primary(width, READ);
@@ -99,15 +74,7 @@ fn weakening_does_not_look_at_it() {
         let calls = [
             (primary.to_bytes()[..20].to_vec(), 0, 25),
             (Handle { node: 4, ..primary }.to_bytes(), 0, 2),
-            (
-                Handle {
-                    local: 8,
-                    ..primary
-                }
-                .to_bytes(),
-                flat,
-                2,
-            ),
+            (Handle { local: 8, ..primary }.to_bytes(), flat, 2),
             (with([flat, 1, flat, flat]).to_bytes(), 0, 4),
             (primary.to_bytes(), !flat, 21),
             (with([0, flat, flat, flat]).to_bytes(), flat, 21),
@@ -122,10 +89,7 @@ fn weakening_does_not_look_at_it() {
         let (mask, handle) = (4 | !flat, primary.to_bytes());
         let (reply, left) = asked(&held, &Call::Weaken { mask, handle });
         let kept = primary.weaken(4).expect("all are flat");
-        let expected = Reply {
-            count: mask.count_ones() - (!flat).count_ones(),
-            ..Reply::with_handle(&kept)
-        };
+        let expected = Reply { count: mask.count_ones() - (!flat).count_ones(), ..Reply::with_handle(&kept) };
         assert!(reply == expected && left == held, "{damage:?}");
     }
 }

@@ -1,14 +1,10 @@
 //! The archive exports the functions of the header, each of them and nothing else.
 
 use library::guard;
-use std::collections::BTreeSet;
-use std::process::Command;
+use std::{collections::BTreeSet, process::Command};
 
 const HEADER: &str = include_str!("../../../../include/gelmuszta.h");
-const ARCHIVE: &str = concat!(
-    env!("CARGO_MANIFEST_DIR"),
-    "/../../target/staticlib/libgelmuszta.a"
-);
+const ARCHIVE: &str = concat!(env!("CARGO_MANIFEST_DIR"), "/../../target/staticlib/libgelmuszta.a");
 
 /// The names of the prototypes: what stands before the first parenthesis of a declaration, outside of comments, macros
 /// and functions that the header has whole.
@@ -29,9 +25,7 @@ fn exported() -> BTreeSet<String> {
         .expect("nm comes with the compiler");
     assert!(names.status.success(), "{names:?}");
     let names = String::from_utf8(names.stdout).expect("names are text");
-    let fields = names
-        .lines()
-        .map(|line| line.split(' ').collect::<Vec<_>>());
+    let fields = names.lines().map(|line| line.split(' ').collect::<Vec<_>>());
     let symbols = fields.filter_map(|fields| match fields[..] {
         [_, _, name] => Some(name.to_string()),
         _ => None,

@@ -1,6 +1,7 @@
 //! How much is tried of that which is not made by chance, and what the laws of copies come to.
 
 use library::{batch, copies, edges, guard, stays, untold, writers};
+use model::met::Met;
 
 /// Four nodes, nine stretches, and two looks or three freezes; of 20 rows of arguments, and as many more as there are
 /// segments, two are right.
@@ -35,34 +36,41 @@ fn widths_at_the_edges() {
     assert_eq!(batches, 3 * 38 + (43 + 47 + 55));
 }
 
-#[test]
-fn what_is_frozen_stays() {
-    let count = stays::compare(&guard::ask, 6, 20).expect("everything stays");
-    assert!(count.faults().is_empty());
-    assert!(count.frozen > 200 && count.refused > 100, "{count:?}");
-}
-
-#[test]
-fn two_copies_come_to_joins_to_equal_passwords_and_to_every_width() {
-    let count = copies::compare(&guard::ask, 4, 60).expect("the copies agree");
-    assert!(count.joins.done > 10 && count.joins.apart > 5, "{count:?}");
-    assert!(
-        count.by_the_first > 4 && count.by_the_second > 4,
-        "{count:?}"
-    );
-    assert!(count.equal_in_one > 3 && count.by_both > 50, "{count:?}");
-    assert!(count.guessed > 1 && count.made_equal > 3, "{count:?}");
-    for counted in [count.widths, count.other_width, count.by_width] {
-        assert!(counted.iter().all(|counted| *counted > 4), "{count:?}");
+/// Often enough that another seed would do.
+fn has_met(met: &Met, at_least: &[(&str, u64)]) {
+    assert!(met.faults().is_empty(), "{met}");
+    for (what, least) in at_least {
+        assert!(met.count(what) > *least, "{what}: {}", met.count(what));
     }
 }
 
 #[test]
-fn two_images_and_those_who_write_come_to_all() {
-    let count = untold::compare(&guard::ask, 3, 400).expect("the replies are the same");
-    assert!(count.faults().is_empty(), "{count:?}");
-    let mut guessed = count.guessed.iter();
-    assert!(guessed.all(|&guessed| guessed > 100), "{count:?}");
-    let count = writers::compare(&guard::ask, 6, 200).expect("the copies agree");
-    assert!(count.faults().is_empty(), "{count:?}");
+fn laws_come_to_all() {
+    let met = stays::compare(&guard::ask, 6, 20).expect("everything stays");
+    has_met(&met, &[("a frozen segment", 200), ("a call refused with 22 (frozen)", 100)]);
+    let met = copies::compare(&guard::ask, 4, 60).expect("the copies agree");
+    has_met(
+        &met,
+        &[
+            ("a join done", 10),
+            ("a join that passwords alone keep from the cluster set apart", 5),
+            ("a join of which the first handle alone names the cluster set apart", 4),
+            ("a join of which the second handle alone names the cluster set apart", 4),
+            ("a cluster set apart with equal passwords in one copy alone", 3),
+            ("a call done by a handle that opens both modes", 50),
+            ("a new password that the cluster set apart has in one copy alone", 1),
+            ("a new password that makes two equal", 3),
+        ],
+    );
+    for width in [4, 8, 16] {
+        let apart = format!("a cluster set apart of width {width}");
+        let other = format!("right but for its width, a handle of a cluster set apart of {width}");
+        let done = format!("a call done by a handle of width {width}");
+        has_met(&met, &[(&apart, 4), (&other, 4), (&done, 4)]);
+    }
+    let met = untold::compare(&guard::ask, 3, 400).expect("the replies are the same");
+    let guessed = ["Read", "Write"].map(|mode| format!("the {mode} password taken for the other mode"));
+    has_met(&met, &[(&guessed[0], 100), (&guessed[1], 100)]);
+    let met = writers::compare(&guard::ask, 6, 200).expect("the copies agree");
+    has_met(&met, &[]);
 }

@@ -3,28 +3,19 @@
 
 use crate::support::every::{every, Rest};
 use crate::support::{new_cluster, reader};
-use library::question::Question;
-use library::tally::allowed;
+use library::{question::Question, tally::allowed};
 use model::table::{numbers_of, DONE};
 use std::collections::BTreeSet;
 
 #[test]
 fn each_call_comes_to_all_of_its_rows() {
     let handle = reader().to_bytes();
-    let rest = Rest {
-        node: 0,
-        segment: 5,
-        mode: None,
-    };
+    let rest = Rest { node: 0, segment: 5, mode: None };
     let calls = every(&handle, &handle, rest).into_iter();
     for call in calls.chain([new_cluster(0, 2)]) {
         let rows = numbers_of(&call).into_iter().chain([DONE]);
         let code = Question::of(call).code();
         let numbers = allowed(code).iter().copied();
-        assert_eq!(
-            rows.collect::<BTreeSet<u8>>(),
-            numbers.collect(),
-            "call {code}"
-        );
+        assert_eq!(rows.collect::<BTreeSet<u8>>(), numbers.collect(), "call {code}");
     }
 }

@@ -1,23 +1,13 @@
 //! A store with a cluster of each width, and what the library says to calls about them.
 
 use crate::support::every::Rest;
-use library::guard;
-use library::image::encode;
-use library::question::{Held, Question};
-use model::call::{Call, Reply};
-use model::handle::{Handle, Password, Width};
-use model::sizes::MEMORY_BYTES;
-use model::store::{Cluster, Segment, Store};
+use library::{guard, words::*};
 
 pub const READ: Password = [0x11; 16];
 pub const WRITE: Password = [0x22; 16];
 /// The segments that are there, of clusters at node 1, local numbers 2, 3 and 4, which have widths 4, 8 and 16.
 pub const THERE: u32 = 2;
-pub const REST: Rest = Rest {
-    node: 1,
-    segment: THERE,
-    mode: None,
-};
+pub const REST: Rest = Rest { node: 1, segment: THERE, mode: None };
 
 pub fn local(width: Width) -> usize {
     2 + width as usize
@@ -31,10 +21,7 @@ pub fn held() -> Held {
         *cluster = Cluster::new(width, READ, WRITE);
         cluster.segments[THERE as usize] = Segment::present(10 * at as u16, 4);
     }
-    Held {
-        image: encode(&store),
-        memory: [0x77; MEMORY_BYTES],
-    }
+    Held { image: encode(&store), memory: [0x77; MEMORY_BYTES] }
 }
 
 pub fn primary(width: Width, password: Password) -> Handle {
@@ -44,10 +31,7 @@ pub fn primary(width: Width, password: Password) -> Handle {
 /// The reply, with what is left; the buffer is as long as a segment.
 pub fn asked(held: &Held, call: &Call) -> (Reply, Held) {
     let mut after = held.clone();
-    let question = Question {
-        buffer: vec![0x33; 4],
-        ..Question::of(call.clone())
-    };
+    let question = Question { buffer: vec![0x33; 4], ..Question::of(call.clone()) };
     let answer = guard::ask(&mut after, &question);
     if !answer.reply.is_done() {
         assert_eq!(answer.buffer, question.buffer);

@@ -75,17 +75,15 @@ mod modes {
     use super::*;
 
     fn one_byte(code: u8) -> Wrong {
-        asking(
-            move |question| match (question.code(), &mut question.call) {
-                (own, Call::Reduce { mode, .. } | Call::NewPassword { mode, .. })
-                | (own, Call::Join { mode, .. } | Call::Validate { mode, .. })
-                    if own == code && *mode != BEYOND =>
-                {
-                    *mode &= 0xff;
-                }
-                _ => {}
-            },
-        )
+        asking(move |question| match (question.code(), &mut question.call) {
+            (own, Call::Reduce { mode, .. } | Call::NewPassword { mode, .. })
+            | (own, Call::Join { mode, .. } | Call::Validate { mode, .. })
+                if own == code && *mode != BEYOND =>
+            {
+                *mode &= 0xff;
+            }
+            _ => {}
+        })
     }
 
     fn four_bytes(code: u8) -> Wrong {
@@ -97,9 +95,7 @@ mod modes {
     }
 
     fn batch_mode(mask: usize) -> Wrong {
-        batch(move |held, (mode, width), handles, numbers| {
-            validate_all(held, (mode & mask, width), handles, numbers)
-        })
+        batch(move |held, (mode, width), handles, numbers| validate_all(held, (mode & mask, width), handles, numbers))
     }
 
     table! {

@@ -68,9 +68,7 @@ fn clear(image: &mut Image, width: u8, segments: Range<usize>) {
 
 /// Mends the segments of an image that holds a store; `mend` gets those of the same node as well.
 fn segments(image: &mut Image, mend: impl Fn(&mut Segment, &[Extent])) {
-    let Some(mut store): Option<Store> = decode(image) else {
-        return;
-    };
+    let Some(mut store): Option<Store> = decode(image) else { return };
     for clusters in &mut store.clusters {
         let all = clusters.iter().flat_map(|cluster| cluster.segments);
         let extents: Vec<Extent> = all.filter_map(|segment| segment.extent()).collect();

@@ -5,43 +5,21 @@ use library::question::{Held, LOOK, VALIDATION};
 use library::tally::Tally;
 use library::{batch, copies, edges, laws, runs, single, stays, untold, writers};
 use model::call::{READ, WRITE};
+use model::listed;
 
 const SEED: u64 = 7;
 
-/// The comparisons, each as long as it takes to find out all of its rows.
-#[derive(Clone, Copy, Debug, PartialEq, Eq)]
-pub enum By {
-    Single,
-    Runs,
-    Batches,
-    BatchWidths,
-    EveryByte,
-    AtWords,
-    Looks,
-    Freezes,
-    Joins,
-    Lengths,
-    Masks,
-    NewClusters,
-    Segments,
-    Handles,
-    Stays,
-    Laws,
-    Untold,
-    Writers,
-    Copies,
-    /// Copies, fewer of them: for libraries that they do not find out.
-    FewCopies,
+listed! {
+    /// The comparisons, each as long as it takes to find out all of its rows.
+    pub enum By {
+        Single, Runs, Batches, BatchWidths, EveryByte, AtWords, Looks, Freezes, Joins, Lengths, Masks, NewClusters,
+        Segments, Handles, Stays, Laws, Untold, Writers, Copies,
+        /// Copies, fewer of them: for libraries that they do not find out.
+        FewCopies,
+    }
 }
 
 impl By {
-    #[rustfmt::skip]
-    const ALL: [By; 20] = [
-        By::Single, By::Runs, By::Batches, By::BatchWidths, By::EveryByte, By::AtWords, By::Looks, By::Freezes, By::Joins,
-        By::Lengths, By::Masks, By::NewClusters, By::Segments, By::Handles, By::Stays, By::Laws, By::Untold, By::Writers, By::Copies,
-        By::FewCopies,
-    ];
-
     /// With one of so many cases, where they are made by chance.
     fn compare(self, wrong: &Wrong, one_of: u64) -> Result<(), String> {
         let tally = &mut Tally::default();
@@ -216,13 +194,7 @@ fn other_words_are_no_complaint() {
     let wrong = on(READ, 14, |after| after.reply.number = 9);
     let words = [Word::Call(READ), Word::Right(14), Word::Gives(9), REPLIES];
     assert_eq!(told(words).judge(&wrong, 1), Ok(()));
-    for other in [
-        Word::Call(WRITE),
-        Word::Right(9),
-        Word::Gives(14),
-        IMAGES,
-        Word::Either(&[]),
-    ] {
+    for other in [Word::Call(WRITE), Word::Right(9), Word::Gives(14), IMAGES, Word::Either(&[])] {
         let told = by(By::Single, [other]).judge(&wrong, 1);
         assert!(told.is_err_and(|told| told.contains("in other words")));
     }

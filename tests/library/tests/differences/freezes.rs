@@ -35,9 +35,7 @@ fn thawing(code: u8) -> Wrong {
 
 /// Changes the byte of the frozen segment's place that comes so far on.
 fn place_byte(at: usize) -> Wrong {
-    on(FREEZE, 0, move |it| {
-        it.held.image[it.place().start + at] ^= 1
-    })
+    on(FREEZE, 0, move |it| it.held.image[it.place().start + at] ^= 1)
 }
 
 // Other bytes left by a freeze, and marks left or taken away by other calls.
@@ -84,10 +82,7 @@ fn too_short(seen: &Seen) -> bool {
 }
 
 fn has_frozen_in_its_node(seen: &Seen) -> bool {
-    let node = seen
-        .store
-        .as_ref()
-        .map(|store| store.clusters[seen.node as usize]);
+    let node = seen.store.as_ref().map(|store| store.clusters[seen.node as usize]);
     node.is_some_and(|node| node.iter().any(Cluster::has_frozen))
 }
 
@@ -208,10 +203,7 @@ fn on_frozen_bytes() -> Wrong {
 /// Freezes by any password.
 fn opening() -> Wrong {
     on(FREEZE, 9, |it| {
-        let cluster = it
-            .seen()
-            .and_then(|seen| seen.cluster())
-            .expect("9 comes after 2");
+        let cluster = it.seen().and_then(|seen| seen.cluster()).expect("9 comes after 2");
         let other = it.question.with_handles(|handle| {
             handle.password = derive(&cluster.write, &handle.selector);
         });
@@ -221,17 +213,12 @@ fn opening() -> Wrong {
 
 /// By a row in which what is frozen does not stay.
 fn lost(code: u8) -> Complaint {
-    by(
-        By::Stays,
-        [Says("a frozen segment does not stay"), Asks(code)],
-    )
+    by(By::Stays, [Says("a frozen segment does not stay"), Asks(code)])
 }
 
 /// The same, and where the model gives 22.
 fn unseen(code: u8) -> Complaint {
-    lost(code)
-        .and(By::Single, [Asks(code), Right(22)])
-        .and(By::Runs, [Asks(code), Right(22)])
+    lost(code).and(By::Single, [Asks(code), Right(22)]).and(By::Runs, [Asks(code), Right(22)])
 }
 
 // What is frozen and does not stay, found out without the model, too; and freezes in two copies.

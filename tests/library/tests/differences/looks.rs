@@ -34,9 +34,7 @@ fn beside(number: u8, other: fn(Part) -> Part) -> Wrong {
     on(LOOK, number, move |it| {
         let seen = it.seen();
         let extent = seen.as_ref().and_then(|seen| seen.own()?.extent());
-        let place = extent
-            .zip(seen)
-            .map(|(extent, seen)| extent.in_memory(seen.handle.node.into()));
+        let place = extent.zip(seen).map(|(extent, seen)| extent.in_memory(seen.handle.node.into()));
         it.reply.shown = place.map_or(Part::NONE, |place| other(place.into()));
     })
 }
@@ -50,14 +48,8 @@ fn left(damaged: bool, shown: Part) -> Wrong {
     })
 }
 
-const FROM: Part = Part {
-    from: UNWRITTEN,
-    length: 0,
-};
-const LENGTH: Part = Part {
-    from: 0,
-    length: UNWRITTEN,
-};
+const FROM: Part = Part { from: UNWRITTEN, length: 0 };
+const LENGTH: Part = Part { from: 0, length: UNWRITTEN };
 
 table! {
     the_part_beside_a_refusal_with_9: beside(9, |part| part) => told([Asks(LOOK), MORE]);

@@ -40,15 +40,9 @@ impl Weakened {
 /// Replies as `other` has it to a weakening about which that has something to say.
 pub fn weakening(other: impl Fn(&Weakened) -> Option<Reply> + 'static) -> Wrong {
     after(move |it| {
-        if let (Call::Weaken { mask, .. }, Some(handle)) =
-            (&it.question.call, it.question.call.handle())
-        {
+        if let (Call::Weaken { mask, .. }, Some(handle)) = (&it.question.call, it.question.call.handle()) {
             let (mask, reply) = (*mask, it.reply.clone());
-            let weakened = Weakened {
-                handle,
-                mask,
-                reply,
-            };
+            let weakened = Weakened { handle, mask, reply };
             it.reply = other(&weakened).unwrap_or(weakened.reply);
         }
     })

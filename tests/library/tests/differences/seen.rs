@@ -4,10 +4,7 @@ use library::guard;
 use library::image::{decode, encode};
 use library::pairs::parts_of;
 use library::question::{Held, Question};
-use model::call::{Call, Reply};
-use model::handle::Handle;
-use model::sizes::{CLUSTERS, NODES};
-use model::store::{Cluster, Mode, Segment, Store};
+use model::words::*;
 
 /// A question by a handle of one of the three lengths, and what it is put to.
 pub struct Seen {

@@ -52,9 +52,7 @@ fn in_either_mode(held: &mut Held, question: &Question, code: u8, meant: Mode) -
     let answer = guard::ask(held, question);
     let seen = Seen::of(held, question).filter(|_| question.code() == code);
     let cluster = seen.and_then(|seen| seen.cluster().filter(|_| seen.mode() == Some(meant)));
-    let (Some(cluster), 9) = (cluster, answer.reply.number) else {
-        return answer;
-    };
+    let (Some(cluster), 9) = (cluster, answer.reply.number) else { return answer };
     let other = question.with_handles(|handle| {
         if handle.is_made_from(cluster.primary(meant.other())) {
             handle.password = derive(cluster.primary(meant), &handle.selector);
@@ -76,7 +74,8 @@ table! {
     a_refusal_for_the_byte_that_is_there_delete: kept_by(DELETE_SEGMENT, is_odd) => writers(DELETE_SEGMENT, REPLIES);
     a_refusal_for_the_byte_that_is_there_freeze: kept_by(FREEZE, is_odd) => writers(FREEZE, REPLIES);
     a_cluster_that_is_not_deleted_while_something_lies_there:
-        kept_by(DELETE_CLUSTER, |seen| !seen.in_the_cluster().into_iter().all(is_zero)) => writers(DELETE_CLUSTER, REPLIES);
+        kept_by(DELETE_CLUSTER, |seen| !seen.in_the_cluster().into_iter().all(is_zero))
+        => writers(DELETE_CLUSTER, REPLIES);
     a_segment_that_is_not_deleted_while_something_lies_there: kept_by(DELETE_SEGMENT, is_not_zero)
         => writers(DELETE_SEGMENT, REPLIES);
     a_write_that_gives_back_what_was_there: written(|it, there| it.buffer[..there.len()].copy_from_slice(there))
@@ -140,9 +139,7 @@ fn in_clean_memory(it: &mut After) {
 
 /// There is no room where something lies.
 fn no_room(seen: &Seen) -> Option<Reply> {
-    let Call::NewSegment { size, .. } = seen.question.call else {
-        return None;
-    };
+    let Call::NewSegment { size, .. } = seen.question.call else { return None };
     let (node, length) = (seen.handle.node.into(), size as usize);
     let base = seen.store.as_ref()?.place(node, length)?;
     let part = Extent { base, length }.in_memory(node);
@@ -173,7 +170,8 @@ fn a_byte_more(it: &mut After) {
 table! {
     a_new_segment_that_is_not_cleared: not_cleared(|_, _| true) => writers(NEW_SEGMENT, SEGMENTS);
     a_new_segment_that_is_not_cleared_first: not_cleared(|at, _| at == 0) => writers(NEW_SEGMENT, SEGMENTS);
-    a_new_segment_that_is_not_cleared_last: not_cleared(|at, length| at + 1 == length) => writers(NEW_SEGMENT, SEGMENTS);
+    a_new_segment_that_is_not_cleared_last:
+        not_cleared(|at, length| at + 1 == length) => writers(NEW_SEGMENT, SEGMENTS);
     a_new_segment_that_is_not_cleared_from_64_on: not_cleared(|at, _| at >= 64) => writers(NEW_SEGMENT, SEGMENTS);
     a_new_segment_that_keeps_off_what_lies_there: on(NEW_SEGMENT, 0, in_clean_memory) => writers(NEW_SEGMENT, RECORDS);
     a_new_segment_that_keeps_off_what_lies_there_refused: instead(NEW_SEGMENT, 0, no_room)
@@ -186,9 +184,7 @@ table! {
 
 /// The handle made from the read password, where the call is in mode 2.
 fn from_the_read_password(seen: &Seen, made: impl FnOnce(&Password) -> Handle) -> Option<Reply> {
-    let cluster = seen
-        .cluster()
-        .filter(|_| seen.mode() == Some(Mode::Write))?;
+    let cluster = seen.cluster().filter(|_| seen.mode() == Some(Mode::Write))?;
     Some(Reply::with_handle(&made(&cluster.read)))
 }
 
@@ -252,10 +248,7 @@ fn telling(mode: Mode, has_to_open: bool) -> Wrong {
 }
 
 fn refuse(_: &mut Held, question: &Question) -> Answer {
-    Answer {
-        reply: Reply::refused(9),
-        buffer: question.buffer.clone(),
-    }
+    Answer { reply: Reply::refused(9), buffer: question.buffer.clone() }
 }
 
 // What is told to those who read is not found out: no list has a call that asks for reading by a handle that reads.

@@ -6,8 +6,7 @@ use library::guard;
 use library::image::{record_at, segment_at, Image};
 use library::question::{Answer, Held, Question};
 use model::call::{Call, Reply};
-use std::ops::Range;
-use std::rc::Rc;
+use std::{ops::Range, rc::Rc};
 
 pub type Ask = dyn Fn(&mut Held, &Question) -> Answer;
 /// Mode and width are one argument.
@@ -34,47 +33,28 @@ pub fn right() -> Wrong {
     }
 }
 
-pub fn validate_all(
-    held: &mut Held,
-    (mode, width): (usize, usize),
-    handles: &[u8],
-    numbers: &mut [u8],
-) -> usize {
+pub fn validate_all(held: &mut Held, (mode, width): (usize, usize), handles: &[u8], numbers: &mut [u8]) -> usize {
     guard::validate_all(held, mode, width, handles, numbers)
 }
 
 /// Answers in another way.
 pub fn asked(ask: impl Fn(&mut Held, &Question) -> Answer + 'static) -> Wrong {
-    Wrong {
-        ask: Rc::new(ask),
-        ..right()
-    }
+    Wrong { ask: Rc::new(ask), ..right() }
 }
 
 /// Judges many handles in another way.
-pub fn batch(
-    batch: impl Fn(&mut Held, (usize, usize), &[u8], &mut [u8]) -> usize + 'static,
-) -> Wrong {
-    Wrong {
-        batch: Rc::new(batch),
-        ..right()
-    }
+pub fn batch(batch: impl Fn(&mut Held, (usize, usize), &[u8], &mut [u8]) -> usize + 'static) -> Wrong {
+    Wrong { batch: Rc::new(batch), ..right() }
 }
 
 /// Holds other images for sound.
 pub fn judging(judge: impl Fn(&mut Image) -> bool + 'static) -> Wrong {
-    Wrong {
-        judge: Rc::new(judge),
-        ..right()
-    }
+    Wrong { judge: Rc::new(judge), ..right() }
 }
 
 /// Makes another handle of bytes.
 pub fn making(make: impl Fn(&[u8]) -> (u8, gelmuszta_handle) + 'static) -> Wrong {
-    Wrong {
-        make: Rc::new(make),
-        ..right()
-    }
+    Wrong { make: Rc::new(make), ..right() }
 }
 
 /// Takes a question for another.
@@ -152,23 +132,14 @@ pub fn after(change: impl Fn(&mut After) + 'static) -> Wrong {
 }
 
 /// The same for some questions.
-fn after_some(
-    meant: impl Fn(&Question) -> bool + 'static,
-    change: impl Fn(&mut After) + 'static,
-) -> Wrong {
+fn after_some(meant: impl Fn(&Question) -> bool + 'static, change: impl Fn(&mut After) + 'static) -> Wrong {
     asked(move |held, question| {
         if !meant(question) {
             return guard::ask(held, question);
         }
         let before = held.clone();
         let Answer { reply, buffer } = guard::ask(held, question);
-        let mut after = After {
-            before: &before,
-            held,
-            question,
-            reply,
-            buffer,
-        };
+        let mut after = After { before: &before, held, question, reply, buffer };
         change(&mut after);
         let (reply, buffer) = (after.reply, after.buffer);
         Answer { reply, buffer }
@@ -206,12 +177,7 @@ pub fn instead(code: u8, number: u8, other: impl Fn(&Seen) -> Option<Reply> + 's
 }
 
 /// Refuses with `wrong` what gets `right`, where this applies.
-pub fn refusing(
-    code: u8,
-    right: u8,
-    wrong: u8,
-    applies: impl Fn(&Seen) -> bool + 'static,
-) -> Wrong {
+pub fn refusing(code: u8, right: u8, wrong: u8, applies: impl Fn(&Seen) -> bool + 'static) -> Wrong {
     instead(code, right, move |seen| refused_if(applies(seen), wrong))
 }
 

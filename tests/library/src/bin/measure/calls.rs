@@ -1,14 +1,10 @@
 //! The calls that are measured, all of them done, each with the store it is done on.
 
 use crate::stores::{
-    falling, full, full_but_a_cluster, full_but_a_segment, full_length, lone, one_large, typical,
-    FREE_PLACE, PLACE, SEGMENT, TYPICAL_CLUSTERS,
+    falling, full, full_but_a_cluster, full_but_a_segment, full_length, lone, one_large, typical, FREE_PLACE, PLACE,
+    SEGMENT, TYPICAL_CLUSTERS,
 };
-use library::question::READ_MODE;
-use model::call::Call;
-use model::handle::{Handle, Selector, Width};
-use model::sizes::NODES;
-use model::store::{Mode, Store};
+use library::words::*;
 
 /// The segment that is made where the cluster has two.
 const THIRD: usize = 2;
@@ -52,27 +48,19 @@ fn weakest(primary: Handle) -> Handle {
 /// Handles of all active clusters in turn, with no subselector that is flat, as a batch takes them.
 pub fn many_handles(store: &Store, count: usize) -> Vec<u8> {
     let places = (0..NODES).flat_map(|node| (0..TYPICAL_CLUSTERS).map(move |local| (node, local)));
-    let all: Vec<_> = places
-        .map(|place| weakest(primary(store, place, Mode::Read)).to_bytes())
-        .collect();
+    let all: Vec<_> = places.map(|place| weakest(primary(store, place, Mode::Read)).to_bytes()).collect();
     all.into_iter().cycle().take(count).flatten().collect()
 }
 
 pub fn groups() -> [Group; 8] {
     let (lone, eight, sixteen) = (lone(), typical(Width::Eight), typical(Width::Sixteen));
     [
-        Group {
-            name: "empty store",
-            rows: vec![new_cluster(Store::starting(), Width::Eight)],
-        },
+        Group { name: "empty store", rows: vec![new_cluster(Store::starting(), Width::Eight)] },
         Group {
             name: "one cluster with two segments of 400 bytes, all others inactive",
             rows: rows(&lone, lone.clone(), lone.clone(), THIRD),
         },
-        Group {
-            name: "typical store",
-            rows: rows(&eight, eight.clone(), eight.clone(), THIRD),
-        },
+        Group { name: "typical store", rows: rows(&eight, eight.clone(), eight.clone(), THIRD) },
         Group {
             name: "the same with clusters of sixteen",
             rows: rows(&sixteen, sixteen.clone(), sixteen.clone(), THIRD),
@@ -81,15 +69,10 @@ pub fn groups() -> [Group; 8] {
             name: "full store; for calls 1 and 3 one cluster or one segment short of it",
             rows: when_full(Width::Eight),
         },
-        Group {
-            name: "full store with clusters of sixteen, likewise",
-            rows: when_full(Width::Sixteen),
-        },
+        Group { name: "full store with clusters of sixteen, likewise", rows: when_full(Width::Sixteen) },
         Group {
             name: "the two full ones, segments from the highest base down and the free bytes highest",
-            rows: [Width::Eight, Width::Sixteen]
-                .map(|width| new_segment(falling(width), width.segments() - 1))
-                .into(),
+            rows: [Width::Eight, Width::Sixteen].map(|width| new_segment(falling(width), width.segments() - 1)).into(),
         },
         Group {
             name: "a look beside a read of 4,096 bytes: one segment fills the node, the rest is typical",
@@ -106,10 +89,7 @@ fn when_full(width: Width) -> Vec<Row> {
 
 /// Calls on a store; those that make something are done on stores that have room for it.
 fn rows(store: &Store, for_cluster: Store, for_segment: Store, segment: usize) -> Vec<Row> {
-    let made = [
-        new_cluster(for_cluster, width_of(store, PLACE)),
-        new_segment(for_segment, segment),
-    ];
+    let made = [new_cluster(for_cluster, width_of(store, PLACE)), new_segment(for_segment, segment)];
     made.into_iter().chain(on_what_is_there(store)).collect()
 }
 
@@ -122,12 +102,7 @@ fn new_cluster(store: Store, width: Width) -> Row {
         read: [1; 16],
         write: [2; 16],
     };
-    Row {
-        name: "1 new cluster",
-        store,
-        call,
-        place: FREE_PLACE,
-    }
+    Row { name: "1 new cluster", store, call, place: FREE_PLACE }
 }
 
 /// As long as those that a full store has.
@@ -188,22 +163,12 @@ fn on_a_large_segment(store: &Store) -> [Row; 2] {
 }
 
 fn row(store: &Store, (name, call): (&'static str, Call)) -> Row {
-    Row {
-        name,
-        store: store.clone(),
-        call,
-        place: PLACE,
-    }
+    Row { name, store: store.clone(), call, place: PLACE }
 }
 
 /// It sees no store.
 pub fn weakening(name: &'static str, width: Width) -> Row {
     let store = typical(width);
     let call = Call::weaken(MASK, primary(&store, PLACE, Mode::Read).to_bytes());
-    Row {
-        name,
-        store,
-        call,
-        place: PLACE,
-    }
+    Row { name, store, call, place: PLACE }
 }

@@ -6,17 +6,9 @@ mod repeated;
 mod stores;
 
 use calls::{groups, many_handles, weakening, Row};
-use library::guard;
-use library::image::{decode, Image};
-use library::question::READ_MODE;
-use model::call::Call;
-use model::handle::{convert, Password, Width};
-use model::sizes::MEMORY_BYTES;
-use model::store::Store;
-use model::table::{refusal_below, Found, DONE, UNSOUND};
+use library::{guard, words::*};
 use repeated::{OnImage, OnRecords};
-use std::hint::black_box;
-use std::time::Instant;
+use std::{hint::black_box, time::Instant};
 use stores::{full, held, typical};
 
 const ROUNDS: usize = 1000;
@@ -76,10 +68,7 @@ fn conversion() {
         || second = convert(black_box(&second), black_box(3)),
         || third = convert(black_box(&third), black_box(3)),
     );
-    assert!(
-        first == second && second == third,
-        "all give the same password"
-    );
+    assert!(first == second && second == third, "all give the same password");
     report("conversion", times);
 }
 
@@ -113,10 +102,7 @@ fn one_call(row: &Row) {
         || third.by_model(black_box(call)),
     );
     assert_eq!(first.reply.number, DONE, "{name} is done");
-    assert!(
-        first.reply == second.reply && second.reply == third.reply,
-        "all reply the same"
-    );
+    assert!(first.reply == second.reply && second.reply == third.reply, "all reply the same");
     assert!(first.buffer == second.buffer && second.buffer == third.buffer);
     assert!(first.held.memory == second.held.memory && second.held.memory == third.memory);
     report(name, times);
@@ -131,10 +117,7 @@ fn validate_all(store: &Store, mode: u32, width: Width, handles: &[u8], numbers:
     for (number, bytes) in numbers.iter_mut().zip(handles) {
         let handle = bytes.to_vec();
         let call = Call::Validate { mode, handle };
-        *number = match sound {
-            true => refusal_below(UNSOUND, &call, &found).unwrap_or(DONE),
-            false => UNSOUND,
-        };
+        *number = if sound { refusal_below(UNSOUND, &call, &found).unwrap_or(DONE) } else { UNSOUND };
     }
 }
 
@@ -168,10 +151,7 @@ fn batch(name: &str, width: Width) {
 fn main() {
     println!("Nanoseconds a call: the best of {ROUNDS} rounds of {CALLS} calls, {BATCH_ROUNDS} of a batch.");
     println!("{PREFACE}\n");
-    println!(
-        "{:<44}{:>10}{:>10}{:>7}{:>10}{:>7}",
-        "", "library", "on image", "ratio", "records", "ratio"
-    );
+    println!("{:<44}{:>10}{:>10}{:>7}{:>10}{:>7}", "", "library", "on image", "ratio", "records", "ratio");
     conversion();
     one_call(&weakening("7 weaken, primary, of four", Width::Four));
     one_call(&weakening("7 weaken, primary", Width::Eight));

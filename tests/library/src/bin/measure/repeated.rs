@@ -1,17 +1,9 @@
 //! The same call done again and again: afterwards the record of its cluster is put back.
 
 use crate::stores::{held, memory};
-use library::ffi::HANDLE_MAX;
-use library::guard::handles::Presented;
-use library::guard::Lent;
-use library::image::{decode, encode, record_at, RECORD_BYTES};
-use library::question::{Held, Memory};
-use model::call::{Call, Reply};
+use library::{ffi::HANDLE_MAX, guard::handles::Presented, guard::Lent, words::*};
 use model::model::run;
-use model::sizes::NODE_BYTES;
-use model::store::{Cluster, Store};
-use std::hint::black_box;
-use std::ops::Range;
+use std::{hint::black_box, ops::Range};
 
 /// A store as an image, for the library and for the model.
 pub struct OnImage {
@@ -44,11 +36,7 @@ impl OnImage {
     }
 
     pub fn by_library(&mut self, call: &Call) {
-        let lent = Lent {
-            image: &mut self.held.image,
-            memory: &mut self.held.memory,
-            buffer: &mut self.buffer,
-        };
+        let lent = Lent { image: &mut self.held.image, memory: &mut self.held.memory, buffer: &mut self.buffer };
         self.reply = lent.run(call, black_box(&self.handles), 0);
         self.put_back();
     }

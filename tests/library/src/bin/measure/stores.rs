@@ -1,10 +1,6 @@
 //! The stores that calls are measured on.
 
-use library::image::encode;
-use library::question::{Held, Memory};
-use model::handle::Width;
-use model::sizes::{CLUSTERS, NODES, NODE_BYTES};
-use model::store::{Cluster, Segment, Store};
+use library::words::*;
 
 /// The cluster that calls are about, and one that a call can make.
 pub const PLACE: (usize, usize) = (2, 3);
@@ -30,10 +26,7 @@ pub fn memory() -> Memory {
 }
 
 pub fn held(store: &Store) -> Held {
-    Held {
-        image: encode(store),
-        memory: memory(),
-    }
+    Held { image: encode(store), memory: memory() }
 }
 
 /// Active, with passwords that no other cluster has.
@@ -113,10 +106,8 @@ pub fn falling(width: Width) -> Store {
     let length = full_length(width);
     for node in 0..NODES {
         let segments = store.clusters[node].iter_mut();
-        let present_ones: Vec<&mut Segment> = segments
-            .flat_map(|cluster| &mut cluster.segments)
-            .filter(|segment| segment.is_present())
-            .collect();
+        let present_ones: Vec<&mut Segment> =
+            segments.flat_map(|cluster| &mut cluster.segments).filter(|segment| segment.is_present()).collect();
         for (at, segment) in present_ones.into_iter().rev().enumerate() {
             *segment = present(at * length, length);
         }

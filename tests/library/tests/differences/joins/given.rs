@@ -106,7 +106,8 @@ table! {
     of_eight_always: giving(|it| changed(it, |given| at_width(&given, Width::Eight))) => joins(0);
     of_the_next_width: giving(|it| changed(it, |given| at_width(&given, next(given.width())))) => joins(0);
     others_not_flat: giving(|it| changed(it, |given| subselectors(given, |_| [it.union(); 4]))) => joins(0);
-    the_last_subselector: giving(|it| changed(it, |given| subselectors(given, |[a, b, c, d]| [d, c, b, a]))) => joins(0);
+    the_last_subselector:
+        giving(|it| changed(it, |given| subselectors(given, |[a, b, c, d]| [d, c, b, a]))) => joins(0);
     no_name: giving(|it| changed(it, |given| Handle { node: 0, local: 0, ..given })) => joins(0);
     the_first_comes_back_where_it_has_all: giving(|it| back(it, 0)) => joins(0);
     the_second_comes_back_where_it_has_all: giving(|it| back(it, 1)) => joins(0);

@@ -22,9 +22,7 @@ pub struct Asked {
 impl Asked {
     /// A damaged image has no store.
     fn of(held: &Held, question: &Question) -> Option<Asked> {
-        let Call::Join { mode, .. } = question.call else {
-            return None;
-        };
+        let Call::Join { mode, .. } = question.call else { return None };
         let mut both = question.call.presented_bytes();
         let both = [both.next()?, both.next()?];
         Some(Asked {
@@ -142,11 +140,7 @@ fn noting(handle: Handle, password: &Password, segments: u16) -> HandleBytes {
     let mut selector = Selector::primary(handle.width());
     selector.subselectors[0] = segments;
     let password = guard::convert(password, segments);
-    let noting = Handle {
-        password,
-        selector,
-        ..handle
-    };
+    let noting = Handle { password, selector, ..handle };
     noting.to_bytes()
 }
 
@@ -157,16 +151,11 @@ const RIGHTLY: Given = |it| noting(it.handles[0], &it.primary(0), it.union());
 
 /// What joining by these rows comes to, the first that applies.
 fn by_rows(held: &mut Held, question: &Question, rows: &[Row], given: Given) -> Answer {
-    let Some(asked) = Asked::of(held, question) else {
-        return guard::ask(held, question);
-    };
+    let Some(asked) = Asked::of(held, question) else { return guard::ask(held, question) };
     let refusal = rows.iter().find(|(_, applies)| applies(&asked));
     let reply = match refusal {
         Some((number, _)) => Reply::refused(*number),
-        None => Reply {
-            first: given(&asked),
-            ..Reply::DONE
-        },
+        None => Reply { first: given(&asked), ..Reply::DONE },
     };
     let buffer = question.buffer.clone();
     Answer { reply, buffer }

@@ -75,13 +75,16 @@ table! {
     whole_where_one_is_primary_alone: other(WHOLE, (23, |it| it.is_primary(0) || it.is_primary(1))) => joins(23);
     whole_where_neither_is_primary_alone:
         other(WHOLE, (23, |it| it.is_whole() && !it.is_primary(0) && !it.is_primary(1))) => joins(23);
-    whole_where_the_first_is_not_primary_alone: other(WHOLE, (23, |it| it.is_whole() && !it.is_primary(0))) => joins(23);
-    whole_where_the_second_is_not_primary_alone: other(WHOLE, (23, |it| it.is_whole() && !it.is_primary(1))) => joins(23);
+    whole_where_the_first_is_not_primary_alone:
+        other(WHOLE, (23, |it| it.is_whole() && !it.is_primary(0))) => joins(23);
+    whole_where_the_second_is_not_primary_alone:
+        other(WHOLE, (23, |it| it.is_whole() && !it.is_primary(1))) => joins(23);
     two_primary_handles_joined:
         other(WHOLE, (23, |it| it.is_whole() && !(it.is_primary(0) && it.is_primary(1)))) => joins(23);
     whole_by_what_both_reference: other(WHOLE, (23, |it| it.referenced()[0] & it.referenced()[1] == it.flat()))
         => joins(23);
-    all_but_one_taken_for_all: other(WHOLE, (23, |it| it.union().count_ones() + 1 >= it.flat().count_ones())) => joins(0);
+    all_but_one_taken_for_all:
+        other(WHOLE, (23, |it| it.union().count_ones() + 1 >= it.flat().count_ones())) => joins(0);
     all_of_the_first_eight_taken_for_all:
         other(WHOLE, (23, |it| it.union() & it.flat() & 0x00ff == it.flat() & 0x00ff)) => joins(0);
     all_of_eight_alone: other(WHOLE, (23, |it| it.is_whole() && it.flat() == 0x00ff)) => joins(23);
@@ -122,18 +125,13 @@ table! {
 fn secret(held: &Held, handle: &Handle, has_to_open: bool) -> u32 {
     let store = decode(&held.image);
     let (node, local) = (handle.node.into(), handle.local.into());
-    let Some(cluster) = store.and_then(|store| store.cluster(node, local).copied()) else {
-        return 0;
-    };
-    let validates = Mode::ALL
-        .iter()
-        .any(|mode| handle.validates(&cluster, *mode));
+    let Some(cluster) = store.and_then(|store| store.cluster(node, local).copied()) else { return 0 };
+    let validates = Mode::ALL.iter().any(|mode| handle.validates(&cluster, *mode));
     let opens = cluster.active && !handle.selector.is_gapped() && validates;
     match opens || !has_to_open {
-        true => [cluster.read, cluster.write]
-            .concat()
-            .iter()
-            .fold(0, |sum, byte| (sum * 31 + u32::from(*byte)) % 65_521),
+        true => {
+            [cluster.read, cluster.write].concat().iter().fold(0, |sum, byte| (sum * 31 + u32::from(*byte)) % 65_521)
+        }
         false => 0,
     }
 }
@@ -145,9 +143,7 @@ fn telling(handles: &'static [usize], has_to_open: bool) -> Wrong {
             let both = it.question.call.presented_bytes().enumerate();
             let meant = both.filter(|(at, _)| handles.contains(at));
             let read = meant.filter_map(|(_, bytes)| Handle::from_bytes(bytes));
-            it.reply.count = read
-                .map(|handle| secret(it.held, &handle, has_to_open))
-                .sum();
+            it.reply.count = read.map(|handle| secret(it.held, &handle, has_to_open)).sum();
         }
     })
 }

@@ -28,9 +28,7 @@ fn batch_kept(kept_from: Mode) -> Wrong {
     batch(move |held, (mode, width), handles, numbers| {
         let count = validate_all(held, (mode, width), handles, numbers);
         let store = decode(&held.image).filter(|_| mode == kept_from.number() as usize);
-        let (Some(width), Some(store)) = (Width::of_segments(width), store) else {
-            return count;
-        };
+        let (Some(width), Some(store)) = (Width::of_segments(width), store) else { return count };
         let handles = handles.chunks_exact(width.handle_bytes());
         for (number, bytes) in numbers.iter_mut().zip(handles).take(count) {
             let handle = Handle::from_bytes(bytes).expect("it is a whole one");

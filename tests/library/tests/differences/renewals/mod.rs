@@ -17,26 +17,18 @@ pub struct Asked {
 impl Asked {
     /// Whether this new password comes as far as 12 is seen by another one, which the cluster has in neither mode.
     fn of(held: &Held, question: &Question) -> Option<Asked> {
-        let Call::NewPassword { mode, password, .. } = question.call else {
-            return None;
-        };
+        let Call::NewPassword { mode, password, .. } = question.call else { return None };
         let seen = Seen::of(held, question)?;
         let (cluster, handle) = (seen.cluster()?, seen.handle);
-        let strange = (0..=u8::MAX)
-            .map(|byte| [byte; 16])
-            .find(|strange| ![cluster.read, cluster.write].contains(strange))?;
+        let strange =
+            (0..=u8::MAX).map(|byte| [byte; 16]).find(|strange| ![cluster.read, cluster.write].contains(strange))?;
         seen.done(|_, question| {
             if let Call::NewPassword { password, .. } = &mut question.call {
                 *password = strange;
             }
         })?;
         let mode = Mode::from_number(mode)?;
-        Some(Asked {
-            cluster,
-            mode,
-            handle,
-            password,
-        })
+        Some(Asked { cluster, mode, handle, password })
     }
 
     /// The current passwords of the mode and of the other one.
@@ -67,18 +59,13 @@ type Outcome = Result<(Cluster, Password), u8>;
 /// This becomes of a new password that nothing before 12 speaks against.
 fn renewed(outcome: impl Fn(&Asked) -> Outcome + 'static) -> Wrong {
     asked(move |held, question| {
-        let Some(asked) = Asked::of(held, question) else {
-            return guard::ask(held, question);
-        };
+        let Some(asked) = Asked::of(held, question) else { return guard::ask(held, question) };
         let reply = match outcome(&asked) {
             Err(number) => Reply::refused(number),
             Ok((cluster, password)) => {
                 let (node, local) = asked.handle.name();
                 *held = with(held, (node.into(), local.into()), cluster);
-                Reply::with_handle(&Handle {
-                    password,
-                    ..asked.handle
-                })
+                Reply::with_handle(&Handle { password, ..asked.handle })
             }
         };
         let buffer = question.buffer.clone();
@@ -146,10 +133,7 @@ fn the_right_way_is_not_found_out() {
 
 /// Found out by a new password that is done or refused with 12: which of the two comes first hangs on chance.
 fn either_way() -> Complaint {
-    told([
-        Asks(NEW_PASSWORD),
-        Either(&["model: number 0,", "model: number 12,"]),
-    ])
+    told([Asks(NEW_PASSWORD), Either(&["model: number 0,", "model: number 12,"])])
 }
 
 fn renewals(right: u8, wrong: u8) -> Complaint {
@@ -159,10 +143,7 @@ fn renewals(right: u8, wrong: u8) -> Complaint {
 /// 12 where the new password is the mode's own, in the place of this number.
 fn old_before(number: u8) -> Wrong {
     refusing(NEW_PASSWORD, number, 12, |seen| {
-        let own = seen
-            .cluster()
-            .zip(seen.mode())
-            .map(|(cluster, mode)| *cluster.primary(mode));
+        let own = seen.cluster().zip(seen.mode()).map(|(cluster, mode)| *cluster.primary(mode));
         matches!(seen.question.call, Call::NewPassword { password, .. } if own == Some(password))
     })
 }
@@ -170,18 +151,12 @@ fn old_before(number: u8) -> Wrong {
 /// Call 1 makes clusters with equal passwords.
 fn twins_made() -> Wrong {
     on(NEW_CLUSTER, 7, |it| {
-        let Call::NewCluster {
-            width, read, write, ..
-        } = it.question.call
-        else {
-            return;
-        };
+        let Call::NewCluster { width, read, write, .. } = it.question.call else { return };
         let (node, local) = it.cluster().expect("2 comes before 7");
         let width = Width::of_segments(width).expect("3 comes before 7");
         let cluster = Cluster::new(width, read, write);
         *it.held = with(it.held, (node, local), cluster);
-        let handle =
-            |password| Handle::primary(width, node as u16, local as u8, password).to_bytes();
+        let handle = |password| Handle::primary(width, node as u16, local as u8, password).to_bytes();
         (it.reply, it.reply.first, it.reply.second) = (Reply::DONE, handle(read), handle(write));
     })
 }
@@ -198,15 +173,10 @@ fn has_equal(image: &Image) -> bool {
 fn unsound_where_equal() -> Wrong {
     Wrong {
         judge: Rc::new(|image| guard::is_sound(image) && !has_equal(image)),
-        ..asked(
-            |held, question| match has_equal(&held.image) && question.code() != WEAKEN {
-                true => Answer {
-                    reply: Reply::refused(1),
-                    buffer: question.buffer.clone(),
-                },
-                false => guard::ask(held, question),
-            },
-        )
+        ..asked(|held, question| match has_equal(&held.image) && question.code() != WEAKEN {
+            true => Answer { reply: Reply::refused(1), buffer: question.buffer.clone() },
+            false => guard::ask(held, question),
+        })
     }
 }
 
@@ -249,10 +219,7 @@ fn both_replaced_where_equal(cluster: &mut Cluster, it: &Asked) {
 
 /// The first that the search meets.
 fn one_replaced_where_equal(cluster: &mut Cluster, it: &Asked, first: Mode) {
-    let mode = match cluster.has_equal_passwords() {
-        true => first,
-        false => it.mode,
-    };
+    let mode = if cluster.has_equal_passwords() { first } else { it.mode };
     *cluster.primary_mut(mode) = it.password;
 }
 

@@ -11,8 +11,7 @@ fn opened(opens: fn(handle: usize, cluster: usize) -> bool) -> Wrong {
         let seen = Seen::of(held, question);
         let cluster = seen.as_ref().and_then(Seen::cluster);
         let own = cluster.and_then(|cluster| cluster.known_width());
-        let (Some(seen), Some(cluster), Some(own), Some(mode)) =
-            (seen, cluster, own, question.call.needed_mode())
+        let (Some(seen), Some(cluster), Some(own), Some(mode)) = (seen, cluster, own, question.call.needed_mode())
         else {
             return guard::ask(held, question);
         };
@@ -54,9 +53,7 @@ fn nine(code: u8) -> Wrong {
 }
 
 fn nine_first(code: u8) -> Wrong {
-    at_second(9, move |seen| {
-        seen.question.code() == code && seen.is_forged()
-    })
+    at_second(9, move |seen| seen.question.code() == code && seen.is_forged())
 }
 
 /// Has 25 in the place of this number in calls with this code.
@@ -190,19 +187,13 @@ fn one<const FROM: usize, const TO: usize>(width: usize) -> usize {
 
 /// Where it is taken, 6 or 7 may be next.
 fn taken() -> Complaint {
-    told([Asks(NEW_CLUSTER), Right(3)])
-        .and(By::NewClusters, [Asks(NEW_CLUSTER), Right(3), Gives(0)])
+    told([Asks(NEW_CLUSTER), Right(3)]).and(By::NewClusters, [Asks(NEW_CLUSTER), Right(3), Gives(0)])
 }
 
 /// Has `wrong` in the place of `right` for call 1, where that applies as well.
 fn call_1(right: u8, wrong: u8) -> Wrong {
     on(NEW_CLUSTER, right, move |it| {
-        let Call::NewCluster {
-            width, read, write, ..
-        } = it.question.call
-        else {
-            return;
-        };
+        let Call::NewCluster { width, read, write, .. } = it.question.call else { return };
         let (node, local) = it.cluster().expect("call 1 names one");
         let applies = match wrong {
             3 => is_none(width),

@@ -40,9 +40,7 @@ fn high_bytes_first(selector: &mut [u8]) {
 }
 
 fn exchange(halves: &mut [u8]) {
-    halves
-        .iter_mut()
-        .for_each(|byte| *byte = byte.rotate_left(4));
+    halves.iter_mut().for_each(|byte| *byte = byte.rotate_left(4));
 }
 
 // Each but the last is its own opposite, so that such a library reads back what it writes.
@@ -80,10 +78,7 @@ fn converted(reply: &Reply, password: &Password, other: fn(u16) -> u16) -> Optio
     let noted = noted.find(|part| *part != flat && is_wide)?;
     given.password = guard::convert(password, other(noted));
     let first = given.to_bytes();
-    Some(Reply {
-        first,
-        ..reply.clone()
-    })
+    Some(Reply { first, ..reply.clone() })
 }
 
 /// Weakens by another parameter.
@@ -97,10 +92,7 @@ fn weakens(other: fn(u16) -> u16) -> Wrong {
 fn reduces(other: fn(u16) -> u16) -> Wrong {
     on(REDUCE, 0, move |it| {
         let seen = it.seen().expect("it is done by a handle");
-        let primary = seen
-            .cluster()
-            .zip(seen.mode())
-            .map(|(cluster, mode)| *cluster.primary(mode));
+        let primary = seen.cluster().zip(seen.mode()).map(|(cluster, mode)| *cluster.primary(mode));
         let wrong = primary.and_then(|primary| converted(&it.reply, &primary, other));
         it.reply = wrong.unwrap_or(it.reply.clone());
     })
@@ -109,16 +101,11 @@ fn reduces(other: fn(u16) -> u16) -> Wrong {
 fn validates(other: fn(u16) -> u16) -> Wrong {
     on(VALIDATION, 0, move |it| {
         let seen = it.seen().expect("it is done by a handle");
-        let primary = seen
-            .cluster()
-            .zip(seen.mode())
-            .map(|(cluster, mode)| *cluster.primary(mode));
+        let primary = seen.cluster().zip(seen.mode()).map(|(cluster, mode)| *cluster.primary(mode));
         let (mut handle, primary) = (seen.handle, primary.expect("it is done"));
         let flat = handle.width().flat();
         let parts = handle.selector.subselectors.iter_mut();
-        parts
-            .filter(|part| **part != flat)
-            .for_each(|part| *part = other(*part));
+        parts.filter(|part| **part != flat).for_each(|part| *part = other(*part));
         let is_wide = handle.width() == Width::Sixteen;
         if is_wide && derive(&primary, &handle.selector) != handle.password {
             it.reply = Reply::refused(9);
@@ -158,10 +145,8 @@ impl Weakened {
 fn excluded(it: &Weakened) -> Option<Reply> {
     let handle = it.handle;
     let password = guard::convert(&handle.password, handle.width().flat());
-    (it.is_clear_above() && !it.is_spent()).then(|| Reply {
-        first: Handle { password, ..handle }.to_bytes(),
-        ..it.reply.clone()
-    })
+    (it.is_clear_above() && !it.is_spent())
+        .then(|| Reply { first: Handle { password, ..handle }.to_bytes(), ..it.reply.clone() })
 }
 
 /// Gives a handle to nothing for a mask that keeps nothing but what there is not.

@@ -3,8 +3,7 @@
 
 use super::{at_first, is_known, is_none, up_to_the_next, widths};
 use crate::words::*;
-use library::chance::handles::at_width;
-use library::compare::is_sound;
+use library::{chance::handles::at_width, compare::is_sound};
 
 /// Takes bytes of one length for a handle of another; those that are missing are all ones.
 fn taken_for(meant: impl Fn(&Question) -> bool + 'static, lengths: fn(usize) -> usize) -> Wrong {
@@ -109,7 +108,8 @@ fn first_in(code: u8) -> Wrong {
 table! {
     after_1: unsound_first(|code| code != WEAKEN, |held| !is_sound(held)) => unsound();
     after_1_on_damage: unsound_first(|code| code != WEAKEN, is_damaged) => unsound();
-    after_1_on_no_damage: unsound_first(|code| code != WEAKEN, |held| !is_damaged(held) && !is_sound(held)) => unsound();
+    after_1_on_no_damage:
+        unsound_first(|code| code != WEAKEN, |held| !is_damaged(held) && !is_sound(held)) => unsound();
 }
 
 mod after_1_in_one_call {
@@ -169,9 +169,7 @@ fn left(code: u8, length: usize) -> Wrong {
 /// The length of the handle that was presented.
 fn of_the_handle(it: &mut After) {
     let gives = [REDUCE, NEW_PASSWORD, JOIN, WEAKEN].contains(&it.question.code());
-    if let (true, false, Some(handle)) =
-        (gives, it.reply.is_done(), it.question.call.handle_bytes())
-    {
+    if let (true, false, Some(handle)) = (gives, it.reply.is_done(), it.question.call.handle_bytes()) {
         it.reply.first = vec![0; handle.len()];
     }
 }
@@ -220,17 +218,13 @@ mod of_another_length {
 
 /// Takes the width of a batch in this way.
 fn batch_of(taken: fn(usize) -> usize) -> Wrong {
-    batch(move |held, (mode, width), handles, numbers| {
-        validate_all(held, (mode, taken(width)), handles, numbers)
-    })
+    batch(move |held, (mode, width), handles, numbers| validate_all(held, (mode, taken(width)), handles, numbers))
 }
 
 /// Slots of a length of their own, and handles as long as the width says at the beginning of each.
 fn slots(slot: usize) -> Wrong {
     batch(move |held, how, handles, numbers| {
-        let Some(own) = Width::of_segments(how.1) else {
-            return 0;
-        };
+        let Some(own) = Width::of_segments(how.1) else { return 0 };
         let slots = handles.chunks_exact(slot).map(|handle| {
             let mut handle = handle.to_vec();
             handle.resize(own.handle_bytes(), 0xff);

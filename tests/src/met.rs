@@ -1,0 +1,132 @@
+//! Situations, each by its name: how often each was met, and which of those that are due was not.
+
+use crate::{frozen::Case, joins::Meeting, nothing::Way, renewals::Renewal, words::*};
+use std::collections::{BTreeMap, HashMap};
+use std::fmt;
+
+/// Those of which the fewest were met are told by name, so many.
+const TOLD: usize = 5;
+
+#[derive(Clone, Debug)]
+pub struct Met {
+    /// In what.
+    of: &'static str,
+    due: Vec<String>,
+    counts: HashMap<String, u64>,
+}
+
+impl Met {
+    pub fn new(of: &'static str, due: impl IntoIterator<Item = impl fmt::Display>) -> Met {
+        Met { of, due: due.into_iter().map(|what| what.to_string()).collect(), counts: HashMap::new() }
+    }
+
+    pub fn note(&mut self, what: impl fmt::Display) {
+        *self.counts.entry(what.to_string()).or_default() += 1;
+    }
+
+    pub fn note_if(&mut self, is_met: bool, what: impl fmt::Display) {
+        if is_met {
+            self.note(what);
+        }
+    }
+
+    pub fn note_all(&mut self, all: impl IntoIterator<Item = impl fmt::Display>) {
+        all.into_iter().for_each(|what| self.note(what));
+    }
+
+    pub fn count(&self, what: &str) -> u64 {
+        self.counts.get(what).copied().unwrap_or(0)
+    }
+
+    pub fn due(&self) -> impl Iterator<Item = &String> {
+        self.due.iter()
+    }
+
+    /// What was met and is not due.
+    pub fn not_due(&self) -> impl Iterator<Item = &String> {
+        self.counts.keys().filter(|what| !self.due.contains(what))
+    }
+
+    /// What is due and was not met.
+    pub fn faults(&self) -> Vec<String> {
+        let missing = self.due.iter().filter(|what| self.count(what) == 0);
+        missing.map(|what| format!("not met: {}, {what}", self.of)).collect()
+    }
+}
+
+impl fmt::Display for Met {
+    fn fmt(&self, to: &mut fmt::Formatter) -> fmt::Result {
+        let mut counts: Vec<(u64, &str)> = self.due.iter().map(|what| (self.count(what), what.as_str())).collect();
+        counts.sort();
+        let met = counts.iter().filter(|(count, _)| *count > 0).count();
+        let seldom: Vec<String> = counts.iter().take(TOLD).map(|(count, what)| format!("{what} ({count})")).collect();
+        write!(to, "{}: {met} of {} situations met; the fewest: {}", self.of, counts.len(), seldom.join("; "))
+    }
+}
+
+/// The way to nothing that a call which came to `number` has gone, by name.
+pub fn way(call: &Call, number: u8) -> Option<String> {
+    Way::of(call, number).map(|way| format!("way to nothing, {way:?}"))
+}
+
+/// What it has met where something is frozen, in joins, and with new passwords; `found` is what it was put to.
+pub fn situations(found: &Found, call: &Call, number: u8) -> impl Iterator<Item = String> {
+    let frozen = Case::of(found, call, number).map(|case| format!("something frozen, {case:?}"));
+    let joins = Meeting::of(found, call, number).into_iter().map(|meeting| format!("a join, {meeting:?}"));
+    let passwords = Renewal::of(found, call, number).map(|renewal| format!("passwords, {renewal:?}"));
+    frozen.into_iter().chain(joins).chain(passwords)
+}
+
+/// All of these that there are.
+pub fn due() -> impl Iterator<Item = String> {
+    named(Way::ALL.into_iter(), Case::ALL.into_iter(), Meeting::all(), Renewal::all())
+}
+
+/// Those that a list can come to: it asks for no look, for no validation by itself, and has one width.
+pub fn due_in_lists() -> impl Iterator<Item = String> {
+    let ways = Way::ALL.into_iter().filter(|way| *way != Way::Validated);
+    let cases = Case::ALL.into_iter().filter(|case| *case != Case::Shown);
+    named(ways, cases, Meeting::in_lists(), Renewal::in_lists())
+}
+
+fn named(
+    ways: impl Iterator<Item = Way>,
+    cases: impl Iterator<Item = Case>,
+    meetings: impl Iterator<Item = Meeting>,
+    renewals: impl Iterator<Item = Renewal>,
+) -> impl Iterator<Item = String> {
+    let ways = ways.map(|way| format!("way to nothing, {way:?}"));
+    let cases = cases.map(|case| format!("something frozen, {case:?}"));
+    let meetings = meetings.map(|meeting| format!("a join, {meeting:?}"));
+    ways.chain(cases).chain(meetings).chain(renewals.map(|renewal| format!("passwords, {renewal:?}")))
+}
+
+/// A row for each of `codes`, and how often calls with it came to each of `numbers`.
+pub fn table(
+    codes: impl Iterator<Item = (u8, &'static str)>,
+    numbers: &[u8],
+    counts: &BTreeMap<(u8, u8), u64>,
+) -> String {
+    let cells = |cell: &dyn Fn(&u8) -> String| numbers.iter().map(|number| format!("{:>7}", cell(number))).collect();
+    let row = |name: &str, cells: String| format!("{name:<15}{cells}\n");
+    let heads = row("call \\ number", cells(&u8::to_string));
+    let rows = codes.map(|(code, name)| {
+        let count = |number: &u8| counts.get(&(code, *number)).map_or(".".to_string(), u64::to_string);
+        row(name, cells(&count))
+    });
+    std::iter::once(heads).chain(rows).collect()
+}
+
+/// An enumeration, and all of it in order.
+#[macro_export]
+macro_rules! listed {
+    ($(#[$about:meta])* $vis:vis enum $name:ident { $($(#[$doc:meta])* $one:ident),* $(,)? }) => {
+        $(#[$about])*
+        #[derive(Clone, Copy, Debug, PartialEq, Eq, PartialOrd, Ord)]
+        $vis enum $name { $($(#[$doc])* $one),* }
+
+        impl $name {
+            pub const ALL: [$name; [$($name::$one),*].len()] = [$($name::$one),*];
+        }
+    };
+}
