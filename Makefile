@@ -96,13 +96,6 @@ lib: need-rt
 	@tools/prove library gelmuszta
 	@$(if $(filter lib,$(MAKECMDGOALS)),echo 'link with: cc -Iinclude FILE.c $(LIBRARY)')
 
-# How many crates or edits rt proves at once. It waits for the slowest of them before it goes on, so one more than there are
-# processors keeps these busy; each takes up to 1.5 GB.
-ifndef RT_JOBS
-RT_JOBS := $(shell n=$$(nproc 2> /dev/null || echo 1); echo $$((n < 4 ? n + 1 : 4)))
-endif
-export RT_JOBS
-
 # make test            the whole gate, from nothing; the last line is rt's 'N passed, 0 failed'
 # Layout, the names in STATEMENTS, proofs and must-fail edits with the Rust tests beside them, programs, the comparison with the
 # model: that of the library, which is proved once more for its archive, beside that of the program.
@@ -130,6 +123,7 @@ rust: need-cargo need-cc
 	cargo test --quiet --offline --manifest-path tests/Cargo.toml
 	cargo test --quiet --offline --manifest-path tools/Cargo.toml
 	cargo build --quiet --release --offline --manifest-path tests/Cargo.toml
+	$(BUILT_QUICKLY) cargo build --quiet --release --offline --manifest-path tests/library/Cargo.toml --package model --lib
 
 # make compare         benchrun and the library against the separately written model
 # Every example, the ways that input and output can come, lists and calls made by chance, the published handles.

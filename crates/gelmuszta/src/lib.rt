@@ -13,7 +13,11 @@ use numbers::UNSOUND;
 use sizes::MEMORY;
 use store::Cluster;
 ghost use mathlib.Core.Path.{_≡_};
+ghost use mathlib.Core.Bool.{_&&_};
+ghost use Rattle.sizes.specs.Sizes.{memory};
 ghost use Rattle.codec.specs.Held.{bytesHeld};
+ghost use Rattle.store.specs.Sound as sound-spec;
+ghost use Rattle.image.specs.Images.{good, storeIn};
 ghost use Rattle.gelmuszta.specs.Version as versions;
 ghost use Rattle.gelmuszta.specs.Exported as exported;
 ghost use Rattle.gelmuszta.specs.inner.Opened as opened;
@@ -64,9 +68,17 @@ struct Located {
 fn locate(image: &[u8; IMAGE], node: usize, local: usize) -> Located
     ensures { λ r. ⌜ opened.Locates r (now (image .entry)) node local ⌝ }
 {
+    let sound = image::sound_in(image, MEMORY);
+    find(image, node, local, sound)
+}
+
+// The same where it is known whether the store is sound.
+fn find(image: &[u8; IMAGE], node: usize, local: usize, sound: bool) -> Located
+    requires { ⌜ sound ≡ (good (now image) && sound-spec.sound (storeIn (now image)) memory) ⌝ }
+    ensures { λ r. ⌜ opened.Locates r (now (image .entry)) node local ⌝ }
+{
     let at = store::record_at(node, local);
     let cluster = image::record_in(image, node, local);
-    let sound = image::sound_in(image, MEMORY);
     Located { at, cluster, sound }
 }
 

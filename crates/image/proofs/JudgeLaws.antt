@@ -1,14 +1,16 @@
 -- The code's passes over an image tell whether it is good and its store sound. Where the records of a node so far passed,
 -- the map is that of their segments (`Judged`); one that is refused leaves a map of which nothing is known, and the node is
--- refused whatever follows. Record by record, passing is being good and being sound.
+-- refused whatever follows. Record by record, passing is being good and being sound. Where all nodes passed, the base that
+-- the map of one of them tells is that of a new segment.
 -- Assumes nothing.
 use mathlib.Core.Path.{_≡_, refl, sym, ap, ap₂, _∙_, subst}
-use mathlib.Core.Bool.{Bool, true, false, _&&_}
+use mathlib.Core.Bool.{Bool, true, false, not, _&&_, true≢false}
 use mathlib.Core.List.{List}
 use Prim.Native.Nat.{ℕ, _+_, _/_, _%_, _≤_, _<_}
 use native.Mathlib.Omega.{arith}
-use lib.Dec.{eqb}
+use lib.Dec.{eqb, ltb}
 use lib.ListN.{replicate}
+use borrow.Author.Tests.{eqb-true, eqb-false, ltb-true, ltb-false}
 use Rattle.loops.specs.Below.{every}
 use Rattle.loops.proofs.BelowLaws.{and-left, and-right, and-off, tests-equal, every-at, every-in, every-same, every-both}
 use Rattle.loops.proofs.BelowLaws.{every-pair-at, every-pair-in}
@@ -18,14 +20,27 @@ use Rattle.sizes.specs.Sizes.{nodes, clusters, segments, records, memory}
 use Rattle.spans.specs.Spans.{marks}
 use Rattle.spans.proofs.SpanLaws.{marks-none}
 use Rattle.store.specs.declared.Cluster.{Cluster}
+use Rattle.store.specs.declared.Found.{Found}
+use Rattle.store.specs.declared.Found.the-variants.{Nowhere}
 use Rattle.store.specs.Records.{Tables, recordOf, tableOf, tableAt, segmentOf, placeOf, placeOn}
 use Rattle.store.specs.Sound.{settled, sound}
-use Rattle.store.specs.inner.Passes.{Map, mapWords, stampedBy, claims, blank, nodeMap, clusterSound}
+use Rattle.store.specs.Placement.{placement, placedBy}
+use Rattle.store.specs.inner.Passes.{Map, mapWords, stampedBy, claims, blank, nodeMap, clusterSound, Based}
 use Rattle.store.proofs.ClaimLaws.{tested-told}
+use Rattle.store.proofs.PlacementLaws.{base-no-node}
+use Rattle.store.proofs.RoomLaws.{placed-mapped}
 use Rattle.image.specs.Parts.{slot}
 use Rattle.image.specs.Images.{recordBytes, clusterIn, goodRecord, storeIn, good}
-use Rattle.image.specs.inner.Claims.{recordSound, RecordClaimed}
+use Rattle.image.specs.inner.Claims.{recordSound, RecordClaimed, BaseOn}
 use Rattle.image.proofs.ReadLaws.{cluster-at}
+
+-- the two ways to what is found
+module _ (map : Map) (here : Bool) (size : ℕ) (found : Found) where
+  pub base-kept : not here ≡ true → BaseOn map here size found found
+  base-kept e = record { told = λ t. absurd (true≢false (sym e ∙ ap not t)); kept = λ t. refl }
+
+  pub base-told : not here ≡ false → (r : Found) → Based map size r → BaseOn map here size found r
+  base-told e r d = record { told = λ t. d; kept = λ t. absurd (true≢false (sym (ap not t) ∙ e)) }
 
 module _ (b : List ℕ) where
   abbrev tables : Tables
@@ -37,16 +52,16 @@ module _ (b : List ℕ) where
   -- ---- the records of a node
 
   -- record l of the node passes, after the segments of those before it
-  abbrev pub passes : ℕ → ℕ → Bool
+  abbrev passes : ℕ → ℕ → Bool
   passes node l = recordSound (slot recordBytes b (recordOf node l)) (nodeMap (tableAt (storeIn b)) node l)
 
   -- the map with the segments of no record of the node, and of one more
-  pub map-none : (node : ℕ) → marks (replicate mapWords 0) ≡ nodeMap (tableAt (storeIn b)) node 0
+  map-none : (node : ℕ) → marks (replicate mapWords 0) ≡ nodeMap (tableAt (storeIn b)) node 0
   unfolding nodeMap
   map-none node =
       (λ j x. marks-none mapWords x j) ∙ sym (turns-none (λ m. stampedBy segments (placeOn tables node m)) blank)
 
-  pub map-more : (node l : ℕ) (map after : Map) → node < nodes → l < clusters → map ≡ nodeMap (tableAt (storeIn b)) node l
+  map-more : (node l : ℕ) (map after : Map) → node < nodes → l < clusters → map ≡ nodeMap (tableAt (storeIn b)) node l
       → after ≡ stampedBy segments (placeOf (tableOf (clusterIn (slot recordBytes b (recordOf node l))))) map
       → after ≡ nodeMap (tableAt (storeIn b)) node (l + 1)
   unfolding nodeMap
@@ -87,8 +102,14 @@ module _ (b : List ℕ) where
                   ∙ sym (every-more l (passes node) ∙ and-off (passes node l) (every l (passes node)) (sym (q .told)));
             }
 
-    pub judged-all : clusters ≤ l → ok ≡ every clusters (passes node)
+    judged-all : clusters ≤ l → ok ≡ every clusters (passes node)
     judged-all h = running-all _ _ l ok (w .told) h
+
+    judged-map : clusters ≤ l → ok ≡ true → map ≡ nodeMap tables node clusters
+    judged-map h t =
+        let low = w .told .low in
+        let all : l ≡ clusters = omega arith in
+        w .left t ∙ ap (nodeMap tables node) all
 
   -- ---- the nodes
 
@@ -136,11 +157,79 @@ module _ (b : List ℕ) where
   swap false true z = refl
   swap false false z = refl
 
+  all-told : (size : ℕ) → (eqb size memory && allSound) ≡ sound (storeIn b) size
+  all-told size =
+      tested-told (storeIn b) size nodes allSound (record { low = omega arith; told = refl }) (omega arith)
+
   -- the loop over the nodes has come to its end
-  pub sound-told : (size node : ℕ) (ok : Bool) → Running nodes (λ v. every clusters (passes v)) node ok → nodes ≤ node
+  nodes-told : (node : ℕ) (ok : Bool) → Running nodes (λ v. every clusters (passes v)) node ok → nodes ≤ node
+      → ok ≡ good b && sound (storeIn b) memory
+  nodes-told node ok w h =
+      running-all _ _ node ok w h ∙ both ∙ ap₂ (λ (x y : Bool). x && y) all-fine (all-told memory)
+
+  pub sound-told : (size : ℕ) (ok : Bool) → ok ≡ good b && sound (storeIn b) memory
       → (eqb size memory && ok) ≡ good b && sound (storeIn b) size
-  sound-told size node ok r h =
-      ap (λ (t : Bool). eqb size memory && t) (running-all _ _ node ok r h ∙ both)
-      ∙ swap (eqb size memory) allFine allSound
-      ∙ ap₂ (λ (x y : Bool). x && y) all-fine
-      (tested-told (storeIn b) size nodes allSound (record { low = omega arith; told = refl }) (omega arith))
+  sound-told size ok e =
+      ap (λ (t : Bool). eqb size memory && t) (e ∙ ap (λ (t : Bool). good b && t) (sym (all-told memory)))
+      ∙ swap (eqb size memory) (good b) allSound
+      ∙ ap (λ (t : Bool). good b && t) (all-told size)
+
+  -- ---- the base on one of them
+
+  module _ (wanted size : ℕ) where
+    -- so many nodes passed, and the base is told by the map of the one that is wanted
+    pub record Sought (node : ℕ) (ok : Bool) (found : Found) : Type 0 where
+      pub told : Running nodes (λ v. every clusters (passes v)) node ok
+      pub based : wanted < node → ok ≡ true → Based (nodeMap tables wanted clusters) size found
+      pub beyond : nodes ≤ wanted → found ≡ Nowhere
+
+    pub sought-none : Sought 0 true Nowhere
+    sought-none = record { told = running-none _ _; based = λ h. absurd (omega arith); beyond = λ h. refl }
+
+    pub sought-more : (node : ℕ) (ok : Bool) (found : Found) → Sought node ok found → node < nodes
+        → (l : ℕ) (r : Bool) (map : Map) → Judged node l r map → clusters ≤ l
+        → (base : Found) → BaseOn map (eqb node wanted) size found base → Sought (node + 1) (r && ok) base
+    sought-more node ok found w h l r map e all base d = go (eqb node wanted) refl d
+      where
+        told : Running nodes (λ v. every clusters (passes v)) (node + 1) (r && ok)
+        told = running-more _ _ node ok (w .told) r h (judged-all node l r map e all)
+
+        go : (here : Bool) → eqb node wanted ≡ here → BaseOn map here size found base → Sought (node + 1) (r && ok) base
+        go true q d =
+            let same = eqb-true node wanted q in
+            record {
+              told = told;
+              based = λ _ t.
+                  subst (λ (m : Map). Based m size base)
+                  (judged-map node l r map e all (and-left r ok t) ∙ ap (λ (v : ℕ). nodeMap tables v clusters) same)
+                  (d .told refl);
+              beyond = λ k. absurd (omega (arith, same, h));
+            }
+        go false q d =
+            let other = eqb-false node wanted q in
+            record {
+              told = told;
+              based = λ k t.
+                  subst (Based (nodeMap tables wanted clusters) size) (sym (d .kept refl))
+                  (w .based (omega (arith, other)) (and-right r ok t));
+              beyond = λ k. d .kept refl ∙ w .beyond k;
+            }
+
+    module _ (node : ℕ) (ok : Bool) (found : Found) (w : Sought node ok found) (h : nodes ≤ node) where
+      pub sought-sound : ok ≡ good b && sound (storeIn b) memory
+      sought-sound = nodes-told node ok (w .told) h
+
+      pub sought-base : ok ≡ true → placedBy found ≡ placement (tableAt (storeIn b)) wanted size
+      sought-base t = go (ltb wanted nodes) refl
+        where
+          held : sound (storeIn b) memory ≡ true
+          held = and-right (good b) (sound (storeIn b) memory) (sym sought-sound ∙ t)
+
+          go : (q : Bool) → ltb wanted nodes ≡ q → placedBy found ≡ placement (tableAt (storeIn b)) wanted size
+          go true q =
+              let l = ltb-true wanted nodes q in
+              placed-mapped (storeIn b) wanted size (nodeMap tables wanted clusters) found l (λ s. refl)
+              (w .based (omega (arith, l)) t) .told held
+          go false q =
+              let l = ltb-false wanted nodes q in
+              ap placedBy (w .beyond l) ∙ base-no-node tables wanted size l

@@ -15,4 +15,3 @@ pub mod ActiveLaws
 pub mod ReadLaws
 pub mod JudgeLaws
 pub mod PutLaws
-pub mod DrawLaws

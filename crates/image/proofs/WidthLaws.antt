@@ -14,14 +14,13 @@ use Rattle.loops.proofs.TurnLaws.{turns-more}
 use Rattle.sizes.specs.Sizes.{segments}
 use Rattle.store.specs.declared.Place.{Place}
 use Rattle.store.specs.declared.Place.the-variants.{Absent, Present}
-use Rattle.store.specs.declared.Cluster.{Cluster}
 use Rattle.store.specs.Records.{tableOf, placeOf}
-use Rattle.store.specs.Sound.{inRanges, endsInside, inside, isAbsent, isWidth, soundWidth, sized, settled}
+use Rattle.store.specs.Sound.{inRanges, endsInside, inside, isAbsent, isWidth, sized}
 use Rattle.store.specs.inner.Passes.{Map, stamped, stampedBy}
-use Rattle.store.proofs.SoundLaws.{settled-width, sized-settled, sized-at}
+use Rattle.store.proofs.SoundLaws.{sized-at}
 use Rattle.image.specs.Parts.{part}
 use Rattle.image.specs.Images.{recordBytes, widthAt, segmentsAt, clusterIn}
-use Rattle.image.specs.inner.Claims.{placesIn, SegmentsClaimed, RecordMarked}
+use Rattle.image.specs.inner.Claims.{placesIn}
 use Rattle.image.proofs.ClaimLaws.{stamped-same, placed-is}
 
 -- ---- the three widths
@@ -36,13 +35,6 @@ low-width w e = go (eqb w 4) refl (eqb w 8) refl e
 
 pub width-low : (w : ℕ) (t : Bool) → t ≡ isWidth w → not t ≡ false → w ≤ 16
 width-low w t q e = low-width w (sym q ∙ not-false t e)
-
-settled-low : (c : Cluster) → settled c ≡ true → c .width ≤ segments
-settled-low c e = go (c .active) (settled-width c e (c .active) refl)
-  where
-    go : (t : Bool) → soundWidth t (c .width) ≡ true → c .width ≤ segments
-    go true s = low-width (c .width) s
-    go false s = let z = eqb-true (c .width) 0 s in omega arith
 
 -- ---- turns that leave all as it is
 
@@ -91,18 +83,3 @@ module _ (b : List ℕ) where
     where
       full : segments ≡ w + (segments - w)
       full = omega (arith, low)
-
-  -- the code's two ways
-  module _ (before : Map) where
-    pub marked-none : segments < getD b widthAt 0 → RecordMarked b before before
-    unfolding clusterIn
-    marked-none h = record { left = λ e. let l = settled-low (clusterIn b) e in absurd (omega (arith, l)) }
-
-    pub marked-width : (r : Bool) (after : Map) → getD b widthAt 0 ≤ segments
-        → SegmentsClaimed (part b segmentsAt recordBytes) (getD b widthAt 0) before r after → RecordMarked b before after
-    marked-width r after l c =
-        record {
-          left = λ e.
-              c .left
-              ∙ stamped-width before (getD b widthAt 0) l (upper-absent (sized-settled (clusterIn b) e));
-        }

@@ -1,17 +1,17 @@
 // The image of a store: its records as 3,648 bytes, for callers who keep the store themselves.
 use store::Cluster;
+use store::Found;
 ghost use mathlib.Core.Path.{_≡_};
 ghost use mathlib.Core.Bool.{true};
 ghost use Rattle.store.specs.Records.{putRecord};
 ghost use Rattle.image.specs.Images as images;
 
-mod placement; // placement.rt: the base of a new segment, on bytes
 mod reading; // reading.rt: from bytes
-mod soundness; // soundness.rt: the test of the store, on bytes
+mod soundness; // soundness.rt: the test of the store, and the base of a new segment, on bytes
 mod writing; // writing.rt: to bytes
 
-pub use placement::new_base_in;
 pub use reading::record_in;
+pub use soundness::sound_and_base;
 pub use soundness::sound_in;
 
 // Bytes of the image, of a cluster's record, and of a segment, in that order.
@@ -32,6 +32,12 @@ const SEGMENTS_AT: usize = 34;
 
 // Where the mark stands in a segment, after base and length.
 const MARK_AT: usize = 4;
+
+// What was judged of an image: whether it holds a sound store, and where it does, the base of a new segment.
+pub struct Judged {
+    pub sound: bool,
+    pub found: Found,
+}
 
 // Replaces one record; past the last there is none. The image of a store becomes that of the store with the record replaced.
 pub fn put_record_in(cluster: Cluster, at: usize, image: &mut [u8; IMAGE])

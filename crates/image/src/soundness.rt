@@ -1,6 +1,7 @@
 // Soundness straight on the bytes: no record is decoded. An inactive record is all zeros; the segments of an active one that
 // stand below its width are marked in the map of its node, and all bytes after them are zeros.
 use crate::IMAGE;
+use crate::Judged;
 use crate::MARK_AT;
 use crate::RECORD;
 use crate::SEGMENT;
@@ -10,13 +11,16 @@ use bits::word;
 use sizes::CLUSTERS;
 use sizes::MEMORY;
 use sizes::NODES;
+use store::Found;
 use store::MAP_WORDS;
 ghost use mathlib.Core.Path.{_≡_};
-ghost use mathlib.Core.Bool.{_&&_};
+ghost use mathlib.Core.Bool.{true, _&&_};
 ghost use Prim.Native.Nat.{_*_, _≤_};
 ghost use lib.ListN.{length};
-ghost use Rattle.sizes.specs.Sizes.{segments};
+ghost use Rattle.sizes.specs.Sizes.{segments, memory};
 ghost use Rattle.spans.specs.Spans.{marks};
+ghost use Rattle.store.specs.Placement.{placedBy, placement};
+ghost use Rattle.store.specs.Records.{tableAt};
 ghost use Rattle.store.specs.Sound as sound-spec;
 ghost use Rattle.store.specs.inner.Passes.{mapWords};
 ghost use Rattle.image.specs.Images as images;
@@ -54,7 +58,7 @@ fn claim_segment(b: &[u8], map: &mut [u64]) -> bool
 }
 
 // Claims so many of the segments in turn.
-pub fn claim_segments(b: &[u8], count: usize, map: &mut [u64]) -> bool
+fn claim_segments(b: &[u8], count: usize, map: &mut [u64]) -> bool
     requires { ⌜ (length (now b) ≡ segments * images.segmentBytes) × (count ≤ segments)
         × (length (now map) ≡ mapWords) ⌝ }
     ensures { λ r. ⌜ claims.SegmentsClaimed (now (b .entry)) count (marks (now (map .entry))) r (marks (now (map .exit))) ⌝ }
@@ -98,13 +102,27 @@ fn claim_record(b: &[u8], map: &mut [u64]) -> bool
     claim_active(b, width, map)
 }
 
-// Whether the bytes hold a store, and one that is sound with a slice of `size` bytes.
-pub fn sound_in(image: &[u8; IMAGE], size: usize) -> bool
-    ensures { λ r. ⌜ r
-        ≡ (images.good (now (image .entry)) && sound-spec.sound (images.storeIn (now (image .entry))) size) ⌝ }
+// The base that the map of a node tells, where it is the node asked about; else what was found before.
+fn base_on(map: &[u64; MAP_WORDS], here: bool, size: usize, found: Found) -> Found
+    ensures { λ r. ⌜ claims.BaseOn (marks (now (map .entry))) here size found r ⌝ }
+{
+    if !here {
+        return found;
+    }
+    store::base_in(map, size)
+}
+
+// Whether the bytes hold a store that is sound with the whole memory, and if so, the smallest base at which `size` bytes fit on
+// a node: it is found on the map by which the node was judged.
+pub fn sound_and_base(image: &[u8; IMAGE], wanted: usize, size: usize) -> Judged
+    ensures sound { λ r. ⌜ r .sound
+        ≡ (images.good (now (image .entry)) && sound-spec.sound (images.storeIn (now (image .entry))) memory) ⌝ }
+    ensures base { λ r. ⌜ (r .sound ≡ true
+        → placedBy (r .found) ≡ placement (tableAt (images.storeIn (now (image .entry)))) wanted size) ⌝ }
 {
     let all = &image[..];
-    let mut ok = true;
+    let mut sound = true;
+    let mut found = Found::Nowhere;
     let mut node: usize = 0;
     while node < NODES {
         let mut map = [0u64; MAP_WORDS];
@@ -116,8 +134,18 @@ pub fn sound_in(image: &[u8; IMAGE], size: usize) -> bool
             taken = claim_record(&all[from..to], &mut map) & taken;
             local += 1;
         }
-        ok = taken & ok;
+        sound = taken & sound;
+        found = base_on(&map, node == wanted, size, found);
         node += 1;
     }
-    (size == MEMORY) & ok
+    Judged { sound, found }
+}
+
+// Whether the bytes hold a store, and one that is sound with a slice of `size` bytes.
+pub fn sound_in(image: &[u8; IMAGE], size: usize) -> bool
+    ensures { λ r. ⌜ r
+        ≡ (images.good (now (image .entry)) && sound-spec.sound (images.storeIn (now (image .entry))) size) ⌝ }
+{
+    let judged = sound_and_base(image, NODES, 0);
+    (size == MEMORY) & judged.sound
 }

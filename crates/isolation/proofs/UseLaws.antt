@@ -123,7 +123,7 @@ module _ (f : Name → List ℕ → ℕ → List ℕ) (v : Wide) where
     two = keeping v q s k l m y z
 
     -- each fact is a clause of condition 3's conclusion
-    pub uses-of : Agreed 3 7 f (repeated n shut) one two → TwoCopiesUses f v n p q s b c d k l m y z
+    uses-of : Agreed 3 7 f (repeated n shut) one two → TwoCopiesUses f v n p q s b c d k l m y z
     uses-of agreed =
         record {
           replies = sym (agreed .replies) ∙ ap (λ (a : Ran). a .replies) (shut-ended p p b c d y z n);

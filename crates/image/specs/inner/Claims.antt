@@ -6,10 +6,10 @@
 --     SegmentClaimed, SegmentsClaimed    what is told of five bytes, and of so many times five, and the map that is left
 --     ActiveClaimed          the bytes of an active record at or above its width are zeros, and so many segments are claimed
 --     RecordClaimed          what is told of a record, and the map that is left; of one that is refused nothing is said
---     RecordMarked           the map that is left by the segments of a record, where its cluster is settled
+--     BaseOn                 the base that a map tells, where its node is the one asked about, or what was found before
 -- Assumes nothing.
 use mathlib.Core.Path.{_≡_}
-use mathlib.Core.Bool.{Bool, true, _&&_}
+use mathlib.Core.Bool.{Bool, true, false, _&&_}
 use mathlib.Core.List.{List}
 use Prim.Native.Nat.{ℕ, _+_, _*_}
 use lib.Dec.{eqb}
@@ -17,9 +17,10 @@ use lib.ListN.{length, getD}
 use Rattle.loops.specs.Below.{every}
 use Rattle.sizes.specs.Sizes.{segments}
 use Rattle.store.specs.declared.Place.{Place}
+use Rattle.store.specs.declared.Found.{Found}
 use Rattle.store.specs.Records.{tableOf, segmentOf, placeOf}
 use Rattle.store.specs.Sound.{settled}
-use Rattle.store.specs.inner.Passes.{Map, claimable, stamped, stampedBy, claims}
+use Rattle.store.specs.inner.Passes.{Map, claimable, stamped, stampedBy, claims, Based}
 use Rattle.image.specs.Images.{placeIn, segmentIn, segmentHeld, clusterIn, goodSegment, goodRecord}
 use Rattle.image.specs.Images.{segmentBytes, recordBytes, segmentsAt}
 use Rattle.image.specs.Parts.{part, slot}
@@ -53,5 +54,6 @@ pub record RecordClaimed (b : List ℕ) (before : Map) (r : Bool) (after : Map) 
   pub told : r ≡ recordSound b before
   pub left : r ≡ true → after ≡ stampedBy segments (placeOf (tableOf (clusterIn b))) before
 
-pub record RecordMarked (b : List ℕ) (before after : Map) : Type 0 where
-  pub left : settled (clusterIn b) ≡ true → after ≡ stampedBy segments (placeOf (tableOf (clusterIn b))) before
+pub record BaseOn (map : Map) (here : Bool) (size : ℕ) (found r : Found) : Type 0 where
+  pub told : here ≡ true → Based map size r
+  pub kept : here ≡ false → r ≡ found
