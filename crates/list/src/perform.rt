@@ -73,54 +73,26 @@ fn perform_own(store: Store, memory: &mut [u8], record: &[u8]) -> Left
         → ran r (now (memory .exit)) b ≡ performedAs (records.kindAmong records.ownCalls (records.codeOf (now («record» .entry)))) (now («record» .entry)) (bench store (now (memory .entry)) b)) ⌝ }
 {
     let code = record[CODE];
+    let current = wide(record[CURRENT]);
+    let entry = wide(record[ENTRY]);
+    let bytes = &record[HANDLE..HANDLE_END];
     if code == NEW_CLUSTER {
         let read = first(record);
         let write = second(record);
-        return guard::new_cluster(
-            store,
-            memory,
-            wide(record[CURRENT]),
-            wide(record[ENTRY]),
-            WIDTH,
-            read,
-            write,
-        );
+        return guard::new_cluster(store, memory, current, entry, WIDTH, read, write);
     }
     if code == DELETE_CLUSTER {
-        let bytes = &record[HANDLE..HANDLE_END];
-        return guard::delete_cluster(store, memory, wide(record[CURRENT]), bytes);
+        return guard::delete_cluster(store, memory, current, bytes);
     }
     if code == NEW_SEGMENT {
-        let bytes = &record[HANDLE..HANDLE_END];
         let size = pair(record[SIZE_HIGH], record[SIZE_LOW]);
-        return guard::new_segment(
-            store,
-            memory,
-            wide(record[CURRENT]),
-            wide(record[ENTRY]),
-            size,
-            bytes,
-        );
+        return guard::new_segment(store, memory, current, entry, size, bytes);
     }
     if code == DELETE_SEGMENT {
-        let bytes = &record[HANDLE..HANDLE_END];
-        return guard::delete_segment(
-            store,
-            memory,
-            wide(record[CURRENT]),
-            wide(record[ENTRY]),
-            bytes,
-        );
+        return guard::delete_segment(store, memory, current, entry, bytes);
     }
     if code == FREEZE {
-        let bytes = &record[HANDLE..HANDLE_END];
-        return guard::freeze(
-            store,
-            memory,
-            wide(record[CURRENT]),
-            wide(record[ENTRY]),
-            bytes,
-        );
+        return guard::freeze(store, memory, current, entry, bytes);
     }
     unchanged(store, FIELD)
 }
@@ -153,8 +125,9 @@ pub fn perform(store: Store, memory: &mut [u8], buffer: &mut [u8], record: &[u8]
     ensures { λ r. ⌜ ran r (now (memory .exit)) (now (buffer .exit)) ≡ performed (now («record» .entry)) (bench store (now (memory .entry)) (now (buffer .entry))) ⌝ }
 {
     let code = record[CODE];
+    let mode = wide(record[MODE]);
+    let bytes = &record[HANDLE..HANDLE_END];
     if code == READ {
-        let bytes = &record[HANDLE..HANDLE_END];
         let answer = guard::read(store, memory, buffer, wide(record[ENTRY]), bytes);
         return Left { store, answer };
     }
@@ -162,24 +135,20 @@ pub fn perform(store: Store, memory: &mut [u8], buffer: &mut [u8], record: &[u8]
         return perform_write(store, memory, record);
     }
     if code == WEAKEN {
-        let bytes = &record[HANDLE..HANDLE_END];
         let answer = guard::weaken(bytes, mask(record[ENTRY]));
         return Left { store, answer };
     }
     if code == REDUCE {
-        let bytes = &record[HANDLE..HANDLE_END];
-        let answer = guard::reduce(store, memory, wide(record[MODE]), bytes);
+        let answer = guard::reduce(store, memory, mode, bytes);
         return Left { store, answer };
     }
     if code == NEW_PASSWORD {
-        let bytes = &record[HANDLE..HANDLE_END];
         let password = first(record);
-        return guard::new_password(store, memory, wide(record[MODE]), bytes, password);
+        return guard::new_password(store, memory, mode, bytes, password);
     }
     if code == JOIN {
-        let bytes = &record[HANDLE..HANDLE_END];
         let second = &record[FIRST..OTHER_END];
-        let answer = guard::join(store, memory, wide(record[MODE]), bytes, second);
+        let answer = guard::join(store, memory, mode, bytes, second);
         return Left { store, answer };
     }
     perform_own(store, memory, record)
