@@ -53,7 +53,8 @@ impl Maker {
             _ => self.call_with_mode(&mut record),
         }
         let reply = self.session.run(&record);
-        self.note(code, &reply);
+        // Handles that a call does not give have no bytes.
+        self.given.extend([reply.first, reply.second].iter().filter_map(|bytes| Handle::from_bytes(bytes)));
         record
     }
 
@@ -63,7 +64,7 @@ impl Maker {
         match self.random.below(40) {
             0 => self.random.byte(),
             1..=30 if empty => call::NEW_CLUSTER,
-            _ => *self.random.pick(&CODES).expect("there are codes"),
+            _ => self.random.one_of(&CODES),
         }
     }
 
@@ -73,19 +74,6 @@ impl Maker {
             [0; RECORD_BYTES]
         } else {
             self.random.bytes()
-        }
-    }
-
-    fn note(&mut self, code: u8, reply: &Reply) {
-        if reply.is_done() {
-            let count = match code {
-                call::NEW_CLUSTER => 2,
-                call::WEAKEN | call::REDUCE | call::NEW_PASSWORD | call::JOIN => 1,
-                _ => 0,
-            };
-            let handles = [&reply.first, &reply.second];
-            let handles = handles[..count].iter();
-            self.given.extend(handles.filter_map(|bytes| Handle::from_bytes(bytes)));
         }
     }
 
@@ -178,7 +166,7 @@ impl Maker {
     }
 
     fn weaken(&mut self, record: &mut Record) {
-        let mode = self.mode();
+        let mode = self.random.one_of(&Mode::ALL);
         let wish = Wish { mode, primary: false, segments: true };
         let handle = self.put_handle(record, wish);
         let referenced = handle.selector.referenced() as u8;
@@ -193,17 +181,9 @@ impl Maker {
         };
     }
 
-    fn mode(&mut self) -> Mode {
-        if self.random.one_in(2) {
-            Mode::Read
-        } else {
-            Mode::Write
-        }
-    }
-
     /// Calls 8 and 9, and codes that belong to no call.
     fn call_with_mode(&mut self, record: &mut Record) {
-        let mode = self.mode();
+        let mode = self.random.one_of(&Mode::ALL);
         let primary = record[CODE_AT] == call::NEW_PASSWORD;
         let segments = self.random.one_in(2);
         let wish = Wish { mode, primary, segments };
@@ -235,7 +215,7 @@ impl Maker {
         put(record, OTHER_HANDLE_AT, &join.handles[1]);
         record[MODE_AT] = match join.is_a_mode {
             true => number_of(join.mode),
-            false => *self.random.pick(&[0, 3, 255]).expect("there are bytes"),
+            false => self.random.one_of(&[0, 3, 255]),
         };
     }
 
@@ -243,10 +223,8 @@ impl Maker {
         let name = record[HANDLE_AT..HANDLE_AT + NAME_BYTES].to_vec();
         let given = self.given.iter().copied();
         let given: Vec<Handle> = given.filter(|handle| handle.to_bytes().starts_with(&name)).collect();
-        let handle = match self.random.pick(&given) {
-            Some(handle) => *handle,
-            None => handles::any(&mut self.random),
-        };
+        let given = self.random.pick(&given).copied();
+        let handle = given.unwrap_or_else(|| handles::any(&mut self.random));
         put(record, OTHER_HANDLE_AT, &handle.to_bytes());
     }
 }
