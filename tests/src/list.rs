@@ -30,36 +30,18 @@ pub const OTHER_HANDLE_AT: usize = 32;
 
 pub type Record = [u8; RECORD_BYTES];
 
-/// For each number, the calls that a list can bring to it. A list starts from a sound store, has one
-/// width alone and a buffer that any segment fits in, so 1 and 25 are not among them, nor 15 for a read.
-const REACHABLE: [(u8, &[u8]); 21] = [
-    (0, &[1, 2, 3, 4, 5, 6, 7, 8, 9, 10, 11]),
-    (2, &[1, 2, 3, 4, 5, 6, 7, 8, 9, 10, 11]),
-    (3, &[3, 4, 5, 6, 8, 9, 10, 11]),
-    (4, &[2, 3, 4, 5, 6, 7, 8, 9, 10, 11]),
-    (5, &[2, 3, 4, 10]),
-    (6, &[1]),
-    (7, &[1]),
-    (8, &[2, 3, 4, 5, 6, 8, 9, 10, 11]),
-    (9, &[2, 3, 4, 5, 6, 8, 9, 10, 11]),
-    (10, &[2, 3, 4, 9, 10]),
-    (11, &[5, 6]),
-    (12, &[9]),
-    (13, &[3]),
-    (14, &[4, 5, 6, 10]),
-    (15, &[6]),
-    (16, &[3]),
-    (17, &[7]),
-    (21, &[7]),
-    (22, &[2, 4, 6]),
-    (23, &[11]),
-    (24, &[11]),
-];
-
-/// The pairs that a list can reach: the code of a call and a number.
+/// The pairs that a list can reach: the code of a call and a number, in the order of the numbers. A list starts from a
+/// sound store, has one width alone and a buffer that any segment fits in.
 pub fn reachable() -> impl Iterator<Item = (u8, u8)> {
-    let pairs = |(number, codes): (u8, &'static [u8])| codes.iter().map(move |code| (*code, number));
-    REACHABLE.into_iter().flat_map(pairs)
+    let never = [(call::NEW_CLUSTER, FIELD), (call::READ, SHORT)];
+    let numbers = (DONE..=LENGTH).filter(|number| ![UNSOUND, LENGTH].contains(number));
+    let pairs = numbers.flat_map(|number| CALLS.map(|(code, _)| (code, number)));
+    pairs.filter(move |pair| !never.contains(pair) && may_come_to(*pair))
+}
+
+fn may_come_to((code, number): (u8, u8)) -> bool {
+    let call = call_of(&std::array::from_fn(|at| if at == CODE_AT { code } else { 0 }));
+    number == DONE || call.is_some_and(|call| numbers_of(&call).contains(&number))
 }
 
 /// What a record asks for.
@@ -82,31 +64,16 @@ fn handle_at(record: &Record, at: usize) -> HandleBytes {
     record[at..at + HANDLE_BYTES].to_vec()
 }
 
-/// The call that a record's code stands for; bytes that it does not use are not looked at.
+/// The call that a record's code stands for; bytes that it does not use do not matter.
 fn call_of(record: &Record) -> Option<Call> {
-    let [handle, other] = [HANDLE_AT, OTHER_HANDLE_AT].map(|at| handle_at(record, at));
+    let place = CALLS.iter().position(|(code, _)| *code == record[CODE_AT])?;
     let [node, mode, segment] = [NODE_AT, MODE_AT, SEGMENT_AT].map(|at| u32::from(record[at]));
-    let size = u32::from(u16::from_be_bytes([record[SIZE_AT], record[SIZE_AT + 1]]));
-    let [first, second] = [FIRST_PASSWORD_AT, SECOND_PASSWORD_AT].map(|at| password_at(record, at));
-    #[rustfmt::skip]
-    let call = match record[CODE_AT] {
-        call::NEW_CLUSTER => {
-            let width = WIDTH.segments();
-            Call::NewCluster { node, local: segment, width, read: first, write: second }
-        }
-        call::DELETE_CLUSTER => Call::DeleteCluster { node, handle },
-        call::NEW_SEGMENT => Call::NewSegment { node, segment, size, handle },
-        call::DELETE_SEGMENT => Call::DeleteSegment { node, segment, handle },
-        call::READ => Call::Read { segment, handle },
-        call::WRITE => Call::Write { segment, handle },
-        call::WEAKEN => Call::Weaken { mask: record[SEGMENT_AT].into(), handle },
-        call::REDUCE => Call::Reduce { mode, handle },
-        call::NEW_PASSWORD => Call::NewPassword { mode, handle, password: first },
-        call::FREEZE => Call::Freeze { node, segment, handle },
-        call::JOIN => Call::Join { mode, handle, other },
-        _ => return None,
-    };
-    Some(call)
+    let [read, write] = [FIRST_PASSWORD_AT, SECOND_PASSWORD_AT].map(|at| password_at(record, at));
+    let [handle, other] = [HANDLE_AT, OTHER_HANDLE_AT].map(|at| handle_at(record, at));
+    let size = u16::from_be_bytes([record[SIZE_AT], record[SIZE_AT + 1]]).into();
+    let (local, mask, width, password) = (segment, segment as u16, WIDTH.segments(), read);
+    let fields = Fields { node, local, width, segment, size, mask, mode, handle, other, read, write, password };
+    Some(fields.call(Kind::ALL[place]))
 }
 
 /// Tells a call from what only looks like one.
