@@ -56,14 +56,6 @@ impl Renewal {
         renewed.chain(USES.map(Renewal::ByPrimary)).chain(weaker)
     }
 
-    /// Those that a list can come to: it asks for no look, and for no validation by itself.
-    pub fn in_lists() -> impl Iterator<Item = Renewal> {
-        Renewal::all().filter(|renewal| match renewal {
-            Renewal::ByPrimary(by) | Renewal::ByWeaker(by) => !matches!(by, Look | Validate(_)),
-            _ => true,
-        })
-    }
-
     /// What a call that came to `number` has met, if anything; `found` is what it was put to.
     pub fn of(found: &Found, call: &Call, number: u8) -> Option<Renewal> {
         let handle = call.handle()?;
