@@ -5,25 +5,6 @@ mod support;
 use support::*;
 
 #[test]
-fn new_cluster_gives_both_primary_handles() {
-    for width in Width::ALL {
-        let mut bench = Bench::starting();
-        let reply = bench.reply(new_cluster_of(width, 3, 7));
-        let primary = |password| Handle::primary(width, 3, 7, password).to_bytes();
-        let expected = Reply { first: primary(READ_SECRET), second: primary(WRITE_SECRET), ..Reply::DONE };
-        assert_eq!(reply, expected);
-        let made = Cluster {
-            active: true,
-            width: width.number(),
-            read: READ_SECRET,
-            write: WRITE_SECRET,
-            ..Cluster::INACTIVE
-        };
-        assert_eq!(bench.store.clusters[3][7], made);
-    }
-}
-
-#[test]
 fn delete_cluster_leaves_the_starting_record_and_all_bytes() {
     for width in Width::ALL {
         let mut bench = Bench::with_segment_of(width);
@@ -75,18 +56,6 @@ fn placement_looks_at_every_cluster_of_the_node() {
             let segments = bench.store.clusters[0][usize::from(local)].segments;
             assert_eq!(segments[segment as usize], placed);
         }
-    }
-}
-
-#[test]
-fn delete_segment_leaves_its_bytes() {
-    for width in Width::ALL {
-        let mut bench = Bench::with_segment_of(width);
-        let reply = bench.reply(delete_segment_of(width, own(width)));
-        assert_eq!(reply, Reply::DONE);
-        let absent = [Segment::ABSENT; 16];
-        assert_eq!(bench.store.clusters[0][2].segments, absent);
-        assert_eq!(&bench.memory[..4], b"abcd");
     }
 }
 

@@ -2,28 +2,9 @@
 
 mod support;
 
-use model::table::{numbers_of_calls, word};
 use support::joint::{self, union, LOCAL, NODE};
 use support::naive::flat;
 use support::*;
-
-/// A handle of cluster 2 of node 0 to read, with the password that goes with its selector.
-fn handle(selector: [u16; 4]) -> Handle {
-    Handle::converted(0, 2, &READ_SECRET, eight(selector))
-}
-
-/// The reduced handle for these segments.
-fn reduced(segments: u16) -> Handle {
-    handle([segments, 255, 255, 255])
-}
-
-#[test]
-fn their_words_and_their_places() {
-    assert_eq!((word(23), word(24)), (Some("whole"), Some("apart")));
-    let numbers: Vec<u8> = numbers_of_calls().collect();
-    assert!(numbers.windows(3).any(|row| row == [4, 24, 5]));
-    assert!(numbers.windows(3).any(|row| row == [9, 23, 10]));
-}
 
 /// All of the width: by two of which neither is primary, by one that is, by two that are.
 #[test]
@@ -39,7 +20,7 @@ fn all_are_never_given() {
             (weaker(flat - 1), weaker(flat - last)),
             (weaker(flat - 1).weaken(0x02).unwrap(), weaker(flat - 2)),
             (reader, weaker(0x01)),
-            (reader, Handle::converted(0, 2, &READ_SECRET, Selector::new(width, [0; 4]))),
+            (reader, reading(width, [0; 4])),
             (reader, reader),
         ] {
             assert_eq!(bench.reply(join(READ_MODE, one, other)), Reply::refused(23));
@@ -66,15 +47,9 @@ fn all_are_never_given() {
 fn numbers_in_their_order() {
     let (mut asked, mut done) = (0, 0);
     for joint in joint::all() {
-        let mut bench = Bench { store: joint.store.clone(), memory: vec![0x77; MEMORY_BYTES] };
-        let before = bench.clone();
-        let (width, flat) = (joint.width, joint.width.flat());
-        let given = Handle {
-            node: NODE,
-            local: LOCAL,
-            password: convert(&joint.primary, union(width)),
-            selector: Selector::new(width, [union(width), flat, flat, flat]),
-        };
+        let (mut bench, before) = (joint.put_to(), joint.put_to());
+        let secret = if joint.call.named_mode() == Some(READ_MODE) { READ_SECRET } else { WRITE_SECRET };
+        let given = Handle { node: NODE, local: LOCAL, ..noted(joint.width, &secret, union(joint.width)) };
         let expected = match joint.number() {
             0 => Reply::with_handle(&given),
             number => Reply::refused(number),
@@ -85,29 +60,6 @@ fn numbers_in_their_order() {
         done += usize::from(joint.number() == 0);
     }
     assert_eq!((asked, done), (409_600, 2));
-}
-
-#[test]
-fn arguments_out_of_range() {
-    let mut bench = Bench::with_cluster();
-    let (one, two) = (reduced(0x07), reduced(0x18));
-    for mode in [0, 3, 4, 255, 256, 257, 258, 65_537, u32::MAX] {
-        assert_eq!(bench.number(join(mode, one, two)), 3, "{mode}");
-        let gapped = handle([255, 0x18, 255, 255]);
-        assert_eq!(bench.number(join(mode, one, gapped)), 3, "{mode}");
-        assert_eq!(bench.number(join(mode, gapped, two)), 3, "{mode}");
-    }
-    for (node, local) in [(4, 2), (256, 2), (0x8000, 2), (0, 8), (0, 255)] {
-        let far = |handle| Handle { node, local, ..handle };
-        for (one, two) in [(far(one), two), (one, far(two)), (far(one), far(two))] {
-            assert_eq!(bench.number(join(READ_MODE, one, two)), 2);
-            assert_eq!(bench.number(join(0, one, two)), 2);
-        }
-    }
-    for bytes in [0, MEMORY_BYTES - 1, MEMORY_BYTES + 1] {
-        bench.memory.resize(bytes, 0);
-        assert_eq!(bench.number(join(READ_MODE, one, two)), 1);
-    }
 }
 
 /// Both in the mode named, and both with what the cluster's password is now.

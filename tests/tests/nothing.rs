@@ -3,7 +3,6 @@
 
 mod support;
 
-use model::table::word;
 use support::naive::{flat, has, number, referenced_and_kept, sets};
 use support::*;
 
@@ -11,17 +10,12 @@ const EMPTY: u8 = 21;
 
 /// The read handle of [`Bench::with_segment`] with another selector, and the password that goes with it.
 fn handle(selector: u32) -> Handle {
-    Handle::converted(0, 2, &READ_SECRET, eight(selector.to_be_bytes().map(u16::from)))
+    reading(Width::Eight, selector.to_be_bytes().map(u16::from))
 }
 
 /// Handles that reference nothing, with three flat subselectors to none.
 fn to_nothing() -> [Handle; 6] {
     [0x00ff_ffff, 0x0ff0_ffff, 0xfe7d_83ff, 0x3fcf_f3fc, 0xf00f_fefe, 0x0000_0000].map(handle)
-}
-
-#[test]
-fn its_word() {
-    assert_eq!(word(EMPTY), Some("empty"));
 }
 
 #[test]
@@ -66,15 +60,10 @@ fn no_such_place_and_gapped_come_before() {
 fn one_segment_kept_is_done_and_counted() {
     let mut bench = Bench::starting();
     for width in Width::ALL {
-        let flat = flat(width);
         for segment in segments(width) {
             let mask = 1 << segment;
             let reply = bench.reply(Call::weaken(mask, reader_of(width)));
-            let kept = Handle {
-                password: convert(&READ_SECRET, mask),
-                selector: Selector::new(width, [mask, flat, flat, flat]),
-                ..reader_of(width)
-            };
+            let kept = noted(width, &READ_SECRET, mask);
             let expected = Reply { count: 1, ..Reply::with_handle(&kept) };
             assert_eq!(reply, expected);
             assert_eq!(bench.reply(Call::weaken(mask, kept)), expected);
@@ -156,7 +145,7 @@ fn reduction_of_a_handle_that_references_nothing_is_done() {
         }
         for parts in parts {
             let before = bench.clone();
-            let handle = Handle::converted(0, 2, &READ_SECRET, Selector::new(width, parts));
+            let handle = reading(width, parts);
             let reduce = |mode| Call::Reduce { mode, handle: handle.into() };
             let expected = Reply { first: first.clone(), ..Reply::DONE };
             assert_eq!(bench.reply(reduce(READ_MODE)), expected);

@@ -3,7 +3,6 @@
 
 mod support;
 
-use support::renewed::{self, LOCAL, NODE};
 use support::*;
 
 /// Both modes at each width, each with its primary handle and the other mode's.
@@ -95,30 +94,6 @@ fn by_the_mode_s_own_password_alone() {
         }
     }
     assert_eq!(refused, 6);
-}
-
-/// Every set of faults: alone each gives its number, and of several the first is given.
-#[test]
-fn numbers_in_their_order() {
-    let (mut asked, mut done) = (0, 0);
-    for renewed in renewed::all() {
-        let mut state = Bench { store: renewed.store.clone(), memory: vec![0x77; MEMORY_BYTES] };
-        let mut expected = state.clone();
-        let reply = match renewed.number() {
-            0 => {
-                let node = &mut expected.store.clusters[usize::from(NODE)];
-                *node[usize::from(LOCAL)].primary_mut(renewed.mode) = renewed.password;
-                Reply::with_handle(&renewed.given())
-            }
-            number => Reply::refused(number),
-        };
-        assert_eq!(state.ask(&renewed.call, &mut []), reply, "{renewed:?}");
-        assert!(state == expected, "{renewed:?}");
-        asked += 1;
-        done += usize::from(reply.is_done());
-    }
-    // Done in either mode at each width: two new passwords where the two differ, one where they are equal.
-    assert_eq!((asked, done), (512 * 12 * 3, 6 * 3));
 }
 
 /// A new cluster never begins with one password for both.

@@ -2,7 +2,6 @@
 
 mod support;
 
-use model::model::run;
 use support::*;
 
 fn store() -> Store {
@@ -159,28 +158,5 @@ fn a_node_full_of_segments() {
             *length += 1;
             assert!(!longer.is_sound(MEMORY_BYTES));
         }
-    }
-}
-
-/// What call 1 and those after it leave is sound at each width; so is what call 2 leaves.
-#[test]
-fn what_calls_leave() {
-    for width in Width::ALL {
-        let mut store = Store::starting();
-        let mut memory = vec![0; MEMORY_BYTES];
-        let mut ask = |call| {
-            let reply = run(&mut store, &mut memory, &mut [], &call);
-            assert_eq!(reply.number, 0, "{call:?}");
-            assert!(store.is_sound(MEMORY_BYTES));
-        };
-        let (read, write, node) = (READ_SECRET, WRITE_SECRET, 1);
-        let (local, segments) = (3, width.segments());
-        ask(Call::NewCluster { node, local, width: segments, read, write });
-        let handle = || Handle::primary(width, 1, 3, WRITE_SECRET);
-        for segment in 0..segments as u32 {
-            ask(Call::new_segment(node, segment, 9, handle()));
-        }
-        ask(Call::delete_cluster(node, handle()));
-        assert_eq!(store, Store::starting());
     }
 }

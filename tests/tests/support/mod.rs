@@ -1,11 +1,7 @@
 //! A store, a memory and shorthands for asking it things.
 #![allow(dead_code, unused_imports)] // each test file uses its own part
 
-pub use model::call::{Call, Part, Reply};
-pub use model::handle::{convert, derive, Handle, HandleBytes, Password, Selector, Width};
-pub use model::random::Random;
-pub use model::sizes::{CLUSTERS, MEMORY_BYTES, NODES, NODE_BYTES, SEGMENTS};
-pub use model::store::{Cluster, Extent, Mode, Place, Segment, Store};
+pub use model::words::*;
 
 #[cfg(of_the_library)]
 use library::guard::run;
@@ -17,8 +13,16 @@ pub mod every;
 pub mod faults;
 pub mod joint;
 pub mod naive;
-pub mod renewed;
 pub mod valid;
+
+/// New passwords with every set of faults.
+pub mod renewed {
+    use super::faults::{self, Faulty, Kind};
+
+    pub fn all() -> impl Iterator<Item = Faulty> {
+        faults::all(Kind::NewPassword)
+    }
+}
 
 pub const READ_SECRET: Password = [0x11; 16];
 pub const WRITE_SECRET: Password = [0x22; 16];
@@ -72,6 +76,14 @@ impl Bench {
 
     pub fn reply(&mut self, call: impl Borrow<Call>) -> Reply {
         self.ask(call, &mut [0; NODE_BYTES])
+    }
+
+    /// The call is refused, and changes nothing, not even a buffer.
+    pub fn refuses(&self, call: &Call, number: u8) {
+        let (mut left, mut buffer) = (self.clone(), [0xee; 4]);
+        let reply = left.ask(call, &mut buffer);
+        assert_eq!(reply, Reply::refused(number), "{call:?}");
+        assert!(left == *self && buffer == [0xee; 4], "{call:?}");
     }
 
     pub fn write(&mut self, segment: u32, data: &[u8], handle: impl Into<HandleBytes>) -> u8 {
@@ -129,6 +141,18 @@ pub fn make_unsound(store: &mut Store) {
 /// A selector of width 8.
 pub fn eight(subselectors: [u16; 4]) -> Selector {
     Selector::new(Width::Eight, subselectors)
+}
+
+/// A handle of cluster 2 of node 0 to read, with the password that goes with its subselectors.
+pub fn reading(width: Width, subselectors: [u16; 4]) -> Handle {
+    Handle::converted(0, 2, &READ_SECRET, Selector::new(width, subselectors))
+}
+
+/// The cluster's handle for these segments in the form of a reduced one, by a single conversion.
+pub fn noted(width: Width, primary: &Password, segments: u16) -> Handle {
+    let mut handle = Handle::primary(width, 0, 2, convert(primary, segments));
+    handle.selector.subselectors[0] = segments;
+    handle
 }
 
 /// The segment of [`Bench::with_segment_of`]: 1, 5 or 13.
