@@ -119,6 +119,10 @@ impl Call {
         }
     }
 
+    pub fn needs_primary(&self) -> bool {
+        numbers_of(self).contains(&NOT_PRIMARY)
+    }
+
     /// Calls that move bytes between a segment and the buffer.
     pub fn moves_bytes(&self) -> bool {
         matches!(self, Call::Read { .. } | Call::Write { .. })

@@ -18,13 +18,9 @@ impl Watch {
     /// other bytes. What is frozen now is met by this.
     pub fn see(&mut self, store: &Store, memory: &[u8]) -> Result<(), String> {
         let mut now = frozen(store, memory);
-        for (name, met) in &self.0 {
-            if now.get(name) != Some(met) {
-                let (node, local, segment) = name;
-                return Err(format!(
-                    "a frozen segment does not stay: segment {segment} of cluster {local} of node {node}"
-                ));
-            }
+        if let Some(((node, local, segment), _)) = self.0.iter().find(|(name, met)| now.get(name) != Some(met)) {
+            let which = format!("segment {segment} of cluster {local} of node {node}");
+            return Err(format!("a frozen segment does not stay: {which}"));
         }
         self.0.append(&mut now);
         Ok(())
@@ -37,19 +33,15 @@ impl Watch {
 }
 
 fn frozen(store: &Store, memory: &[u8]) -> Met {
-    let names = (0..NODES * CLUSTERS * SEGMENTS).map(|at| {
-        let cluster = at / SEGMENTS;
-        (cluster / CLUSTERS, cluster % CLUSTERS, at % SEGMENTS)
-    });
-    names
-        .filter_map(|name @ (node, local, segment)| {
-            let cluster = &store.clusters[node][local];
-            let segment = cluster.segments[segment];
-            let part = segment.extent()?.in_memory(node);
-            let bytes = memory.get(part)?.to_vec();
-            (cluster.active && segment.frozen).then_some((name, (segment.place, bytes)))
-        })
-        .collect()
+    let mut met = Met::new();
+    for (at, cluster) in store.clusters.as_flattened().iter().enumerate().filter(|(_, cluster)| cluster.active) {
+        let (node, local) = (at / CLUSTERS, at % CLUSTERS);
+        for (at, segment) in cluster.segments.iter().enumerate().filter(|(_, segment)| segment.frozen) {
+            let bytes = segment.extent().and_then(|extent| memory.get(extent.in_memory(node)));
+            met.extend(bytes.map(|bytes| ((node, local, at), (segment.place, bytes.to_vec()))));
+        }
+    }
+    met
 }
 
 /// The marks that a call finds.

@@ -130,14 +130,8 @@ impl Session {
 
     /// What the call of a record finds in `store`: the memory, and the buffer or the write's data.
     fn found<'a>(&self, store: &'a Store, record: &Record) -> Found<'a> {
-        Found {
-            store,
-            memory_bytes: self.memory.len(),
-            buffer_bytes: match record[CODE_AT] {
-                call::WRITE => usize::from(record[DATA_LENGTH_AT]),
-                _ => self.buffer.len(),
-            },
-        }
+        let is_write = record[CODE_AT] == call::WRITE;
+        Found::whole(store, if is_write { record[DATA_LENGTH_AT].into() } else { self.buffer.len() })
     }
 
     /// Runs the call of one record.
@@ -145,8 +139,7 @@ impl Session {
         match request(record) {
             Request::BadCode => Reply::refused(FIELD),
             Request::Overlong(call) => {
-                let found =
-                    Found { store: &self.store, memory_bytes: self.memory.len(), buffer_bytes: MOST_DATA_BYTES };
+                let found = Found::whole(&self.store, MOST_DATA_BYTES);
                 Reply::refused(refusal_above(FIELD, &call, &found).unwrap_or(FIELD))
             }
             Request::Call(call @ Call::Write { .. }) => {
@@ -158,58 +151,19 @@ impl Session {
         }
     }
 
-    /// Adds the line of a record that was just run.
+    /// Adds the line of a record that was just run: for a call done, what it gives stands after the number.
     fn push_line(&self, text: &mut Vec<u8>, number: u8, code: u8, reply: &Reply) {
-        push_decimal(text, u32::from(number));
-        text.push(b' ');
-        push_decimal(text, u32::from(code));
-        text.push(b' ');
-        push_decimal(text, u32::from(reply.number));
-        if reply.is_done() {
-            self.push_given(text, code, reply);
+        text.extend(format!("{number} {code} {}", reply.number).bytes());
+        let read = &self.buffer[..reply.length as usize];
+        for given in [&reply.first, &reply.second, read].into_iter().filter(|given| !given.is_empty()) {
+            text.push(b' ');
+            hexadecimal::push(text, given);
+        }
+        if reply.is_done() && code == call::WEAKEN {
+            text.extend(format!(" {}", reply.count).bytes());
         }
         text.push(b'\n');
     }
-
-    /// Adds what a call done gives.
-    fn push_given(&self, text: &mut Vec<u8>, code: u8, reply: &Reply) {
-        match code {
-            call::NEW_CLUSTER => {
-                push_hexadecimal(text, &reply.first);
-                push_hexadecimal(text, &reply.second);
-            }
-            call::READ => push_hexadecimal(text, &self.buffer[..reply.length as usize]),
-            call::WEAKEN => {
-                push_hexadecimal(text, &reply.first);
-                text.push(b' ');
-                push_decimal(text, reply.count);
-            }
-            call::REDUCE | call::NEW_PASSWORD | call::JOIN => {
-                push_hexadecimal(text, &reply.first);
-            }
-            _ => {}
-        }
-    }
-}
-
-fn push_decimal(text: &mut Vec<u8>, number: u32) {
-    if number >= 10 {
-        push_decimal(text, number / 10);
-    }
-    text.push(b'0' + (number % 10) as u8);
-}
-
-fn push_hexadecimal(text: &mut Vec<u8>, bytes: &[u8]) {
-    text.push(b' ');
-    hexadecimal::push(text, bytes);
-}
-
-/// A word and a number on a line of their own.
-fn push_last(text: &mut Vec<u8>, word: &[u8], number: u32) {
-    text.extend_from_slice(word);
-    text.push(b' ');
-    push_decimal(text, number);
-    text.push(b'\n');
 }
 
 /// Runs a list from the starting store and tells `each` of every record that the chain meets: what the
@@ -218,7 +172,7 @@ pub fn run(list: &[u8], mut each: impl FnMut(&Found, &Record, &Reply)) -> Vec<u8
     let mut text = Vec::new();
     let checked = records(list).ok_or(LIST_LENGTH);
     match checked.and_then(|records| Ok((chain(&records)?, records))) {
-        Err(number) => push_last(&mut text, b"list", u32::from(number)),
+        Err(number) => text.extend(format!("list {number}\n").bytes()),
         Ok((order, records)) => {
             let mut session = Session::starting();
             for &number in &order {
@@ -228,7 +182,7 @@ pub fn run(list: &[u8], mut each: impl FnMut(&Found, &Record, &Reply)) -> Vec<u8
                 each(&session.found(&store, record), record, &reply);
                 session.push_line(&mut text, number, record[CODE_AT], &reply);
             }
-            push_last(&mut text, b"end", order.len() as u32);
+            text.extend(format!("end {}\n", order.len()).bytes());
         }
     }
     text

@@ -83,11 +83,9 @@ impl Mode {
         Mode::ALL.into_iter().find(|mode| mode.number() == number)
     }
 
+    /// 1 or 2.
     pub fn number(self) -> u32 {
-        match self {
-            Mode::Read => 1,
-            Mode::Write => 2,
-        }
+        self as u32 + 1
     }
 
     pub fn other(self) -> Mode {

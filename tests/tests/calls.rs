@@ -6,8 +6,7 @@ use support::*;
 
 #[test]
 fn delete_cluster_leaves_the_starting_record_and_all_bytes() {
-    for width in Width::ALL {
-        let mut bench = Bench::with_segment_of(width);
+    for (width, mut bench) in benches() {
         let memory = bench.memory.clone();
         let delete = Call::delete_cluster(0, writer_of(width));
         assert_eq!(bench.reply(delete), Reply::DONE);
@@ -44,8 +43,7 @@ fn new_segment_hands_out_zeros() {
 
 #[test]
 fn placement_looks_at_every_cluster_of_the_node() {
-    for width in Width::ALL {
-        let mut bench = Bench::with_segment_of(width);
+    for (_, mut bench) in benches() {
         for (at, other) in Width::ALL.into_iter().enumerate() {
             let local = 3 + at as u8;
             assert_eq!(bench.number(new_cluster_of(other, 0, local.into())), 0);
@@ -61,8 +59,7 @@ fn placement_looks_at_every_cluster_of_the_node() {
 
 #[test]
 fn read_fills_the_front_of_the_buffer() {
-    for width in Width::ALL {
-        let mut bench = Bench::with_segment_of(width);
+    for (width, mut bench) in benches() {
         let mut buffer = *b"........";
         let read = Call::read(own(width), reader_of(width));
         let reply = bench.ask(read, &mut buffer);
@@ -74,8 +71,7 @@ fn read_fills_the_front_of_the_buffer() {
 
 #[test]
 fn write_takes_the_front_of_the_data() {
-    for width in Width::ALL {
-        let mut bench = Bench::with_segment_of(width);
+    for (width, mut bench) in benches() {
         bench.memory[4] = 0x77;
         let mut data = *b"efghijkl";
         let write = Call::write(own(width), writer_of(width));
@@ -136,8 +132,7 @@ fn new_password_revokes_one_mode() {
 
 #[test]
 fn validation_gives_the_number_of_reduction_and_nothing_else() {
-    for width in Width::ALL {
-        let mut bench = Bench::with_segment_of(width);
+    for (_, mut bench) in benches() {
         let handles = Width::ALL.into_iter().flat_map(|width| {
             let weakened = writer_of(width).weaken(1).unwrap();
             let inactive = Handle::primary(width, 0, 3, [0; 16]);

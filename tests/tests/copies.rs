@@ -23,10 +23,9 @@ fn pair(random: &mut Random) -> [Bench; 2] {
 
 /// Whether the handle opens the cluster set apart, in either mode and in either state.
 fn opens(states: &[Bench; 2], handle: &Handle) -> bool {
-    let cluster = |state: &Bench| state.store.clusters[0][SET_APART];
     let validates = |state: &Bench| {
-        let cluster = cluster(state);
-        Mode::ALL.iter().any(|mode| handle.validates(&cluster, *mode))
+        let cluster = &state.store.clusters[0][SET_APART];
+        Mode::ALL.iter().any(|mode| handle.validates(cluster, *mode))
     };
     handle.name() == (0, SET_APART as u8) && states.iter().any(validates)
 }

@@ -31,10 +31,6 @@ fn marks(width: Width) -> Vec<u16> {
     alone.chain(others).chain([0xffff]).collect()
 }
 
-fn delete_cluster(handle: Handle) -> Call {
-    Call::delete_cluster(0, handle)
-}
-
 // What is done.
 
 #[test]
@@ -124,12 +120,12 @@ fn no_cluster_is_deleted_of_which_any_segment_is_frozen() {
             let mut bench = bench_of(width, marks);
             let before = bench.clone();
             for other in others(width) {
-                assert_eq!(bench.number(delete_cluster(writer_of(other))), 25);
+                assert_eq!(bench.number(Call::delete_cluster(0, writer_of(other))), 25);
             }
-            assert_eq!(bench.number(delete_cluster(reader_of(width))), 9);
-            assert_eq!(bench.number(delete_cluster(forged)), 9);
-            assert_eq!(bench.number(delete_cluster(weaker)), 10);
-            let delete = delete_cluster(writer_of(width));
+            assert_eq!(bench.number(Call::delete_cluster(0, reader_of(width))), 9);
+            assert_eq!(bench.number(Call::delete_cluster(0, forged)), 9);
+            assert_eq!(bench.number(Call::delete_cluster(0, weaker)), 10);
+            let delete = Call::delete_cluster(0, writer_of(width));
             if marks != 0 {
                 assert_eq!(bench.reply(delete), Reply::refused(22));
                 assert_eq!(bench, before);

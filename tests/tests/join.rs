@@ -42,8 +42,7 @@ fn one_handle_for_the_strips_of_two() {
 /// Every two sets of segments, with one to four subselectors not flat; many at width 16.
 #[test]
 fn what_either_references_whichever_comes_first() {
-    for width in Width::ALL {
-        let mut bench = Bench::with_segment_of(width);
+    for (width, mut bench) in benches() {
         let before = bench.clone();
         let sets = usize::from(flat(width).min(1023)) + 1;
         let handle = |at: usize, kind: usize| {

@@ -9,8 +9,7 @@ use support::*;
 /// All of the width: by two of which neither is primary, by one that is, by two that are.
 #[test]
 fn all_are_never_given() {
-    for width in Width::ALL {
-        let mut bench = Bench::with_segment_of(width);
+    for (width, mut bench) in benches() {
         let (before, flat) = (bench.clone(), flat(width));
         let reader = reader_of(width);
         let weaker = |mask| reader.weaken(mask).unwrap();

@@ -23,23 +23,21 @@ fn of_length(handle: Handle, length: usize) -> HandleBytes {
 
 // A length that no handle has.
 
-/// Whatever else is wrong: every call, every length, sound stores and others.
+/// Whatever else is wrong: every call, every length, sound stores and damaged ones.
 #[test]
 fn before_everything_else() {
     let sound = Bench::with_segment_of(Width::Eight);
-    let mut damaged = sound.clone();
-    damaged.store.clusters[3][7].write[0] = 1;
     let mut short = sound.clone();
     short.memory.pop();
+    let damaged = Width::ALL.into_iter().flat_map(damaged).map(|store| Bench { store, ..sound.clone() });
+    let states: Vec<Bench> = damaged.chain([sound.clone(), short]).collect();
     let lengths = (0..=40).filter(|length| ![21, 23, 27].contains(length));
-    for length in lengths.chain([255, 256, 277, 279, 4096]) {
+    for length in lengths.chain([64, 255, 256, 277, 279, 4096]) {
         for writer in [writer(), Handle { node: 9, ..writer() }] {
             let wrong = of_length(writer, length);
             for rest in [right(Width::Eight), WRONG_REST] {
                 for call in every(&wrong, &wrong, rest) {
-                    for state in [&sound, &damaged, &short] {
-                        state.refuses(&call, 25);
-                    }
+                    states.iter().for_each(|state| state.refuses(&call, 25));
                 }
             }
         }
@@ -71,8 +69,7 @@ fn and_nothing_else_stands_above_1() {
 /// All but weakening, with a handle that would be right in all else.
 #[test]
 fn not_the_cluster_s_width() {
-    for width in Width::ALL {
-        let state = Bench::with_segment_of(width);
+    for (width, state) in benches() {
         for other in others(width) {
             let least = width.min(other);
             let rest = Rest { segment: own(least), ..right(width) };
@@ -98,8 +95,7 @@ fn not_the_cluster_s_width() {
 /// the cluster's width.
 #[test]
 fn does_not_validate() {
-    for width in Width::ALL {
-        let state = Bench::with_segment_of(width);
+    for (width, state) in benches() {
         let cluster = &state.store.clusters[0][2];
         for other in others(width) {
             let least = width.min(other);
@@ -120,8 +116,7 @@ fn does_not_validate() {
 /// It never looks at the store, and so at no cluster's width.
 #[test]
 fn not_for_weakening() {
-    for width in Width::ALL {
-        let mut state = Bench::with_segment_of(width);
+    for (_, mut state) in benches() {
         for other in Width::ALL {
             let weaken = |mask| Call::Weaken { mask, handle: reader_of(other).into() };
             let reply = state.reply(weaken(0xfff1));

@@ -23,8 +23,7 @@ fn bench(width: Width, node: usize, segments: &[(u16, u16)]) -> Bench {
 
 #[test]
 fn the_segment_and_where_it_is() {
-    for width in Width::ALL {
-        let mut bench = Bench::with_segment_of(width);
+    for (width, mut bench) in benches() {
         let (reader, segment) = (reader_of(width), own(width));
         assert_eq!(bench.reply(Call::look(0, segment, reader)), shown(0, 4));
         assert_eq!(bench.look(0, segment, reader), Ok(b"abcd".to_vec()));
@@ -49,9 +48,6 @@ fn all_of_the_segment_and_no_other_byte() {
             assert_eq!(bench.look(node as u32, 0, handle), Ok(expected));
         }
     }
-    let last =
-        bench(Width::Eight, 3, &[(4095, 1)]).reply(Call::look(3, 0, Handle::primary(Width::Eight, 3, 2, READ_SECRET)));
-    assert_eq!(last.shown.from + last.shown.length, MEMORY_BYTES);
 }
 
 /// Primary, weakened once to four times, reduced, to nothing, and some that do not validate.
@@ -113,9 +109,6 @@ fn every_segment_of_the_width() {
             let from = 2 * NODE_BYTES + usize::from(*base);
             let reply = bench.reply(Call::look(2, segment as u32, handle));
             assert_eq!(reply, shown(from, (*length).into()));
-        }
-        for segment in [u32::from(width.number()), 16, 20] {
-            assert_eq!(bench.look(2, segment, handle), Err(3));
         }
     }
 }

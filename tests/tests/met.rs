@@ -74,7 +74,7 @@ fn every_sight_of_a_width() {
         let mut store = store(random);
         for _ in 0..4 {
             let handle = handle(random, &store);
-            let (segment, mode) = (random.below(18) as u32, 2);
+            let segment = random.below(18) as u32;
             let (node, local) = (random.below(4) as u32, random.below(8) as u32);
             let width = match random.below(6) {
                 0 => random.below(20) as usize,
@@ -88,14 +88,13 @@ fn every_sight_of_a_width() {
                 2 => random.number() as u16 & 0xfff0,
                 _ => random.number() as u16,
             };
-            #[rustfmt::skip]
             let call = match random.below(6) {
-                0 => Call::NewCluster { node, local, width, read: random.bytes(), write: random.bytes() },
-                1 => Call::Weaken { mask, handle },
-                2 => Call::Reduce { mode, handle },
-                3 => Call::Write { segment, handle },
-                4 => Call::NewSegment { node, segment, size: 1, handle },
-                _ => Call::Validate { mode, handle },
+                0 => Call::new_cluster(node, local, width, random.bytes(), random.bytes()),
+                1 => Call::weaken(mask, handle),
+                2 => Call::reduce(2, handle),
+                3 => Call::write(segment, handle),
+                4 => Call::new_segment(node, segment, 1, handle),
+                _ => Call::validate(2, handle),
             };
             let before = store.clone();
             let mut memory = vec![0; memory_bytes(random)];

@@ -3,7 +3,7 @@
 
 mod support;
 
-use support::naive::{flat, has, number, referenced_and_kept, sets};
+use support::naive::{flat, number, referenced_and_kept, sets};
 use support::*;
 
 const EMPTY: u8 = 21;
@@ -19,21 +19,9 @@ fn to_nothing() -> [Handle; 6] {
 }
 
 #[test]
-fn a_mask_that_keeps_nothing() {
-    let mut bench = Bench::starting();
-    assert_eq!(bench.reply(Call::weaken(0, reader())), Reply::refused(EMPTY));
-    let lab = handle(0x20ff_ffff);
-    for mask in 0..=255 {
-        let number = if has(mask, 5) { 0 } else { EMPTY };
-        assert_eq!(bench.number(Call::weaken(mask, lab)), number, "{mask}");
-    }
-}
-
-#[test]
 fn a_handle_that_references_nothing_whatever_the_mask() {
     let mut bench = Bench::starting();
     for handle in to_nothing() {
-        assert_eq!(bench.reply(Call::weaken(255, handle)), Reply::refused(EMPTY));
         for mask in 0..=255 {
             assert_eq!(bench.reply(Call::weaken(mask, handle)), Reply::refused(EMPTY));
         }
@@ -130,8 +118,7 @@ fn a_weakening_done_never_counts_0() {
 
 #[test]
 fn reduction_of_a_handle_that_references_nothing_is_done() {
-    for width in Width::ALL {
-        let mut bench = Bench::with_segment_of(width);
+    for (width, mut bench) in benches() {
         let flat = flat(width);
         let parts = [[0, flat, flat, flat], [0b0101, 0b1010, flat, flat], [0; 4]];
         let mut first = vec![0xff; width.handle_bytes()];

@@ -46,7 +46,7 @@ fn places_out_of_range() {
     }
 }
 
-/// A gap does not matter: 3 comes before.
+/// Modes and sizes; segments are in `fields`. A gap does not matter: 3 comes before.
 #[test]
 fn fields_out_of_range() {
     let bench = Bench::with_segment();
@@ -57,10 +57,6 @@ fn fields_out_of_range() {
             let named = calls(Rest { mode: Some(mode), ..RIGHT }).filter(|call| call.named_mode().is_some());
             let second = Call::join(mode, writer(), handle.clone());
             named.chain([second]).for_each(|call| bench.refuses(&call, 3));
-        }
-        for segment in [8, 9, 13, 255, 256, 261, u32::MAX] {
-            let about = calls(Rest { segment, ..RIGHT }).filter(|call| call.segment().is_some());
-            about.for_each(|call| bench.refuses(&call, 3));
         }
         for size in [0, 4097] {
             bench.refuses(&Call::new_segment(0, 1, size, handle.clone()), 3);

@@ -23,13 +23,10 @@ fn pair(random: &mut Random) -> [Bench; 2] {
 /// Whether no handle of the cluster reads by this call, in either state.
 fn is_free(states: &[Bench; 2], call: &Call) -> bool {
     let reads = |handle: Handle| {
-        let mode = READ_MODE;
-        let validation = Call::validate(mode, handle);
-        let mut states = states.iter();
-        states.any(|state| state.clone().number(&validation) == 0)
+        let validation = Call::validate(READ_MODE, handle);
+        states.iter().any(|state| state.clone().number(&validation) == 0)
     };
-    let of_cluster = |handle: &Handle| handle.name() == (0, SET_APART as u8);
-    let mut own = call.presented().filter(of_cluster);
+    let mut own = call.presented().filter(|handle| handle.name() == (0, SET_APART as u8));
     call.needed_mode() != Some(Mode::Read) || !own.any(reads)
 }
 

@@ -53,17 +53,10 @@ fn run(task: &Task) -> io::Result<bool> {
                 taken.push(once(program, list)?);
             }
         }
-        let [first, second] = times.each_mut().map(|taken| least_and_middle(taken));
-        println!(
-            "{:<40} {:8.0} {:8.0}   {:8.0} {:8.0}   ratio {:.2} {:.2}",
-            list.to_string_lossy(),
-            first.0,
-            first.1,
-            second.0,
-            second.1,
-            first.0 / second.0,
-            first.1 / second.1
-        );
+        let [(least, middle), (other_least, other_middle)] = times.each_mut().map(|taken| least_and_middle(taken));
+        let times = format!("{least:8.0} {middle:8.0}   {other_least:8.0} {other_middle:8.0}");
+        let ratios = format!("{:.2} {:.2}", least / other_least, middle / other_middle);
+        println!("{:<40} {times}   ratio {ratios}", list.to_string_lossy());
     }
     Ok(true)
 }

@@ -14,8 +14,6 @@ const SEGMENTS: usize = WIDTH.segments();
 const ALL: u8 = WIDTH.flat() as u8;
 /// Few passwords, so that equal ones meet.
 const PASSWORDS: u64 = 5;
-/// Node and local number in a handle.
-const NAME_BYTES: usize = 3;
 /// Codes as often as they are wanted: what fills the store comes more often than what empties it.
 const CODES: [u8; 31] =
     [1, 1, 1, 2, 2, 3, 3, 3, 3, 3, 4, 4, 5, 5, 5, 5, 6, 6, 6, 6, 7, 7, 8, 8, 9, 9, 10, 10, 11, 11, 11];
@@ -50,7 +48,9 @@ impl Maker {
             call::WRITE => self.move_bytes(&mut record, Mode::Write),
             call::WEAKEN => self.weaken(&mut record),
             call::JOIN => self.join(&mut record),
-            _ => self.call_with_mode(&mut record),
+            _ => {
+                self.call_with_mode(&mut record);
+            }
         }
         let reply = self.session.run(&record);
         // Handles that a call does not give have no bytes.
@@ -182,7 +182,7 @@ impl Maker {
     }
 
     /// Calls 8 and 9, and codes that belong to no call.
-    fn call_with_mode(&mut self, record: &mut Record) {
+    fn call_with_mode(&mut self, record: &mut Record) -> Handle {
         let mode = self.random.one_of(&Mode::ALL);
         let primary = record[CODE_AT] == call::NEW_PASSWORD;
         let segments = self.random.one_in(2);
@@ -191,6 +191,7 @@ impl Maker {
         record[MODE_AT] = self.near(number_of(mode), 2);
         let password = self.next_password(&handle);
         record[FIRST_PASSWORD_AT..SECOND_PASSWORD_AT].copy_from_slice(&password);
+        handle
     }
 
     /// Often one of the two that the handle's cluster has.
@@ -208,8 +209,8 @@ impl Maker {
     fn join(&mut self, record: &mut Record) {
         let aimed = if self.random.one_in(4) { None } else { joins::join(&mut self.random, &self.session.store) };
         let Some(join) = aimed else {
-            self.call_with_mode(record);
-            return self.put_other(record);
+            let handle = self.call_with_mode(record);
+            return self.put_other(record, &handle);
         };
         put(record, HANDLE_AT, &join.handles[0]);
         put(record, OTHER_HANDLE_AT, &join.handles[1]);
@@ -219,13 +220,12 @@ impl Maker {
         };
     }
 
-    fn put_other(&mut self, record: &mut Record) {
-        let name = record[HANDLE_AT..HANDLE_AT + NAME_BYTES].to_vec();
-        let given = self.given.iter().copied();
-        let given: Vec<Handle> = given.filter(|handle| handle.to_bytes().starts_with(&name)).collect();
+    fn put_other(&mut self, record: &mut Record, handle: &Handle) {
+        let given = self.given.iter().filter(|given| given.name() == handle.name());
+        let given: Vec<Handle> = given.copied().collect();
         let given = self.random.pick(&given).copied();
-        let handle = given.unwrap_or_else(|| handles::any(&mut self.random));
-        put(record, OTHER_HANDLE_AT, &handle.to_bytes());
+        let other = given.unwrap_or_else(|| handles::any(&mut self.random));
+        put(record, OTHER_HANDLE_AT, &other.to_bytes());
     }
 }
 

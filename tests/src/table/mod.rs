@@ -111,8 +111,13 @@ impl<'a> Asked<'a> {
         self.named_cluster()?.segments.get(segment)
     }
 
-    fn named_extent(&self) -> Option<Extent> {
-        self.named_segment()?.extent()
+    /// Whether the call has to validate its handles, and this is so of one of them and its cluster.
+    fn any_judged(&self, test: impl Fn(&Handle, &Cluster, Mode) -> bool) -> bool {
+        let judged = |handle, mode| {
+            let cluster = self.found.store.cluster_of(handle);
+            cluster.is_some_and(|cluster| test(handle, cluster, mode))
+        };
+        self.call.needed_mode().is_some_and(|mode| self.handles().any(|handle| judged(handle, mode)))
     }
 }
 
@@ -140,28 +145,28 @@ type Row = (u8, Of, fn(&Asked) -> bool);
 #[rustfmt::skip]
 const ROWS: [Row; 24] = [
     (LENGTH, AllBut(&[NewCluster]), rows::no_length),
-    (UNSOUND, AllBut(&[Weaken]), rows::unsound),
+    (UNSOUND, AllBut(&[Weaken]), |asked| !asked.found.store.is_sound(asked.found.memory_bytes)),
     (NO_SUCH_PLACE, AllBut(&[]), rows::no_such_place),
     (FIELD, AllBut(&[DeleteCluster, Weaken]), rows::field),
-    (GAPPED, AllBut(&[NewCluster]), rows::gapped),
-    (APART, These(&[Join]), rows::apart),
+    (GAPPED, AllBut(&[NewCluster]), |asked| asked.handles().any(|handle| handle.selector.is_gapped())),
+    (APART, These(&[Join]), |asked| asked.both().is_some_and(|(handle, other)| handle.name() != other.name())),
     (ELSEWHERE, These(&[DeleteCluster, NewSegment, DeleteSegment, Freeze, Look]), rows::elsewhere),
     (IN_USE, These(&[NewCluster]), rows::in_use),
-    (TWINS, These(&[NewCluster]), rows::twins),
-    (INACTIVE, AllBut(&[NewCluster, Weaken]), rows::inactive),
+    (TWINS, These(&[NewCluster]), |asked| matches!(asked.call, Call::NewCluster { read, write, .. } if read == write)),
+    (INACTIVE, AllBut(&[NewCluster, Weaken]), |asked| asked.any_judged(|_, cluster, _| !cluster.active)),
     (LENGTH, AllBut(&[NewCluster, Weaken]), rows::other_width),
     (VIOLATED_PROTECTION, AllBut(&[NewCluster, Weaken]), rows::violated_protection),
     (WHOLE, These(&[Join]), rows::whole),
     (NOT_PRIMARY, These(&[DeleteCluster, NewSegment, DeleteSegment, NewPassword, Freeze]), rows::not_primary),
-    (FROZEN, These(&[DeleteCluster]), rows::frozen_in_the_cluster),
+    (FROZEN, These(&[DeleteCluster]), |asked| asked.named_cluster().is_some_and(Cluster::has_frozen)),
     (NOT_REFERENCED, These(&[Read, Write, Look]), rows::not_referenced),
     (OLD_PASSWORD, These(&[NewPassword]), rows::old_password),
-    (PRESENT, These(&[NewSegment]), rows::present),
+    (PRESENT, These(&[NewSegment]), |asked| asked.named_segment().is_some_and(Segment::is_present)),
     (ABSENT, These(&[DeleteSegment, Read, Write, Freeze, Look]), rows::absent),
-    (FROZEN, These(&[DeleteSegment, Write]), rows::frozen),
+    (FROZEN, These(&[DeleteSegment, Write]), |asked| asked.named_segment().is_some_and(|segment| segment.frozen)),
     (SHORT, These(&[Read, Write]), rows::short),
     (NO_ROOM, These(&[NewSegment]), rows::no_room),
-    (EMPTY, These(&[Weaken]), rows::empty),
+    (EMPTY, These(&[Weaken]), |asked| asked.handle_and_mask().is_some_and(|(handle, mask)| handle.kept(mask) == 0)),
     (SPENT, These(&[Weaken]), rows::spent),
 ];
 

@@ -1,4 +1,4 @@
-//! When each row of the table applies.
+//! When a row of the table applies, where it takes more to say than the row has room for.
 
 use super::Asked;
 use crate::words::*;
@@ -7,11 +7,6 @@ use crate::words::*;
 pub fn no_length(asked: &Asked) -> bool {
     let mut lengths = asked.call.presented_bytes().map(<[u8]>::len);
     lengths.any(|length| Width::of_handle_bytes(length).is_none())
-}
-
-pub fn unsound(asked: &Asked) -> bool {
-    let found = asked.found;
-    !found.store.is_sound(found.memory_bytes)
 }
 
 pub fn no_such_place(asked: &Asked) -> bool {
@@ -35,14 +30,6 @@ pub fn field(asked: &Asked) -> bool {
         }
 }
 
-pub fn gapped(asked: &Asked) -> bool {
-    asked.handles().any(|handle| handle.selector.is_gapped())
-}
-
-pub fn apart(asked: &Asked) -> bool {
-    asked.both().is_some_and(|(handle, other)| handle.name() != other.name())
-}
-
 pub fn elsewhere(asked: &Asked) -> bool {
     let both = asked.call.current_node().zip(asked.handle);
     both.is_some_and(|(node, handle)| node != u32::from(handle.node))
@@ -53,27 +40,13 @@ pub fn in_use(asked: &Asked) -> bool {
     asked.found.store.cluster(node as usize, local as usize).is_some_and(|cluster| cluster.active)
 }
 
-pub fn twins(asked: &Asked) -> bool {
-    matches!(asked.call, Call::NewCluster { read, write, .. } if read == write)
-}
-
-/// Whether the call has to validate its handles, and this is so of one of them and its cluster.
-fn any_judged(asked: &Asked, test: impl Fn(&Handle, &Cluster, Mode) -> bool) -> bool {
-    let judged = |handle, mode| asked.found.store.cluster_of(handle).is_some_and(|cluster| test(handle, cluster, mode));
-    asked.call.needed_mode().is_some_and(|mode| asked.handles().any(|handle| judged(handle, mode)))
-}
-
-pub fn inactive(asked: &Asked) -> bool {
-    any_judged(asked, |_, cluster, _| !cluster.active)
-}
-
 /// 25 at its second place.
 pub fn other_width(asked: &Asked) -> bool {
-    any_judged(asked, |handle, cluster, _| !cluster.has_width(handle.width()))
+    asked.any_judged(|handle, cluster, _| !cluster.has_width(handle.width()))
 }
 
 pub fn violated_protection(asked: &Asked) -> bool {
-    any_judged(asked, |handle, cluster, mode| !handle.validates(cluster, mode))
+    asked.any_judged(|handle, cluster, mode| !handle.validates(cluster, mode))
 }
 
 /// The two are of one width: the cluster's.
@@ -83,10 +56,6 @@ pub fn whole(asked: &Asked) -> bool {
 
 pub fn not_primary(asked: &Asked) -> bool {
     asked.handles().any(|handle| !handle.selector.is_primary())
-}
-
-pub fn frozen_in_the_cluster(asked: &Asked) -> bool {
-    asked.named_cluster().is_some_and(Cluster::has_frozen)
 }
 
 pub fn not_referenced(asked: &Asked) -> bool {
@@ -101,29 +70,18 @@ pub fn old_password(asked: &Asked) -> bool {
     both.is_some_and(|(mode, cluster)| password == cluster.primary(mode))
 }
 
-pub fn present(asked: &Asked) -> bool {
-    asked.named_extent().is_some()
-}
-
 pub fn absent(asked: &Asked) -> bool {
     asked.named_segment().is_some_and(|segment| !segment.is_present())
 }
 
-pub fn frozen(asked: &Asked) -> bool {
-    asked.named_segment().is_some_and(|segment| segment.frozen)
-}
-
 pub fn short(asked: &Asked) -> bool {
-    asked.named_extent().is_some_and(|extent| asked.found.buffer_bytes < extent.length)
+    let extent = asked.named_segment().and_then(Segment::extent);
+    extent.is_some_and(|extent| asked.found.buffer_bytes < extent.length)
 }
 
 pub fn no_room(asked: &Asked) -> bool {
     let Call::NewSegment { node, size, .. } = *asked.call else { return false };
     node as usize >= NODES || asked.found.store.place(node as usize, size as usize).is_none()
-}
-
-pub fn empty(asked: &Asked) -> bool {
-    asked.handle_and_mask().is_some_and(|(handle, mask)| handle.kept(mask) == 0)
 }
 
 pub fn spent(asked: &Asked) -> bool {

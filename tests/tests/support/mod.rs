@@ -109,19 +109,19 @@ impl Bench {
         let call = Call::look(node, segment, handle);
         let reply = self.ask(&call, &mut buffer);
         assert!(*self == before && buffer == [0xee; 3], "{call:?}");
-        let shown = reply.shown;
-        let number = reply.number;
+        let Reply { number, shown, .. } = reply;
+        let shown = if number == 0 { shown } else { Part::NONE };
+        assert_eq!(reply, Reply { shown, ..Reply::refused(number) });
         match number {
-            0 => {
-                assert_eq!(reply, Reply { shown, ..Reply::DONE });
-                Ok(shown.of(&self.memory).expect("a part of it").to_vec())
-            }
-            _ => {
-                assert_eq!(reply, Reply::refused(number));
-                Err(number)
-            }
+            0 => Ok(shown.of(&self.memory).expect("a part of it").to_vec()),
+            _ => Err(number),
         }
     }
+}
+
+/// Cluster 2 of node 0 with its segment, at each width.
+pub fn benches() -> impl Iterator<Item = (Width, Bench)> {
+    Width::ALL.into_iter().map(|width| (width, Bench::with_segment_of(width)))
 }
 
 /// A store with cluster 3 of node 1, which has one segment.
@@ -131,6 +131,39 @@ pub fn store_of(width: Width) -> Store {
     *cluster = Cluster::new(width, READ_SECRET, WRITE_SECRET);
     cluster.segments[0] = Segment::present(10, 20);
     store
+}
+
+/// A segment in an inactive cluster that goes beyond its node, marks where no segment is, and what widths do: a width
+/// that is none, one that an inactive cluster has, a segment at or above it, and a cluster's own made another.
+pub fn damaged(width: Width) -> Vec<Store> {
+    let put = |(node, local): (usize, usize), at: usize, segment| {
+        let mut store = store_of(width);
+        store.clusters[node][local].segments[at] = segment;
+        store
+    };
+    let resized = |(node, local): (usize, usize), number| {
+        let mut store = store_of(width);
+        store.clusters[node][local].width = number;
+        store
+    };
+    let mut damaged = vec![
+        put((3, 7), 3, Segment::present(4000, 97)),
+        put((3, 7), 3, Segment::ABSENT.marked()),
+        put((3, 7), 15, Segment::ABSENT.marked()),
+        put((1, 3), 3, Segment::ABSENT.marked()),
+        resized((3, 7), 4),
+        resized((3, 7), 8),
+        resized((3, 7), 255),
+        resized((1, 3), 0),
+        resized((1, 3), 5),
+        resized((1, 3), 17),
+    ];
+    if width != Width::Sixteen {
+        let at = width.segments();
+        damaged.push(put((1, 3), at, Segment::present(100, 1)));
+        damaged.push(put((1, 3), 15, Segment::present(100, 1)));
+    }
+    damaged
 }
 
 /// Makes a store unsound where no call of these tests is about: an inactive cluster has a width.
