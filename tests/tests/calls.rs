@@ -120,7 +120,7 @@ fn new_password_revokes_one_mode() {
     for width in Width::ALL {
         let (mut bench, segment) = (Bench::with_segment_of(width), own(width));
         let weakened = reader_of(width).weaken(1 << segment).unwrap();
-        let reply = bench.reply(renew(READ_MODE, reader_of(width), [0x33; 16]));
+        let reply = bench.reply(Call::new_password(READ_MODE, reader_of(width), [0x33; 16]));
         let renewed = Handle::primary(width, 0, 2, [0x33; 16]);
         assert_eq!(reply, Reply::with_handle(&renewed));
         assert_eq!(bench.read(segment, reader_of(width)), Err(9));

@@ -26,7 +26,7 @@ fn one_handle_for_the_strips_of_two() {
     let [one, other] = [0x07, 0x18].map(|mask| reader().weaken(mask).unwrap());
     let before = bench.clone();
     let mut buffer = [0xee; 3];
-    let reply = bench.ask(join(READ_MODE, one, other), &mut buffer);
+    let reply = bench.ask(Call::join(READ_MODE, one, other), &mut buffer);
     assert_eq!(reply, Reply::with_handle(&reduced(Width::Eight, 0x1f)));
     assert_eq!((bench.clone(), buffer), (before, [0xee; 3]));
     let joined = given(&reply);
@@ -58,8 +58,8 @@ fn what_either_references_whichever_comes_first() {
         let step = if width == Width::Sixteen { 37 } else { 1 };
         for at in (0..sets * sets).step_by(step).filter(|at| at % sets <= at / sets) {
             let (one, other) = (handle(at % sets, at / sets), handle(at / sets, at % 7));
-            let reply = bench.ask(join(READ_MODE, one, other), &mut []);
-            assert_eq!(reply, bench.ask(join(READ_MODE, other, one), &mut []));
+            let reply = bench.ask(Call::join(READ_MODE, one, other), &mut []);
+            assert_eq!(reply, bench.ask(Call::join(READ_MODE, other, one), &mut []));
             let parts = [one, other].map(|handle| handle.selector.subselectors);
             let either = |segment| parts.iter().any(|parts| references(*parts, segment));
             if segments(width).all(either) {
@@ -98,7 +98,7 @@ fn what_is_given_validates_in_the_mode_and_is_not_primary() {
             };
             for segments in (0..flat).step_by(if flat > 255 { 63 } else { 1 }) {
                 let one = at(segments & 0x3c3c | 0x01);
-                let reply = bench.reply(join(mode, at(segments), one));
+                let reply = bench.reply(Call::join(mode, at(segments), one));
                 if segments | 0x01 == flat {
                     assert_eq!(reply, Reply::refused(23));
                     continue;
@@ -127,8 +127,8 @@ fn with_itself_and_with_less() {
             let less = reduced(width, selector.referenced() & 0x5a5a);
             let nothing = reduced(width, 0);
             for other in [handle, less, nothing] {
-                assert_eq!(bench.reply(join(READ_MODE, handle, other)), expected);
-                assert_eq!(bench.reply(join(READ_MODE, other, handle)), expected);
+                assert_eq!(bench.reply(Call::join(READ_MODE, handle, other)), expected);
+                assert_eq!(bench.reply(Call::join(READ_MODE, other, handle)), expected);
             }
         }
     }
@@ -141,7 +141,7 @@ fn two_that_reference_nothing() {
     let nothing = nothing.map(|parts| reading(Width::Eight, parts));
     for one in nothing {
         for other in nothing {
-            let reply = bench.reply(join(READ_MODE, one, other));
+            let reply = bench.reply(Call::join(READ_MODE, one, other));
             assert_eq!(reply, Reply::with_handle(&reduced(Width::Eight, 0)));
         }
     }
@@ -152,7 +152,7 @@ fn two_that_reference_nothing() {
 fn what_is_joined_is_joined_again() {
     let mut bench = Bench::with_cluster();
     let mut joined = |one, other| {
-        let reply = bench.reply(join(READ_MODE, one, other));
+        let reply = bench.reply(Call::join(READ_MODE, one, other));
         assert_eq!(reply.number, 0);
         given(&reply)
     };

@@ -22,19 +22,19 @@ fn all_are_never_given() {
             (reader, reading(width, [0; 4])),
             (reader, reader),
         ] {
-            assert_eq!(bench.reply(join(READ_MODE, one, other)), Reply::refused(23));
-            assert_eq!(bench.reply(join(READ_MODE, other, one)), Reply::refused(23));
+            assert_eq!(bench.reply(Call::join(READ_MODE, one, other)), Reply::refused(23));
+            assert_eq!(bench.reply(Call::join(READ_MODE, other, one)), Reply::refused(23));
             // A password that is wrong is told before.
             let forged = Handle { password: [9; 16], ..other };
-            assert_eq!(bench.number(join(READ_MODE, one, forged)), 9);
-            assert_eq!(bench.number(join(READ_MODE, forged, one)), 9);
-            assert_eq!(bench.number(join(WRITE_MODE, one, other)), 9);
+            assert_eq!(bench.number(Call::join(READ_MODE, one, forged)), 9);
+            assert_eq!(bench.number(Call::join(READ_MODE, forged, one)), 9);
+            assert_eq!(bench.number(Call::join(WRITE_MODE, one, other)), 9);
         }
         // All but one are, whichever it is.
         for segment in segments(width) {
             let but_one = flat - (1 << segment);
             let [one, other] = [0x0f0f, 0xf0f0].map(|mask| weaker(but_one).weaken(mask | 0x33));
-            let reply = bench.reply(join(READ_MODE, one.unwrap(), other.unwrap()));
+            let reply = bench.reply(Call::join(READ_MODE, one.unwrap(), other.unwrap()));
             assert_eq!(given(&reply).selector.referenced(), but_one);
         }
         assert_eq!(bench, before);
@@ -67,14 +67,14 @@ fn both_have_to_validate() {
     let mut bench = Bench::with_cluster();
     let [reads, writes] = [reader(), writer()].map(|handle| handle.weaken(0x0f).unwrap());
     for mode in [READ_MODE, WRITE_MODE] {
-        assert_eq!(bench.number(join(mode, reads, writes)), 9);
-        assert_eq!(bench.number(join(mode, writes, reads)), 9);
+        assert_eq!(bench.number(Call::join(mode, reads, writes)), 9);
+        assert_eq!(bench.number(Call::join(mode, writes, reads)), 9);
     }
-    assert_eq!(bench.number(join(WRITE_MODE, reads, reads)), 9);
+    assert_eq!(bench.number(Call::join(WRITE_MODE, reads, reads)), 9);
     let renew = Call::new_password(READ_MODE, reader(), [0x33; 16]);
     assert_eq!(bench.number(renew), 0);
     let renewed = Handle::primary(Width::Eight, 0, 2, [0x33; 16]).weaken(0x30).unwrap();
-    assert_eq!(bench.number(join(READ_MODE, reads, renewed)), 9);
-    assert_eq!(bench.number(join(READ_MODE, renewed, reads)), 9);
-    assert_eq!(bench.number(join(READ_MODE, renewed, renewed)), 0);
+    assert_eq!(bench.number(Call::join(READ_MODE, reads, renewed)), 9);
+    assert_eq!(bench.number(Call::join(READ_MODE, renewed, reads)), 9);
+    assert_eq!(bench.number(Call::join(READ_MODE, renewed, renewed)), 0);
 }

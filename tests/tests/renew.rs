@@ -24,7 +24,7 @@ fn primaries((width, mode): (Width, u32)) -> (Handle, Handle) {
 fn equal(made: (Width, u32)) -> (Bench, Handle) {
     let mut state = Bench::with_segment_of(made.0);
     let (own, other) = primaries(made);
-    let reply = state.reply(renew(made.1, own, other.password));
+    let reply = state.reply(Call::new_password(made.1, own, other.password));
     assert_eq!(reply, Reply::with_handle(&other));
     (state, other)
 }
@@ -54,7 +54,7 @@ fn family(state: &mut Bench, mode: u32, primary: Handle) -> Vec<Handle> {
     let once = primary.weaken(!1).unwrap();
     let twice = once.weaken(two).unwrap();
     let reduce = Call::reduce(mode, twice);
-    let joined = join(mode, twice, primary.weaken(0b1000).unwrap());
+    let joined = Call::join(mode, twice, primary.weaken(0b1000).unwrap());
     let made = [reduce, joined].map(|call| given(&state.reply(call)));
     let parts = made.map(|handle| handle.selector.subselectors[0]);
     assert_eq!(parts, [two, two | 0b1000]);
@@ -73,7 +73,7 @@ fn by_the_mode_s_own_password_alone() {
         let near = [own, other].map(|handle| neighbours(handle.password));
         for password in alike.chain(near.into_iter().flatten()) {
             let mut state = start.clone();
-            let reply = state.reply(renew(mode, own, password));
+            let reply = state.reply(Call::new_password(mode, own, password));
             let mut expected = start.clone();
             if password == own.password {
                 assert_eq!(reply, Reply::refused(12));
@@ -146,7 +146,7 @@ fn the_same_is_made_from_it_in_either_mode() {
         assert_eq!(reads, writes);
         for call in [
             |mode, handle: Handle| Call::Reduce { mode, handle: handle.into() },
-            |mode, handle: Handle| join(mode, handle, handle),
+            |mode, handle: Handle| Call::join(mode, handle, handle),
         ] {
             for &handle in &reads {
                 let [one, other] = modes.map(|mode| state.reply(call(mode, handle)));
@@ -188,7 +188,7 @@ fn a_change_of_one_mode_ends_it() {
         for changed in [READ_MODE, WRITE_MODE] {
             let (mut state, both) = equal(made);
             let old = family(&mut state, changed, both);
-            let reply = state.reply(renew(changed, both, [0x33; 16]));
+            let reply = state.reply(Call::new_password(changed, both, [0x33; 16]));
             let renewed = Handle::primary(both.width(), 0, 2, [0x33; 16]);
             assert_eq!(reply, Reply::with_handle(&renewed));
             let reads = changed == READ_MODE;
@@ -200,8 +200,8 @@ fn a_change_of_one_mode_ends_it() {
             }
             // The other mode's own is still 12 there, and is taken back here.
             let other = 3 - changed;
-            assert_eq!(state.number(renew(other, both, both.password)), 12);
-            assert_eq!(state.number(renew(changed, renewed, both.password)), 0);
+            assert_eq!(state.number(Call::new_password(other, both, both.password)), 12);
+            assert_eq!(state.number(Call::new_password(changed, renewed, both.password)), 0);
             assert_eq!(opens(&mut state, both), [true; 2]);
         }
     }

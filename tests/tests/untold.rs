@@ -47,7 +47,7 @@ fn whatever_the_four_passwords_are() {
         for made_from in [own, one, two] {
             for selector in [Selector::primary(width), weaker] {
                 let handle = Handle::converted(0, 2, &made_from, selector);
-                let call = renew(mode.number(), handle, password);
+                let call = Call::new_password(mode.number(), handle, password);
                 numbers.insert(number(width, mode, own, [one, two], call));
             }
         }
@@ -75,7 +75,7 @@ fn whatever_the_handle_is() {
             // Either store may have equal passwords, or neither.
             let others = *random.pick(&[[one, two], [own, two], [one, own]]).unwrap();
             for password in passwords {
-                let call = renew(mode.number(), handle, password);
+                let call = Call::new_password(mode.number(), handle, password);
                 numbers.insert(number(width, mode, own, others, call));
             }
         }

@@ -265,11 +265,3 @@ pub fn freeze(segment: u32) -> Call {
 pub fn freeze_of(width: Width, segment: u32) -> Call {
     Call::freeze(0, segment, writer_of(width))
 }
-
-pub fn renew(mode: u32, handle: impl Into<HandleBytes>, password: Password) -> Call {
-    Call::new_password(mode, handle, password)
-}
-
-pub fn join(mode: u32, handle: impl Into<HandleBytes>, other: impl Into<HandleBytes>) -> Call {
-    Call::join(mode, handle, other)
-}

@@ -60,14 +60,14 @@ pub fn valid_call(random: &mut Random, bench: &Bench) -> Call {
         18..=23 => Call::delete_segment(0, segment, handle),
         24..=29 => Call::write(segment, handle),
         30 | 31 => Call::write(segment, weaker),
-        32 => renew(WRITE_MODE, handle, write),
-        33 => renew(READ_MODE, reader, read),
+        32 => Call::new_password(WRITE_MODE, handle, write),
+        33 => Call::new_password(READ_MODE, reader, read),
         34 => Call::reduce(WRITE_MODE, weaker),
         35 => Call::weaken(mask, handle),
         36 => Call::read(segment, reader),
         37 => Call::look(0, segment, reader),
         38 => Call::validate(WRITE_MODE, handle),
-        39 => join(WRITE_MODE, weaker, other),
+        39 => Call::join(WRITE_MODE, weaker, other),
         _ => Call::freeze(0, segment, handle),
     }
 }
