@@ -31,7 +31,8 @@ pub const OTHER_HANDLE_AT: usize = 32;
 pub type Record = [u8; RECORD_BYTES];
 
 /// The pairs that a list can reach: the code of a call and a number, in the order of the numbers. A list starts from a
-/// sound store, has one width alone and a buffer that any segment fits in.
+/// sound store, has one width alone and a buffer that any segment fits in, so 1 and 25 are not among them, nor 3 for a
+/// new cluster, nor 15 for a read.
 pub fn reachable() -> impl Iterator<Item = (u8, u8)> {
     let never = [(call::NEW_CLUSTER, FIELD), (call::READ, SHORT)];
     let numbers = (DONE..=LENGTH).filter(|number| ![UNSOUND, LENGTH].contains(number));

@@ -1,5 +1,5 @@
-//! Calls on stores that are not sound: 1 for all but weakening, and nothing changes. That 25 alone comes before it is in
-//! `length`.
+//! Calls on stores that are not sound: 1 for all but weakening, and nothing changes. That 25 alone comes before it is
+//! in `length`.
 
 mod support;
 

@@ -1,5 +1,5 @@
-//! Calls 9, 10 and 11 in lists: where a record has what they take, what the line gives, and the bytes that such a record
-//! does not use.
+//! Calls 9, 10 and 11 in lists: where a record has what they take, what the line gives, and the bytes that such a
+//! record does not use.
 
 mod support;
 
@@ -7,6 +7,8 @@ use model::hexadecimal::encode;
 use model::list::{output, request, Record, Request, RECORD_BYTES};
 use std::collections::BTreeMap;
 use support::*;
+
+const SECRETS: [Password; 2] = [READ_SECRET, WRITE_SECRET];
 
 /// Code, node, mode and segment, and a handle; all other bytes are `unused`.
 fn record(first: [u8; 4], handle: &Handle, unused: u8) -> Record {
@@ -17,7 +19,7 @@ fn record(first: [u8; 4], handle: &Handle, unused: u8) -> Record {
 }
 
 /// The lines after that of a record which makes cluster 2 of node 0; the records follow one another.
-fn lines(read: Password, write: Password, records: &[Record]) -> Vec<String> {
+fn lines([read, write]: [Password; 2], records: &[Record]) -> Vec<String> {
     let mut new_cluster = record([1, 0, 0, 2], &reader(), 0);
     new_cluster[32..48].copy_from_slice(&read);
     new_cluster[48..].copy_from_slice(&write);
@@ -30,12 +32,8 @@ fn lines(read: Password, write: Password, records: &[Record]) -> Vec<String> {
     text.lines().skip(1).map(str::to_string).collect()
 }
 
-fn lines_of(records: &[Record]) -> Vec<String> {
-    lines(READ_SECRET, WRITE_SECRET, records)
-}
-
 fn line(record: Record) -> String {
-    lines_of(&[record]).swap_remove(0)
+    lines(SECRETS, &[record]).swap_remove(0)
 }
 
 // Joins: the second handle at bytes 32 to 54.
@@ -83,7 +81,7 @@ fn a_refusal_stops_at_the_number() {
         let both = |&(mode, one, two, _): &(u8, Handle, Handle, u8)| {
             [joining(mode, &one, &two, unused), joining(mode, &two, &one, unused)]
         };
-        let found = lines_of(&asked.iter().flat_map(both).collect::<Vec<_>>());
+        let found = lines(SECRETS, &asked.iter().flat_map(both).collect::<Vec<_>>());
         let numbers = asked.iter().flat_map(|asked| [asked.3; 2]);
         let expected: Vec<String> = numbers
             .enumerate()
@@ -160,7 +158,7 @@ fn code_10_and_a_line_that_stops_at_the_number() {
         "11 10 8", "12 10 9", "13 10 10", "14 10 14", "15 5 0 00000000", "16 12 3", "end 16",
     ];
     for unused in [0, 1, 0xff] {
-        assert_eq!(lines_of(&freezes(unused)), expected);
+        assert_eq!(lines(SECRETS, &freezes(unused)), expected);
     }
 }
 
@@ -180,8 +178,8 @@ fn the_line_of_a_list_is_the_same() {
             renewed[32..48].copy_from_slice(&password);
             let [first, rest @ ..] = [1, 2, 3, 4].map(|other| {
                 let (own, other) = (passwords[0], passwords[other]);
-                let (read, write) = if mode == Mode::Read { (own, other) } else { (other, own) };
-                lines(read, write, &[renewed]).swap_remove(0)
+                let passwords = if mode == Mode::Read { [own, other] } else { [other, own] };
+                lines(passwords, &[renewed]).swap_remove(0)
             });
             assert!(rest.iter().all(|line| *line == first), "{first} {rest:?}");
             *given.entry(first).or_default() += 1;

@@ -49,7 +49,7 @@ fn numbers_in_their_order() {
         (Kind::Write, 3072),
         (Kind::Reduce, 2 * 256),
         // In either mode: the mode's own where the two differ and where they are equal, and three that are not.
-        (Kind::NewPassword, 2 * (2 + 3) * 512),
+        (Kind::NewPassword, 2 * 2 * (2 + 3) * 512),
         (Kind::Freeze, 2 * 2048),
         (Kind::Look, 2 * 2048),
         (Kind::Validate, 2 * 256),

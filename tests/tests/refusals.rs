@@ -12,7 +12,7 @@ const RIGHT: Rest = Rest { node: 0, segment: 5, mode: None };
 /// What speaks against a call after its places.
 const WRONG_FIELDS: Rest = Rest { node: 0, segment: 8, mode: Some(9) };
 
-/// The call for a handle at this place, and joins in which either or both are there.
+/// Every call with its handle at this place, and joins in which the second is there, or both are.
 fn calls_at(node: u16, local: u8, rest: Rest) -> Vec<Call> {
     let (right, far) = (writer().to_bytes(), Handle { node, local, ..writer() }.to_bytes());
     let second = Call::join(rest.mode.unwrap_or(WRITE_MODE), right.clone(), far.clone());

@@ -19,7 +19,7 @@ listed! {
     }
 }
 
-/// Which of the two handles it is done to.
+/// Which of the two handles it is done to; one of them more often than both.
 const TO: [&[usize]; 5] = [&[0], &[1], &[0], &[1], &[0, 1]];
 
 /// What lists can have; they have one width.

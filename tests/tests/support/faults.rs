@@ -100,8 +100,7 @@ fn beside(kind: Kind, faults: &[u8]) -> Vec<Beside> {
     let is_renewal = kind == Kind::NewPassword;
     let mode = if matches!(kind, Kind::Look | Kind::Read | Kind::Validate) { Mode::Read } else { Mode::Write };
     let modes = if is_renewal { &Mode::ALL } else { &[mode][..] };
-    let frozen = faults.contains(&22);
-    let marks = if is_renewal || numbers(kind).contains(&22) { &[frozen][..] } else { &[false, true] };
+    let marks = if numbers(kind).contains(&22) { &[faults.contains(&22)][..] } else { &[false, true] };
     let passwords: &[[Password; 2]] = match (is_renewal, faults.contains(&12)) {
         (true, true) => &[[OTHER, OWN], [OWN, OWN]],
         (true, false) => &[[OTHER, THIRD], [OTHER, OTHER], [OWN, THIRD]],
