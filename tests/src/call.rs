@@ -2,37 +2,24 @@
 //!
 //! A look and validation have no code: lists do not ask for them.
 
-use crate::handle::{Handle, HandleBytes, Password};
-use crate::store::Mode;
-use crate::table::DONE;
+use crate::{table::numbered, words::*};
 use std::ops::Range;
 
-pub const NEW_CLUSTER: u8 = 1;
-pub const DELETE_CLUSTER: u8 = 2;
-pub const NEW_SEGMENT: u8 = 3;
-pub const DELETE_SEGMENT: u8 = 4;
-pub const READ: u8 = 5;
-pub const WRITE: u8 = 6;
-pub const WEAKEN: u8 = 7;
-pub const REDUCE: u8 = 8;
-pub const NEW_PASSWORD: u8 = 9;
-pub const FREEZE: u8 = 10;
-pub const JOIN: u8 = 11;
-
-/// The codes with the calls' names, in order.
-pub const CALLS: [(u8, &str); 11] = [
-    (NEW_CLUSTER, "new cluster"),
-    (DELETE_CLUSTER, "delete cluster"),
-    (NEW_SEGMENT, "new segment"),
-    (DELETE_SEGMENT, "delete segment"),
-    (READ, "read"),
-    (WRITE, "write"),
-    (WEAKEN, "weaken"),
-    (REDUCE, "reduce"),
-    (NEW_PASSWORD, "new password"),
-    (FREEZE, "freeze"),
-    (JOIN, "join"),
-];
+numbered! {
+    /// The codes with the calls' names, in order.
+    CALLS:
+    NEW_CLUSTER = 1 "new cluster",
+    DELETE_CLUSTER = 2 "delete cluster",
+    NEW_SEGMENT = 3 "new segment",
+    DELETE_SEGMENT = 4 "delete segment",
+    READ = 5 "read",
+    WRITE = 6 "write",
+    WEAKEN = 7 "weaken",
+    REDUCE = 8 "reduce",
+    NEW_PASSWORD = 9 "new password",
+    FREEZE = 10 "freeze",
+    JOIN = 11 "join",
+}
 
 /// One call, a look, or validation asked for by itself. Numbers are as the caller gave them, right
 /// or wrong, and handles have any length; `node` is the current node. A read's buffer and a write's
@@ -133,18 +120,12 @@ impl Call {
     }
 
     pub fn needs_primary(&self) -> bool {
-        matches!(self, any_of!(_: DeleteCluster, NewSegment, DeleteSegment, NewPassword, Freeze))
+        numbers_of(self).contains(&NOT_PRIMARY)
     }
 
     /// Calls that move bytes between a segment and the buffer.
     pub fn moves_bytes(&self) -> bool {
         matches!(self, Call::Read { .. } | Call::Write { .. })
-    }
-
-    /// Calls that come to the bytes of a segment by a handle that references it; a look shows them
-    /// where they are, and has no buffer.
-    pub fn reaches_bytes(&self) -> bool {
-        self.moves_bytes() || matches!(self, Call::Look { .. })
     }
 }
 

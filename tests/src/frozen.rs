@@ -1,8 +1,9 @@
 //! What is frozen and has to stay, for those who watch a row of calls; and what calls come to where something
 //! is frozen.
 
-use crate::{listed, words::*};
+use crate::{met::Row, words::*};
 use std::collections::BTreeMap;
+use Kind::*;
 
 /// Node, local number and segment.
 type Name = (usize, usize, usize);
@@ -17,13 +18,9 @@ impl Watch {
     /// other bytes. What is frozen now is met by this.
     pub fn see(&mut self, store: &Store, memory: &[u8]) -> Result<(), String> {
         let mut now = frozen(store, memory);
-        for (name, met) in &self.0 {
-            if now.get(name) != Some(met) {
-                let (node, local, segment) = name;
-                return Err(format!(
-                    "a frozen segment does not stay: segment {segment} of cluster {local} of node {node}"
-                ));
-            }
+        if let Some(((node, local, segment), _)) = self.0.iter().find(|(name, met)| now.get(name) != Some(met)) {
+            let which = format!("segment {segment} of cluster {local} of node {node}");
+            return Err(format!("a frozen segment does not stay: {which}"));
         }
         self.0.append(&mut now);
         Ok(())
@@ -36,108 +33,74 @@ impl Watch {
 }
 
 fn frozen(store: &Store, memory: &[u8]) -> Met {
-    let names = (0..NODES * CLUSTERS * SEGMENTS).map(|at| {
-        let cluster = at / SEGMENTS;
-        (cluster / CLUSTERS, cluster % CLUSTERS, at % SEGMENTS)
-    });
-    names
-        .filter_map(|name @ (node, local, segment)| {
-            let cluster = &store.clusters[node][local];
-            let segment = cluster.segments[segment];
-            let part = segment.extent()?.in_memory(node);
-            let bytes = memory.get(part)?.to_vec();
-            (cluster.active && segment.frozen).then_some((name, (segment.place, bytes)))
-        })
-        .collect()
-}
-
-listed! {
-    /// What calls come to where something is frozen. What is made by chance has to come to each.
-    pub enum Case {
-        /// A freeze of a segment that is frozen is done.
-        Again,
-        /// 22 for call 2: by segment 0 alone, by the last of its width alone, by others and not by segment 0.
-        FirstAlone,
-        LastAlone, NotTheFirst,
-        /// Something of the cluster is frozen, and for call 2 there is 9 or 10 before 22.
-        ClusterViolatedFirst,
-        ClusterNotPrimaryFirst,
-        /// Call 2 is done, and another cluster of the node has a frozen segment.
-        OtherClusterDeleted,
-        /// 13 for call 3.
-        Present,
-        /// The segment is frozen, and there is 9, 10 or 11 before 22.
-        ViolatedFirst,
-        NotPrimaryFirst, NotReferencedFirst,
-        /// 22 for call 6 with data that is short, and with data that is not.
-        Short,
-        LongEnough,
-        /// Done beside a frozen segment of the same cluster.
-        OtherDeleted,
-        OtherWritten,
-        /// Done with a frozen one as with any other.
-        Read,
-        Shown,
-        /// Call 9 is done, and something of the cluster is frozen.
-        Renewed,
+    let mut met = Met::new();
+    for (at, cluster) in store.clusters.as_flattened().iter().enumerate().filter(|(_, cluster)| cluster.active) {
+        let (node, local) = (at / CLUSTERS, at % CLUSTERS);
+        for (at, segment) in cluster.segments.iter().enumerate().filter(|(_, segment)| segment.frozen) {
+            let bytes = segment.extent().and_then(|extent| memory.get(extent.in_memory(node)));
+            met.extend(bytes.map(|bytes| ((node, local, at), (segment.place, bytes.to_vec()))));
+        }
     }
+    met
 }
 
-impl Case {
-    /// The case of a call that came to `number`, if it is one; `found` is what it was put to.
-    pub fn of(found: &Found, call: &Call, number: u8) -> Option<Case> {
+/// The marks that a call finds.
+pub struct Marks {
+    /// The segment that the call is about is frozen.
+    own: bool,
+    /// The buffer or the data is shorter than it.
+    short: bool,
+    /// The frozen segments of its cluster as a set of bits, and the bit of the last one that the width allows.
+    all: u32,
+    last: u32,
+    /// Some cluster of the node has a frozen segment.
+    in_node: bool,
+}
+
+impl Marks {
+    pub fn of(found: &Found, call: &Call) -> Option<Marks> {
         let handle = call.handle()?;
-        let (node, local) = (usize::from(handle.node), usize::from(handle.local));
-        let cluster = found.store.cluster(node, local)?;
-        if let Call::DeleteCluster { .. } = call {
-            return Case::of_cluster(&found.store.clusters[node], cluster, number);
-        }
-        let named = call.segment().map(|segment| segment as usize);
-        let segment = named.and_then(|segment| cluster.segments.get(segment));
-        match segment {
-            Some(segment) if segment.frozen => {
-                let length = segment.extent().map_or(0, |extent| extent.length);
-                Case::of_frozen(call, number, found.buffer_bytes < length)
-            }
-            _ if cluster.has_frozen() && number == DONE => match call {
-                Call::DeleteSegment { .. } => Some(Case::OtherDeleted),
-                Call::Write { .. } => Some(Case::OtherWritten),
-                Call::NewPassword { .. } => Some(Case::Renewed),
-                _ => None,
-            },
-            _ => None,
-        }
-    }
-
-    /// A call about a segment that is frozen.
-    fn of_frozen(call: &Call, number: u8, short: bool) -> Option<Case> {
-        match (call, number) {
-            (Call::Freeze { .. }, DONE) => Some(Case::Again),
-            (Call::Read { .. }, DONE) => Some(Case::Read),
-            (Call::Look { .. }, DONE) => Some(Case::Shown),
-            (Call::NewSegment { .. }, PRESENT) => Some(Case::Present),
-            (Call::Write { .. }, NOT_REFERENCED) => Some(Case::NotReferencedFirst),
-            (Call::Write { .. }, FROZEN) if short => Some(Case::Short),
-            (Call::Write { .. }, FROZEN) => Some(Case::LongEnough),
-            (Call::DeleteSegment { .. }, NOT_PRIMARY) => Some(Case::NotPrimaryFirst),
-            (Call::DeleteSegment { .. } | Call::Write { .. }, VIOLATED_PROTECTION) => Some(Case::ViolatedFirst),
-            _ => None,
-        }
-    }
-
-    fn of_cluster(node: &[Cluster], cluster: &Cluster, number: u8) -> Option<Case> {
-        let [first, ..] = cluster.segments.map(|segment| segment.frozen);
-        let end = cluster.segments.get(..usize::from(cluster.width));
-        let last = end.and_then(<[_]>::last).is_some_and(|last| last.frozen);
-        let count = cluster.segments.iter().filter(|segment| segment.frozen);
-        match (number, count.count()) {
-            (DONE, _) if node.iter().any(Cluster::has_frozen) => Some(Case::OtherClusterDeleted),
-            (FROZEN, 1) if first => Some(Case::FirstAlone),
-            (FROZEN, 1) if last => Some(Case::LastAlone),
-            (FROZEN, _) if !first => Some(Case::NotTheFirst),
-            (VIOLATED_PROTECTION, 1..) => Some(Case::ClusterViolatedFirst),
-            (NOT_PRIMARY, 1..) => Some(Case::ClusterNotPrimaryFirst),
-            _ => None,
-        }
+        let cluster = found.store.cluster_of(&handle)?;
+        let segment = call.segment().and_then(|segment| cluster.segments.get(segment as usize));
+        let extent = segment.and_then(Segment::extent);
+        let marks = cluster.segments.iter().enumerate().map(|(at, segment)| u32::from(segment.frozen) << at);
+        Some(Marks {
+            own: segment.is_some_and(|segment| segment.frozen),
+            short: extent.is_some_and(|extent| found.buffer_bytes < extent.length),
+            all: marks.sum(),
+            last: cluster.known_width().map_or(0, |width| 1 << (width.segments() - 1)),
+            in_node: found.store.clusters[usize::from(handle.node)].iter().any(Cluster::has_frozen),
+        })
     }
 }
+
+/// What calls come to where something is frozen. What is made by chance has to come to each.
+pub const CASES: [Row<Marks>; 18] = [
+    // A freeze of a segment that is frozen is done.
+    ("Again", &[Freeze], DONE, |marks| marks.own),
+    // 22 for call 2: by segment 0 alone, by the last of its width alone, by others and not by segment 0.
+    ("FirstAlone", &[DeleteCluster], FROZEN, |marks| marks.all == 1),
+    ("LastAlone", &[DeleteCluster], FROZEN, |marks| marks.all == marks.last),
+    ("NotTheFirst", &[DeleteCluster], FROZEN, |marks| marks.all & 1 == 0 && marks.all != marks.last),
+    // Something of the cluster is frozen, and for call 2 there is 9 or 10 before 22.
+    ("ClusterViolatedFirst", &[DeleteCluster], VIOLATED_PROTECTION, |marks| marks.all != 0),
+    ("ClusterNotPrimaryFirst", &[DeleteCluster], NOT_PRIMARY, |marks| marks.all != 0),
+    // Call 2 is done, and another cluster of the node has a frozen segment.
+    ("OtherClusterDeleted", &[DeleteCluster], DONE, |marks| marks.in_node),
+    ("Present", &[NewSegment], PRESENT, |marks| marks.own),
+    // The segment is frozen, and there is 9, 10 or 11 before 22.
+    ("ViolatedFirst", &[DeleteSegment, Write], VIOLATED_PROTECTION, |marks| marks.own),
+    ("NotPrimaryFirst", &[DeleteSegment], NOT_PRIMARY, |marks| marks.own),
+    ("NotReferencedFirst", &[Write], NOT_REFERENCED, |marks| marks.own),
+    // 22 for call 6 with data that is short, and with data that is not.
+    ("Short", &[Write], FROZEN, |marks| marks.short),
+    ("LongEnough", &[Write], FROZEN, |marks| !marks.short),
+    // Done beside a frozen segment of the same cluster.
+    ("OtherDeleted", &[DeleteSegment], DONE, |marks| marks.all != 0),
+    ("OtherWritten", &[Write], DONE, |marks| marks.all != 0),
+    // Done with a frozen one as with any other.
+    ("Read", &[Read], DONE, |marks| marks.own),
+    ("Shown", &[Look], DONE, |marks| marks.own),
+    // Call 9 is done, and something of the cluster is frozen.
+    ("Renewed", &[NewPassword], DONE, |marks| marks.all != 0),
+];

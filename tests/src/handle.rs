@@ -1,8 +1,7 @@
 //! Selectors, handles and what becomes of a password on the way to a weaker handle.
 
-use crate::aes;
-use crate::sizes::{PASSWORD_BYTES, SUBSELECTORS};
-use crate::store::{Cluster, Mode};
+use crate::{aes, sizes::*, store::*};
+
 pub use crate::width::Width;
 
 pub type Password = [u8; PASSWORD_BYTES];

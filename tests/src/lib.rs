@@ -8,7 +8,8 @@
 //! - [`handle`]: selectors, the bytes of each width, conversion, weakening, reduction.
 //! - [`store`]: records, soundness, placement.
 //! - [`table`]: the numbers of refusal, their words, and the test behind each of them.
-//! - [`call`]: the eleven calls, looks and validation with their arguments, and replies; `made` has shorthands.
+//! - [`call`]: the eleven calls, looks and validation with their arguments, and replies.
+//! - [`made`]: calls by their arguments, and by their kind.
 //! - [`model`]: the calls carried out.
 //! - [`list`]: records of 64 bytes, the chain, and the text that a list comes out as.
 //! - [`vectors`]: the published handles.
@@ -19,17 +20,19 @@
 //! - [`widths`]: what calls come to by the widths of handles and clusters, for the same.
 //! - [`met`]: the registry of what was met, and of what has to be.
 //! - [`random`], [`generate`]: lists made by chance from a seed.
+//! - [`command`]: how the programs of this package are started, and how they end.
 //! - [`program`], [`streams`]: a program run, with its input and output in every way that they can come.
 
 pub mod aes;
 pub mod call;
+pub mod command;
 pub mod frozen;
 pub mod generate;
 pub mod handle;
 pub mod hexadecimal;
 pub mod joins;
 pub mod list;
-mod made;
+pub mod made;
 pub mod met;
 pub mod model;
 pub mod nothing;
@@ -48,6 +51,7 @@ pub mod widths;
 pub mod words {
     pub use crate::call::*;
     pub use crate::handle::*;
+    pub use crate::made::*;
     pub use crate::random::Random;
     pub use crate::sizes::*;
     pub use crate::store::*;

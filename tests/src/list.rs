@@ -30,36 +30,19 @@ pub const OTHER_HANDLE_AT: usize = 32;
 
 pub type Record = [u8; RECORD_BYTES];
 
-/// For each number, the calls that a list can bring to it. A list starts from a sound store, has one
-/// width alone and a buffer that any segment fits in, so 1 and 25 are not among them, nor 15 for a read.
-const REACHABLE: [(u8, &[u8]); 21] = [
-    (0, &[1, 2, 3, 4, 5, 6, 7, 8, 9, 10, 11]),
-    (2, &[1, 2, 3, 4, 5, 6, 7, 8, 9, 10, 11]),
-    (3, &[3, 4, 5, 6, 8, 9, 10, 11]),
-    (4, &[2, 3, 4, 5, 6, 7, 8, 9, 10, 11]),
-    (5, &[2, 3, 4, 10]),
-    (6, &[1]),
-    (7, &[1]),
-    (8, &[2, 3, 4, 5, 6, 8, 9, 10, 11]),
-    (9, &[2, 3, 4, 5, 6, 8, 9, 10, 11]),
-    (10, &[2, 3, 4, 9, 10]),
-    (11, &[5, 6]),
-    (12, &[9]),
-    (13, &[3]),
-    (14, &[4, 5, 6, 10]),
-    (15, &[6]),
-    (16, &[3]),
-    (17, &[7]),
-    (21, &[7]),
-    (22, &[2, 4, 6]),
-    (23, &[11]),
-    (24, &[11]),
-];
-
-/// The pairs that a list can reach: the code of a call and a number.
+/// The pairs that a list can reach: the code of a call and a number, in the order of the numbers. A list starts from a
+/// sound store, has one width alone and a buffer that any segment fits in, so 1 and 25 are not among them, nor 3 for a
+/// new cluster, nor 15 for a read.
 pub fn reachable() -> impl Iterator<Item = (u8, u8)> {
-    let pairs = |(number, codes): (u8, &'static [u8])| codes.iter().map(move |code| (*code, number));
-    REACHABLE.into_iter().flat_map(pairs)
+    let never = [(call::NEW_CLUSTER, FIELD), (call::READ, SHORT)];
+    let numbers = (DONE..=LENGTH).filter(|number| ![UNSOUND, LENGTH].contains(number));
+    let pairs = numbers.flat_map(|number| CALLS.map(|(code, _)| (code, number)));
+    pairs.filter(move |pair| !never.contains(pair) && may_come_to(*pair))
+}
+
+fn may_come_to((code, number): (u8, u8)) -> bool {
+    let call = call_of(&std::array::from_fn(|at| if at == CODE_AT { code } else { 0 }));
+    number == DONE || call.is_some_and(|call| numbers_of(&call).contains(&number))
 }
 
 /// What a record asks for.
@@ -82,31 +65,16 @@ fn handle_at(record: &Record, at: usize) -> HandleBytes {
     record[at..at + HANDLE_BYTES].to_vec()
 }
 
-/// The call that a record's code stands for; bytes that it does not use are not looked at.
+/// The call that a record's code stands for; bytes that it does not use do not matter.
 fn call_of(record: &Record) -> Option<Call> {
-    let [handle, other] = [HANDLE_AT, OTHER_HANDLE_AT].map(|at| handle_at(record, at));
+    let place = CALLS.iter().position(|(code, _)| *code == record[CODE_AT])?;
     let [node, mode, segment] = [NODE_AT, MODE_AT, SEGMENT_AT].map(|at| u32::from(record[at]));
-    let size = u32::from(u16::from_be_bytes([record[SIZE_AT], record[SIZE_AT + 1]]));
-    let [first, second] = [FIRST_PASSWORD_AT, SECOND_PASSWORD_AT].map(|at| password_at(record, at));
-    #[rustfmt::skip]
-    let call = match record[CODE_AT] {
-        call::NEW_CLUSTER => {
-            let width = WIDTH.segments();
-            Call::NewCluster { node, local: segment, width, read: first, write: second }
-        }
-        call::DELETE_CLUSTER => Call::DeleteCluster { node, handle },
-        call::NEW_SEGMENT => Call::NewSegment { node, segment, size, handle },
-        call::DELETE_SEGMENT => Call::DeleteSegment { node, segment, handle },
-        call::READ => Call::Read { segment, handle },
-        call::WRITE => Call::Write { segment, handle },
-        call::WEAKEN => Call::Weaken { mask: record[SEGMENT_AT].into(), handle },
-        call::REDUCE => Call::Reduce { mode, handle },
-        call::NEW_PASSWORD => Call::NewPassword { mode, handle, password: first },
-        call::FREEZE => Call::Freeze { node, segment, handle },
-        call::JOIN => Call::Join { mode, handle, other },
-        _ => return None,
-    };
-    Some(call)
+    let [read, write] = [FIRST_PASSWORD_AT, SECOND_PASSWORD_AT].map(|at| password_at(record, at));
+    let [handle, other] = [HANDLE_AT, OTHER_HANDLE_AT].map(|at| handle_at(record, at));
+    let size = u16::from_be_bytes([record[SIZE_AT], record[SIZE_AT + 1]]).into();
+    let (local, mask, width, password) = (segment, segment as u16, WIDTH.segments(), read);
+    let fields = Fields { node, local, width, segment, size, mask, mode, handle, other, read, write, password };
+    Some(fields.call(Kind::ALL[place]))
 }
 
 /// Tells a call from what only looks like one.
@@ -163,14 +131,8 @@ impl Session {
 
     /// What the call of a record finds in `store`: the memory, and the buffer or the write's data.
     fn found<'a>(&self, store: &'a Store, record: &Record) -> Found<'a> {
-        Found {
-            store,
-            memory_bytes: self.memory.len(),
-            buffer_bytes: match record[CODE_AT] {
-                call::WRITE => usize::from(record[DATA_LENGTH_AT]),
-                _ => self.buffer.len(),
-            },
-        }
+        let is_write = record[CODE_AT] == call::WRITE;
+        Found::whole(store, if is_write { record[DATA_LENGTH_AT].into() } else { self.buffer.len() })
     }
 
     /// Runs the call of one record.
@@ -178,8 +140,7 @@ impl Session {
         match request(record) {
             Request::BadCode => Reply::refused(FIELD),
             Request::Overlong(call) => {
-                let found =
-                    Found { store: &self.store, memory_bytes: self.memory.len(), buffer_bytes: MOST_DATA_BYTES };
+                let found = Found::whole(&self.store, MOST_DATA_BYTES);
                 Reply::refused(refusal_above(FIELD, &call, &found).unwrap_or(FIELD))
             }
             Request::Call(call @ Call::Write { .. }) => {
@@ -191,58 +152,19 @@ impl Session {
         }
     }
 
-    /// Adds the line of a record that was just run.
+    /// Adds the line of a record that was just run: for a call done, what it gives stands after the number.
     fn push_line(&self, text: &mut Vec<u8>, number: u8, code: u8, reply: &Reply) {
-        push_decimal(text, u32::from(number));
-        text.push(b' ');
-        push_decimal(text, u32::from(code));
-        text.push(b' ');
-        push_decimal(text, u32::from(reply.number));
-        if reply.is_done() {
-            self.push_given(text, code, reply);
+        text.extend(format!("{number} {code} {}", reply.number).bytes());
+        let read = &self.buffer[..reply.length as usize];
+        for given in [&reply.first, &reply.second, read].into_iter().filter(|given| !given.is_empty()) {
+            text.push(b' ');
+            hexadecimal::push(text, given);
+        }
+        if reply.is_done() && code == call::WEAKEN {
+            text.extend(format!(" {}", reply.count).bytes());
         }
         text.push(b'\n');
     }
-
-    /// Adds what a call done gives.
-    fn push_given(&self, text: &mut Vec<u8>, code: u8, reply: &Reply) {
-        match code {
-            call::NEW_CLUSTER => {
-                push_hexadecimal(text, &reply.first);
-                push_hexadecimal(text, &reply.second);
-            }
-            call::READ => push_hexadecimal(text, &self.buffer[..reply.length as usize]),
-            call::WEAKEN => {
-                push_hexadecimal(text, &reply.first);
-                text.push(b' ');
-                push_decimal(text, reply.count);
-            }
-            call::REDUCE | call::NEW_PASSWORD | call::JOIN => {
-                push_hexadecimal(text, &reply.first);
-            }
-            _ => {}
-        }
-    }
-}
-
-fn push_decimal(text: &mut Vec<u8>, number: u32) {
-    if number >= 10 {
-        push_decimal(text, number / 10);
-    }
-    text.push(b'0' + (number % 10) as u8);
-}
-
-fn push_hexadecimal(text: &mut Vec<u8>, bytes: &[u8]) {
-    text.push(b' ');
-    hexadecimal::push(text, bytes);
-}
-
-/// A word and a number on a line of their own.
-fn push_last(text: &mut Vec<u8>, word: &[u8], number: u32) {
-    text.extend_from_slice(word);
-    text.push(b' ');
-    push_decimal(text, number);
-    text.push(b'\n');
 }
 
 /// Runs a list from the starting store and tells `each` of every record that the chain meets: what the
@@ -251,7 +173,7 @@ pub fn run(list: &[u8], mut each: impl FnMut(&Found, &Record, &Reply)) -> Vec<u8
     let mut text = Vec::new();
     let checked = records(list).ok_or(LIST_LENGTH);
     match checked.and_then(|records| Ok((chain(&records)?, records))) {
-        Err(number) => push_last(&mut text, b"list", u32::from(number)),
+        Err(number) => text.extend(format!("list {number}\n").bytes()),
         Ok((order, records)) => {
             let mut session = Session::starting();
             for &number in &order {
@@ -261,7 +183,7 @@ pub fn run(list: &[u8], mut each: impl FnMut(&Found, &Record, &Reply)) -> Vec<u8
                 each(&session.found(&store, record), record, &reply);
                 session.push_line(&mut text, number, record[CODE_AT], &reply);
             }
-            push_last(&mut text, b"end", order.len() as u32);
+            text.extend(format!("end {}\n", order.len()).bytes());
         }
     }
     text

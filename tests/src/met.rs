@@ -1,6 +1,8 @@
 //! Situations, each by its name: how often each was met, and which of those that are due was not.
 
-use crate::{frozen::Case, joins::Meeting, nothing::Way, renewals::Renewal, words::*};
+use crate::frozen::{Marks, CASES};
+use crate::nothing::{Cut, WAYS};
+use crate::{joins, renewals::Renewal, words::*};
 use std::collections::{BTreeMap, HashMap};
 use std::fmt;
 
@@ -64,41 +66,50 @@ impl fmt::Display for Met {
     }
 }
 
+/// A situation: its name, the calls that meet it, the number that they come to, and when.
+pub type Row<T> = (&'static str, &'static [Kind], u8, fn(&T) -> bool);
+
+pub fn names<T>(rows: &[Row<T>]) -> impl Iterator<Item = String> + '_ {
+    rows.iter().map(|(name, ..)| name.to_string())
+}
+
+/// Those that a call which came to `number` has met.
+pub fn of_rows<T>(rows: &[Row<T>], call: &Call, number: u8, it: &T) -> Vec<String> {
+    let is_met = |row: &&Row<T>| row.1.contains(&call.kind()) && row.2 == number && row.3(it);
+    rows.iter().filter(is_met).map(|(name, ..)| name.to_string()).collect()
+}
+
+fn named(of: &'static str, names: impl IntoIterator<Item = String>) -> impl Iterator<Item = String> {
+    names.into_iter().map(move |name| format!("{of}, {name}"))
+}
+
 /// The way to nothing that a call which came to `number` has gone, by name.
 pub fn way(call: &Call, number: u8) -> Option<String> {
-    Way::of(call, number).map(|way| format!("way to nothing, {way:?}"))
+    let gone = of_rows(&WAYS, call, number, &Cut::of(call)?);
+    named("way to nothing", gone).next()
 }
 
 /// What it has met where something is frozen, in joins, and with new passwords; `found` is what it was put to.
 pub fn situations(found: &Found, call: &Call, number: u8) -> impl Iterator<Item = String> {
-    let frozen = Case::of(found, call, number).map(|case| format!("something frozen, {case:?}"));
-    let joins = Meeting::of(found, call, number).into_iter().map(|meeting| format!("a join, {meeting:?}"));
-    let passwords = Renewal::of(found, call, number).map(|renewal| format!("passwords, {renewal:?}"));
-    frozen.into_iter().chain(joins).chain(passwords)
+    let frozen = Marks::of(found, call).map(|marks| of_rows(&CASES, call, number, &marks));
+    let passwords = Renewal::of(found, call, number).map(|renewal| format!("{renewal:?}"));
+    named("something frozen", frozen.unwrap_or_default())
+        .chain(named("a join", joins::met(found, call, number)))
+        .chain(named("passwords", passwords))
 }
 
 /// All of these that there are.
 pub fn due() -> impl Iterator<Item = String> {
-    named(Way::ALL.into_iter(), Case::ALL.into_iter(), Meeting::all(), Renewal::all())
+    named("way to nothing", names(&WAYS))
+        .chain(named("something frozen", names(&CASES)))
+        .chain(named("a join", joins::due()))
+        .chain(named("passwords", Renewal::all().map(|renewal| format!("{renewal:?}"))))
 }
 
 /// Those that a list can come to: it asks for no look, for no validation by itself, and has one width.
 pub fn due_in_lists() -> impl Iterator<Item = String> {
-    let ways = Way::ALL.into_iter().filter(|way| *way != Way::Validated);
-    let cases = Case::ALL.into_iter().filter(|case| *case != Case::Shown);
-    named(ways, cases, Meeting::in_lists(), Renewal::in_lists())
-}
-
-fn named(
-    ways: impl Iterator<Item = Way>,
-    cases: impl Iterator<Item = Case>,
-    meetings: impl Iterator<Item = Meeting>,
-    renewals: impl Iterator<Item = Renewal>,
-) -> impl Iterator<Item = String> {
-    let ways = ways.map(|way| format!("way to nothing, {way:?}"));
-    let cases = cases.map(|case| format!("something frozen, {case:?}"));
-    let meetings = meetings.map(|meeting| format!("a join, {meeting:?}"));
-    ways.chain(cases).chain(meetings).chain(renewals.map(|renewal| format!("passwords, {renewal:?}")))
+    let beyond = ["Shown", "Look", "Validat", "Length", "Width"];
+    due().filter(move |name| !beyond.iter().any(|what| name.contains(what)))
 }
 
 /// A row for each of `codes`, and how often calls with it came to each of `numbers`.

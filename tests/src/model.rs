@@ -17,24 +17,50 @@ pub fn run(store: &mut Store, memory: &mut [u8], buffer: &mut [u8], call: &Call)
 fn carry_out(store: &mut Store, memory: &mut [u8], buffer: &mut [u8], call: &Call) -> Reply {
     let mut handles = call.presented();
     let mut handle = || handles.next().expect("row 25 refuses every other length");
+    let mode = || call.needed_mode().expect("row 3 refuses every other mode");
     match *call {
         Call::NewCluster { node, local, width, read, write } => {
             let width = Width::of_segments(width).expect("row 3 refuses every other width");
-            new_cluster(store, (node as usize, local as usize), width, [read, write])
+            store.clusters[node as usize][local as usize] = Cluster::new(width, read, write);
+            let primary = |password| Handle::primary(width, node as u16, local as u8, password).to_bytes();
+            return Reply { first: primary(read), second: primary(write), ..Reply::DONE };
         }
-        Call::DeleteCluster { .. } => delete_cluster(store, &handle()),
+        Call::DeleteCluster { .. } => *cluster_mut(store, &handle()) = Cluster::INACTIVE,
         Call::NewSegment { segment, size, .. } => new_segment(store, memory, segment, size as usize, &handle()),
-        Call::DeleteSegment { segment, .. } => delete_segment(store, &handle(), segment),
-        Call::Read { segment, .. } => read(&memory[part(store, &handle(), segment)], buffer),
-        Call::Write { segment, .. } => write(&mut memory[part(store, &handle(), segment)], buffer),
-        Call::Weaken { mask, .. } => weaken(handle(), mask),
-        Call::Reduce { .. } => reduce(store, call, handle()),
-        Call::NewPassword { password, .. } => new_password(store, call, handle(), password),
-        Call::Freeze { segment, .. } => freeze(store, &handle(), segment),
-        Call::Join { .. } => join(store, call, handle(), &handle()),
-        Call::Look { segment, .. } => look(part(store, &handle(), segment)),
-        Call::Validate { .. } => Reply::DONE,
+        Call::DeleteSegment { segment, .. } => *segment_mut(store, &handle(), segment) = Segment::ABSENT,
+        Call::Read { segment, .. } => {
+            let part = &memory[part(store, &handle(), segment)];
+            buffer[..part.len()].copy_from_slice(part);
+            return Reply { length: part.len() as u32, ..Reply::DONE };
+        }
+        Call::Write { segment, .. } => {
+            let part = &mut memory[part(store, &handle(), segment)];
+            part.copy_from_slice(&buffer[..part.len()]);
+        }
+        Call::Weaken { mask, .. } => {
+            let weaker = handle().weaken(mask).expect("rows 21 and 17 refuse what cannot be weakened");
+            return Reply { count: weaker.selector.count(), ..Reply::with_handle(&weaker) };
+        }
+        Call::Reduce { .. } => {
+            let handle = handle();
+            return Reply::with_handle(&handle.reduce(cluster_mut(store, &handle).primary(mode())));
+        }
+        Call::NewPassword { password, .. } => {
+            let handle = handle();
+            *cluster_mut(store, &handle).primary_mut(mode()) = password;
+            return Reply::with_handle(&Handle { password, ..handle });
+        }
+        // Where the mark is set already, nothing changes.
+        Call::Freeze { segment, .. } => segment_mut(store, &handle(), segment).frozen = true,
+        Call::Join { .. } => {
+            let (handle, other) = (handle(), handle());
+            return Reply::with_handle(&handle.join(&other, cluster_mut(store, &handle).primary(mode())));
+        }
+        // No byte is copied: the reply tells where in the memory the segment is.
+        Call::Look { segment, .. } => return Reply { shown: part(store, &handle(), segment).into(), ..Reply::DONE },
+        Call::Validate { .. } => {}
     }
+    Reply::DONE
 }
 
 fn cluster_mut<'a>(store: &'a mut Store, handle: &Handle) -> &'a mut Cluster {
@@ -45,81 +71,16 @@ fn segment_mut<'a>(store: &'a mut Store, handle: &Handle, segment: u32) -> &'a m
     &mut cluster_mut(store, handle).segments[segment as usize]
 }
 
-/// The mode that a call which was not refused named.
-fn mode_of(call: &Call) -> Mode {
-    call.needed_mode().expect("row 3 refuses every other mode")
-}
-
 /// The part of the memory that is the segment.
 fn part(store: &Store, handle: &Handle, segment: u32) -> Range<usize> {
-    let node = usize::from(handle.node);
-    let cluster = &store.clusters[node][usize::from(handle.local)];
+    let cluster = store.cluster_of(handle).expect("row 2 refuses what is no place");
     let extent = cluster.segments[segment as usize].extent();
-    extent.expect("row 14 refuses absent segments").in_memory(node)
+    extent.expect("row 14 refuses absent segments").in_memory(handle.node.into())
 }
 
-fn new_cluster(store: &mut Store, (node, local): (usize, usize), width: Width, [read, write]: [Password; 2]) -> Reply {
-    store.clusters[node][local] = Cluster::new(width, read, write);
-    let primary = |password| Handle::primary(width, node as u16, local as u8, password).to_bytes();
-    Reply { first: primary(read), second: primary(write), ..Reply::DONE }
-}
-
-fn delete_cluster(store: &mut Store, handle: &Handle) -> Reply {
-    *cluster_mut(store, handle) = Cluster::INACTIVE;
-    Reply::DONE
-}
-
-fn new_segment(store: &mut Store, memory: &mut [u8], segment: u32, size: usize, handle: &Handle) -> Reply {
-    let node = usize::from(handle.node);
-    let base = store.place(node, size).expect("row 16 refuses what has no base");
-    let placed = Segment::present(base as u16, size as u16);
-    *segment_mut(store, handle, segment) = placed;
+/// At its base, with its bytes zero.
+fn new_segment(store: &mut Store, memory: &mut [u8], segment: u32, size: usize, handle: &Handle) {
+    let base = store.place(handle.node.into(), size).expect("row 16 refuses what has no base");
+    *segment_mut(store, handle, segment) = Segment::present(base as u16, size as u16);
     memory[part(store, handle, segment)].fill(0);
-    Reply::DONE
-}
-
-fn delete_segment(store: &mut Store, handle: &Handle, segment: u32) -> Reply {
-    *segment_mut(store, handle, segment) = Segment::ABSENT;
-    Reply::DONE
-}
-
-/// Where the mark is set already, nothing changes.
-fn freeze(store: &mut Store, handle: &Handle, segment: u32) -> Reply {
-    segment_mut(store, handle, segment).frozen = true;
-    Reply::DONE
-}
-
-fn read(part: &[u8], buffer: &mut [u8]) -> Reply {
-    buffer[..part.len()].copy_from_slice(part);
-    Reply { length: part.len() as u32, ..Reply::DONE }
-}
-
-fn write(part: &mut [u8], data: &[u8]) -> Reply {
-    part.copy_from_slice(&data[..part.len()]);
-    Reply::DONE
-}
-
-/// No byte is copied: the reply tells where in the memory the segment is.
-fn look(part: Range<usize>) -> Reply {
-    Reply { shown: part.into(), ..Reply::DONE }
-}
-
-fn weaken(handle: Handle, mask: u16) -> Reply {
-    let weaker = handle.weaken(mask).expect("rows 21 and 17 refuse what cannot be weakened");
-    Reply { count: weaker.selector.count(), ..Reply::with_handle(&weaker) }
-}
-
-fn reduce(store: &mut Store, call: &Call, handle: Handle) -> Reply {
-    let primary = *cluster_mut(store, &handle).primary(mode_of(call));
-    Reply::with_handle(&handle.reduce(&primary))
-}
-
-fn join(store: &mut Store, call: &Call, handle: Handle, other: &Handle) -> Reply {
-    let primary = *cluster_mut(store, &handle).primary(mode_of(call));
-    Reply::with_handle(&handle.join(other, &primary))
-}
-
-fn new_password(store: &mut Store, call: &Call, handle: Handle, password: Password) -> Reply {
-    *cluster_mut(store, &handle).primary_mut(mode_of(call)) = password;
-    Reply::with_handle(&Handle { password, ..handle })
 }

@@ -1,58 +1,44 @@
 //! Ways to nothing: where a weakening would leave no segment, what stands next to that, and what is
 //! still done with a handle that references none. What is made by chance has to come to each.
 
-use crate::{listed, words::*};
+use crate::{met::Row, words::*};
+use Kind::{Reduce, Validate, Weaken};
 
-listed! {
-    pub enum Way {
-        /// 21: all that the handle references is taken away, and a subselector is flat.
-        AllTaken,
-        /// The same where none is flat: 21 comes before 17.
-        AllTakenNoneFlat,
-        /// 21 by a mask with all bits of the width: the handle references nothing, and a subselector is flat.
-        NothingThere,
-        /// The same where none is flat.
-        NothingThereNoneFlat,
-        /// Nothing would be left, and the handle's place is none: 2 comes before 21.
-        NowhereFirst,
-        /// Nothing would be left, and the selector is gapped: 4 comes before 21.
-        GappedFirst,
-        /// Done: something is taken away, and one segment is left.
-        OneLeft,
-        /// A handle that references nothing is reduced.
-        Reduced,
-        /// A handle that references nothing validates.
-        Validated,
+/// The handle of a call, and the mask where there is one.
+pub struct Cut {
+    referenced: u32,
+    has_flat: bool,
+    /// How many segments the mask leaves.
+    left: u32,
+    has_all_bits: bool,
+}
+
+impl Cut {
+    pub fn of(call: &Call) -> Option<Cut> {
+        let (handle, mask) = (call.handle()?, if let Call::Weaken { mask, .. } = *call { mask } else { 0 });
+        Some(Cut {
+            referenced: handle.selector.count(),
+            has_flat: handle.selector.first_flat().is_some(),
+            left: handle.kept(mask).count_ones(),
+            has_all_bits: mask | !handle.width().flat() == u16::MAX,
+        })
     }
 }
 
-impl Way {
-    /// The way that a call which came to `number` has gone, if it is one.
-    pub fn of(call: &Call, number: u8) -> Option<Way> {
-        let references_nothing = |handle: &Handle| handle.selector.count() == 0;
-        let handle = call.handle()?;
-        match call {
-            Call::Weaken { mask, .. } => Way::of_weakening(&handle, *mask, number),
-            Call::Reduce { .. } if references_nothing(&handle) && number == DONE => Some(Way::Reduced),
-            Call::Validate { .. } if references_nothing(&handle) && number == DONE => Some(Way::Validated),
-            _ => None,
-        }
-    }
-
-    fn of_weakening(handle: &Handle, mask: u16, number: u8) -> Option<Way> {
-        let has_all_bits = mask | !handle.width().flat() == u16::MAX;
-        let none_flat = handle.selector.first_flat().is_none();
-        let (referenced, left) = (handle.selector.count(), handle.kept(mask).count_ones());
-        match (number, referenced, left) {
-            (NO_SUCH_PLACE, _, 0) => Some(Way::NowhereFirst),
-            (GAPPED, _, 0) => Some(Way::GappedFirst),
-            (EMPTY, 0, _) if !has_all_bits => None,
-            (EMPTY, 0, _) if none_flat => Some(Way::NothingThereNoneFlat),
-            (EMPTY, 0, _) => Some(Way::NothingThere),
-            (EMPTY, ..) if none_flat => Some(Way::AllTakenNoneFlat),
-            (EMPTY, ..) => Some(Way::AllTaken),
-            (DONE, 2.., 1) => Some(Way::OneLeft),
-            _ => None,
-        }
-    }
-}
+pub const WAYS: [Row<Cut>; 9] = [
+    // All that the handle references is taken away, and a subselector is flat.
+    ("AllTaken", &[Weaken], EMPTY, |cut| cut.referenced > 0 && cut.has_flat),
+    // The same where none is flat: 21 comes before 17.
+    ("AllTakenNoneFlat", &[Weaken], EMPTY, |cut| cut.referenced > 0 && !cut.has_flat),
+    // By a mask with all bits of the width: the handle references nothing.
+    ("NothingThere", &[Weaken], EMPTY, |cut| cut.referenced == 0 && cut.has_all_bits && cut.has_flat),
+    ("NothingThereNoneFlat", &[Weaken], EMPTY, |cut| cut.referenced == 0 && cut.has_all_bits && !cut.has_flat),
+    // Nothing would be left, and the handle's place is none, or its selector is gapped: 2 and 4 come before 21.
+    ("NowhereFirst", &[Weaken], NO_SUCH_PLACE, |cut| cut.left == 0),
+    ("GappedFirst", &[Weaken], GAPPED, |cut| cut.left == 0),
+    // Something is taken away, and one segment is left.
+    ("OneLeft", &[Weaken], DONE, |cut| cut.referenced > 1 && cut.left == 1),
+    // A handle that references nothing is reduced, or validates.
+    ("Reduced", &[Reduce], DONE, |cut| cut.referenced == 0),
+    ("Validated", &[Validate], DONE, |cut| cut.referenced == 0),
+];

@@ -20,33 +20,29 @@ const SHELL: &str = "/bin/sh";
 
 /// A program with its arguments.
 #[derive(Clone, Debug)]
-pub struct Program {
-    name: OsString,
-    arguments: Vec<OsString>,
-}
+pub struct Program(Vec<OsString>);
 
 impl Program {
     pub fn named(name: impl Into<OsString>) -> Program {
-        Program { name: name.into(), arguments: Vec::new() }
+        Program(vec![name.into()])
     }
 
     /// A program that is a script of the shell.
     pub fn script(text: &str) -> Program {
-        Program { name: SHELL.into(), arguments: vec!["-c".into(), text.into()] }
+        Program([SHELL, "-c", text].map(OsString::from).to_vec())
     }
 
     /// The program, with nothing to read and what it writes collected.
     pub fn command(&self) -> Command {
-        let mut command = Command::new(&self.name);
-        command.args(&self.arguments);
+        let mut command = Command::new(&self.0[0]);
+        command.args(&self.0[1..]);
         collecting(command)
     }
 
     /// The same by way of the shell, which runs `script` first and then becomes the program.
     pub fn command_after(&self, script: &str) -> Command {
         let mut command = Command::new(SHELL);
-        command.args(["-c", &format!("{script}\nexec \"$@\""), SHELL]);
-        command.arg(&self.name).args(&self.arguments);
+        command.args(["-c", &format!("{script}\nexec \"$@\""), SHELL]).args(&self.0);
         collecting(command)
     }
 

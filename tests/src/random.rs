@@ -44,6 +44,11 @@ impl Random {
         (count > 0).then(|| &choices[self.below(count) as usize])
     }
 
+    /// One of these, of which there has to be one.
+    pub fn one_of<T: Copy>(&mut self, choices: &[T]) -> T {
+        choices[self.below(choices.len() as u64) as usize]
+    }
+
     pub fn shuffle<T>(&mut self, items: &mut [T]) {
         for last in (1..items.len()).rev() {
             items.swap(last, self.below(last as u64 + 1) as usize);

@@ -56,14 +56,6 @@ impl Renewal {
         renewed.chain(USES.map(Renewal::ByPrimary)).chain(weaker)
     }
 
-    /// Those that a list can come to: it asks for no look, and for no validation by itself.
-    pub fn in_lists() -> impl Iterator<Item = Renewal> {
-        Renewal::all().filter(|renewal| match renewal {
-            Renewal::ByPrimary(by) | Renewal::ByWeaker(by) => !matches!(by, Look | Validate(_)),
-            _ => true,
-        })
-    }
-
     /// What a call that came to `number` has met, if anything; `found` is what it was put to.
     pub fn of(found: &Found, call: &Call, number: u8) -> Option<Renewal> {
         let handle = call.handle()?;
@@ -95,16 +87,13 @@ fn renewed(cluster: &Cluster, mode: Mode, password: &Password, number: u8) -> Op
 
 /// Weakening is nothing of these: it opens no mode.
 fn used(call: &Call) -> Option<Use> {
-    match call {
-        Call::Read { .. } => Some(Read),
-        Call::Look { .. } => Some(Look),
-        Call::Write { .. } => Some(Write),
-        Call::DeleteCluster { .. } | Call::NewSegment { .. } | Call::DeleteSegment { .. } | Call::Freeze { .. } => {
-            Some(Change)
-        }
-        Call::Reduce { .. } => call.needed_mode().map(Reduce),
-        Call::Join { .. } => call.needed_mode().map(Join),
-        Call::Validate { .. } => call.needed_mode().map(Validate),
-        _ => None,
+    match (call.kind(), call.needed_mode()?) {
+        (Kind::Read, _) => Some(Read),
+        (Kind::Look, _) => Some(Look),
+        (Kind::Write, _) => Some(Write),
+        (Kind::Reduce, mode) => Some(Reduce(mode)),
+        (Kind::Join, mode) => Some(Join(mode)),
+        (Kind::Validate, mode) => Some(Validate(mode)),
+        _ => Some(Change),
     }
 }

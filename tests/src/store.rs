@@ -3,9 +3,7 @@
 //! The types hold damaged stores too: any base, any length, a mark on an absent segment, an inactive
 //! cluster with secrets, any width.
 
-use crate::handle::{Handle, Password};
-use crate::sizes::{CLUSTERS, MEMORY_BYTES, NODES, NODE_BYTES, NODE_SEGMENTS, PASSWORD_BYTES, SEGMENTS};
-use crate::width::Width;
+use crate::{listed, words::*};
 use std::ops::Range;
 
 /// Where a segment is in its node's memory, if it is there.
@@ -76,28 +74,18 @@ impl Extent {
     }
 }
 
-#[derive(Clone, Copy, Debug, PartialEq, Eq, PartialOrd, Ord)]
-pub enum Mode {
-    Read,
-    Write,
+listed! {
+    pub enum Mode { Read, Write }
 }
 
 impl Mode {
-    pub const ALL: [Mode; 2] = [Mode::Read, Mode::Write];
-
     pub fn from_number(number: u32) -> Option<Mode> {
-        match number {
-            1 => Some(Mode::Read),
-            2 => Some(Mode::Write),
-            _ => None,
-        }
+        Mode::ALL.into_iter().find(|mode| mode.number() == number)
     }
 
+    /// 1 or 2.
     pub fn number(self) -> u32 {
-        match self {
-            Mode::Read => 1,
-            Mode::Write => 2,
-        }
+        self as u32 + 1
     }
 
     pub fn other(self) -> Mode {

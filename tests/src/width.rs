@@ -1,20 +1,15 @@
 //! The three widths: how many segments a cluster has, and what its handles are like.
 
-use crate::sizes::PASSWORD_BYTES;
+use crate::{listed, sizes::*};
 
 /// Node and local number of a handle.
 const NAME_BYTES: usize = 3;
 
-#[derive(Clone, Copy, Debug, PartialEq, Eq, PartialOrd, Ord)]
-pub enum Width {
-    Four,
-    Eight,
-    Sixteen,
+listed! {
+    pub enum Width { Four, Eight, Sixteen }
 }
 
 impl Width {
-    pub const ALL: [Width; 3] = [Width::Four, Width::Eight, Width::Sixteen];
-
     /// The width of a cluster with so many segments, if there may be one.
     pub fn of_segments(segments: usize) -> Option<Width> {
         Width::ALL.into_iter().find(|width| width.segments() == segments)
@@ -40,11 +35,7 @@ impl Width {
 
     /// Bytes of a selector: four subselectors of half a byte, of a byte, of two bytes.
     pub const fn selector_bytes(self) -> usize {
-        match self {
-            Width::Four => 2,
-            Width::Eight => 4,
-            Width::Sixteen => 8,
-        }
+        SUBSELECTORS * self.segments() / 8
     }
 
     /// Name, password and selector: 21, 23 or 27 bytes together.
@@ -54,10 +45,6 @@ impl Width {
 
     /// A flat subselector takes no segment away: all bits of the width are set.
     pub const fn flat(self) -> u16 {
-        match self {
-            Width::Four => 0x000f,
-            Width::Eight => 0x00ff,
-            Width::Sixteen => 0xffff,
-        }
+        u16::MAX >> (16 - self.segments())
     }
 }

@@ -2,21 +2,11 @@
 //! that no handle has, segments and masks beside the width. What is made by chance has to come to each; lists have one
 //! width alone.
 
-use crate::words::*;
+use crate::{listed, words::*};
 
-/// A length that no handle has.
-#[derive(Clone, Copy, Debug, PartialEq, Eq, PartialOrd, Ord)]
-pub enum Wrong {
-    /// No byte at all.
-    Nothing,
-    /// Too short for any, 20 apart.
-    Short,
-    Twenty,
-    /// 22, and 24 to 26.
-    Between,
-    TwentyEight,
-    /// Longer than that.
-    Long,
+listed! {
+    /// A length that no handle has: none at all, too short for any, 20, 22 and 24 to 26, 28, and longer than that.
+    pub enum Wrong { Nothing, Short, Twenty, Between, TwentyEight, Long }
 }
 
 #[derive(Clone, Copy, Debug, PartialEq, Eq, PartialOrd, Ord)]
@@ -50,13 +40,10 @@ pub enum Sight {
 }
 
 #[rustfmt::skip]
-const OTHERS: [Sight; 10] = [
+const OTHERS: [Sight; 9] = [
     Sight::UpperSegment, Sight::SegmentOfTheCluster, Sight::SegmentOfTheHandle, Sight::NoLengthFirst,
     Sight::OtherMadeFrom, Sight::OtherForged, Sight::UpperClear, Sight::UpperSet, Sight::KeptAbove,
-    Sight::NoLength(Wrong::Nothing),
 ];
-
-const WRONG: [Wrong; 5] = [Wrong::Short, Wrong::Twenty, Wrong::Between, Wrong::TwentyEight, Wrong::Long];
 
 impl Sight {
     /// Everything that has to be met.
@@ -66,8 +53,7 @@ impl Sight {
             let others = others.map(move |other| Sight::Other(width, other));
             others.chain([Sight::Made(width), Sight::Done(width)])
         });
-        let widths = (0..4).map(Sight::NoWidth);
-        let lengths = WRONG.map(Sight::NoLength);
+        let (widths, lengths) = ((0..4).map(Sight::NoWidth), Wrong::ALL.map(Sight::NoLength));
         each.chain(widths).chain(lengths).chain(OTHERS)
     }
 
@@ -79,22 +65,12 @@ impl Sight {
         let wrong = call.presented_bytes().map(<[u8]>::len).filter_map(wrong);
         let mut sights: Vec<Sight> = wrong.map(Sight::NoLength).collect();
         if !sights.is_empty() {
-            if !found.store.is_sound(found.memory_bytes) {
-                sights.push(Sight::NoLengthFirst);
-            }
+            let first = !found.store.is_sound(found.memory_bytes);
+            sights.extend(first.then_some(Sight::NoLengthFirst));
             return sights;
         }
-        for handle in call.presented() {
-            let Some(cluster) = found.store.cluster_of(&handle) else { continue };
-            sights.extend(match number {
-                DONE => done(call, &handle),
-                FIELD => beyond(call, &handle, cluster).into_iter().collect(),
-                LENGTH => other(call, &handle, cluster),
-                EMPTY => kept_above(call, &handle).into_iter().collect(),
-                _ => Vec::new(),
-            });
-        }
-        sights
+        let handles = call.presented().filter_map(|handle| Some((handle, found.store.cluster_of(&handle)?)));
+        handles.flat_map(|(handle, cluster)| by_handle(call, number, &handle, cluster)).collect()
     }
 }
 
@@ -121,49 +97,29 @@ fn wrong(length: usize) -> Option<Wrong> {
     }
 }
 
-/// The bits of a mask at or above the handle's width, and all that there are.
-fn upper(handle: &Handle, mask: u16) -> (u16, u16) {
-    let all = !handle.width().flat();
-    (mask & all, all)
-}
-
-fn done(call: &Call, handle: &Handle) -> Vec<Sight> {
-    let mut sights = vec![Sight::Done(handle.width())];
-    if call.segment().is_some_and(|segment| segment >= 8) {
-        sights.push(Sight::UpperSegment);
-    }
-    if let Call::Weaken { mask, .. } = *call {
-        match upper(handle, mask) {
-            (_, 0) => {}
-            (0, _) => sights.push(Sight::UpperClear),
-            (bits, all) if bits == all => sights.push(Sight::UpperSet),
-            _ => {}
-        }
-    }
-    sights
-}
-
-fn kept_above(call: &Call, handle: &Handle) -> Option<Sight> {
-    match *call {
-        Call::Weaken { mask, .. } if mask != 0 && upper(handle, mask).0 == mask => Some(Sight::KeptAbove),
-        _ => None,
-    }
-}
-
-fn beyond(call: &Call, handle: &Handle, cluster: &Cluster) -> Option<Sight> {
-    let segment = call.segment()? as usize;
-    let is_beyond = segment >= handle.width().segments() && segment < usize::from(cluster.width);
-    is_beyond.then_some(Sight::SegmentOfTheCluster)
-}
-
-fn other(call: &Call, handle: &Handle, cluster: &Cluster) -> Vec<Sight> {
-    let (width, known) = (handle.width(), cluster.known_width());
-    let Some(own) = known.filter(|own| *own != width) else { return Vec::new() };
-    let is_beyond = |segment: u32| segment as usize >= own.segments();
-    let segment = call.segment().filter(|segment| is_beyond(*segment));
-    let mode = call.needed_mode();
-    let made_from = mode.is_some_and(|mode| handle.is_made_from(cluster.primary(mode)));
-    let password = if made_from { Sight::OtherMadeFrom } else { Sight::OtherForged };
-    let segment = segment.map(|_| Sight::SegmentOfTheHandle);
-    segment.into_iter().chain([Sight::Other(width, own), password]).collect()
+/// What a call has met that presents a handle of this cluster.
+fn by_handle(call: &Call, number: u8, handle: &Handle, cluster: &Cluster) -> Vec<Sight> {
+    let (width, done) = (handle.width(), number == DONE);
+    // A call about no segment meets as little here as one about segment 0, and one without a mask as a mask of no bits.
+    let segment = call.segment().unwrap_or(0) as usize;
+    let mask = if let Call::Weaken { mask, .. } = *call { mask } else { 0 };
+    let above = !width.flat();
+    let upper = mask & above;
+    let own = cluster.known_width().filter(|own| number == LENGTH && *own != width);
+    let is_made_from = |mode| handle.is_made_from(cluster.primary(mode));
+    let made_from = own.is_some() && call.needed_mode().is_some_and(is_made_from);
+    let of_the_cluster = (width.segments()..usize::from(cluster.width)).contains(&segment);
+    let sights = [
+        (own.is_some(), Sight::Other(width, own.unwrap_or(width))),
+        (own.is_some_and(|own| segment >= own.segments()), Sight::SegmentOfTheHandle),
+        (made_from, Sight::OtherMadeFrom),
+        (own.is_some() && !made_from, Sight::OtherForged),
+        (done, Sight::Done(width)),
+        (done && segment >= 8, Sight::UpperSegment),
+        (done && above != 0 && mask != 0 && upper == 0, Sight::UpperClear),
+        (done && above != 0 && upper == above, Sight::UpperSet),
+        (number == EMPTY && mask != 0 && upper == mask, Sight::KeptAbove),
+        (number == FIELD && of_the_cluster, Sight::SegmentOfTheCluster),
+    ];
+    sights.into_iter().filter(|(is_met, _)| *is_met).map(|(_, sight)| sight).collect()
 }

@@ -5,28 +5,8 @@ mod support;
 use support::*;
 
 #[test]
-fn new_cluster_gives_both_primary_handles() {
-    for width in Width::ALL {
-        let mut bench = Bench::starting();
-        let reply = bench.reply(new_cluster_of(width, 3, 7));
-        let primary = |password| Handle::primary(width, 3, 7, password).to_bytes();
-        let expected = Reply { first: primary(READ_SECRET), second: primary(WRITE_SECRET), ..Reply::DONE };
-        assert_eq!(reply, expected);
-        let made = Cluster {
-            active: true,
-            width: width.number(),
-            read: READ_SECRET,
-            write: WRITE_SECRET,
-            ..Cluster::INACTIVE
-        };
-        assert_eq!(bench.store.clusters[3][7], made);
-    }
-}
-
-#[test]
 fn delete_cluster_leaves_the_starting_record_and_all_bytes() {
-    for width in Width::ALL {
-        let mut bench = Bench::with_segment_of(width);
+    for (width, mut bench) in benches() {
         let memory = bench.memory.clone();
         let delete = Call::delete_cluster(0, writer_of(width));
         assert_eq!(bench.reply(delete), Reply::DONE);
@@ -63,8 +43,7 @@ fn new_segment_hands_out_zeros() {
 
 #[test]
 fn placement_looks_at_every_cluster_of_the_node() {
-    for width in Width::ALL {
-        let mut bench = Bench::with_segment_of(width);
+    for (_, mut bench) in benches() {
         for (at, other) in Width::ALL.into_iter().enumerate() {
             let local = 3 + at as u8;
             assert_eq!(bench.number(new_cluster_of(other, 0, local.into())), 0);
@@ -79,21 +58,8 @@ fn placement_looks_at_every_cluster_of_the_node() {
 }
 
 #[test]
-fn delete_segment_leaves_its_bytes() {
-    for width in Width::ALL {
-        let mut bench = Bench::with_segment_of(width);
-        let reply = bench.reply(delete_segment_of(width, own(width)));
-        assert_eq!(reply, Reply::DONE);
-        let absent = [Segment::ABSENT; 16];
-        assert_eq!(bench.store.clusters[0][2].segments, absent);
-        assert_eq!(&bench.memory[..4], b"abcd");
-    }
-}
-
-#[test]
 fn read_fills_the_front_of_the_buffer() {
-    for width in Width::ALL {
-        let mut bench = Bench::with_segment_of(width);
+    for (width, mut bench) in benches() {
         let mut buffer = *b"........";
         let read = Call::read(own(width), reader_of(width));
         let reply = bench.ask(read, &mut buffer);
@@ -105,8 +71,7 @@ fn read_fills_the_front_of_the_buffer() {
 
 #[test]
 fn write_takes_the_front_of_the_data() {
-    for width in Width::ALL {
-        let mut bench = Bench::with_segment_of(width);
+    for (width, mut bench) in benches() {
         bench.memory[4] = 0x77;
         let mut data = *b"efghijkl";
         let write = Call::write(own(width), writer_of(width));
@@ -155,7 +120,7 @@ fn new_password_revokes_one_mode() {
     for width in Width::ALL {
         let (mut bench, segment) = (Bench::with_segment_of(width), own(width));
         let weakened = reader_of(width).weaken(1 << segment).unwrap();
-        let reply = bench.reply(renew(READ_MODE, reader_of(width), [0x33; 16]));
+        let reply = bench.reply(Call::new_password(READ_MODE, reader_of(width), [0x33; 16]));
         let renewed = Handle::primary(width, 0, 2, [0x33; 16]);
         assert_eq!(reply, Reply::with_handle(&renewed));
         assert_eq!(bench.read(segment, reader_of(width)), Err(9));
@@ -167,8 +132,7 @@ fn new_password_revokes_one_mode() {
 
 #[test]
 fn validation_gives_the_number_of_reduction_and_nothing_else() {
-    for width in Width::ALL {
-        let mut bench = Bench::with_segment_of(width);
+    for (_, mut bench) in benches() {
         let handles = Width::ALL.into_iter().flat_map(|width| {
             let weakened = writer_of(width).weaken(1).unwrap();
             let inactive = Handle::primary(width, 0, 3, [0; 16]);

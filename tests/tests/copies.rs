@@ -8,15 +8,14 @@ use std::collections::BTreeMap;
 use support::{valid::*, *};
 
 const LISTS: usize = 300;
-const LIST_CALLS: usize = 60;
 
 /// Some segments are frozen.
 fn pair(random: &mut Random) -> [Bench; 2] {
     let start = two_clusters(random, true);
     let mut other = start.clone();
-    let cluster = &mut other.store.clusters[0][APART];
+    let cluster = &mut other.store.clusters[0][SET_APART];
     (cluster.read, cluster.write) = (random.bytes(), random.bytes());
-    for part in parts(&start, APART) {
+    for part in parts(&start, SET_APART) {
         other.memory[part].fill_with(|| random.byte());
     }
     [start, other]
@@ -24,12 +23,11 @@ fn pair(random: &mut Random) -> [Bench; 2] {
 
 /// Whether the handle opens the cluster set apart, in either mode and in either state.
 fn opens(states: &[Bench; 2], handle: &Handle) -> bool {
-    let cluster = |state: &Bench| state.store.clusters[0][APART];
     let validates = |state: &Bench| {
-        let cluster = cluster(state);
-        Mode::ALL.iter().any(|mode| handle.validates(&cluster, *mode))
+        let cluster = &state.store.clusters[0][SET_APART];
+        Mode::ALL.iter().any(|mode| handle.validates(cluster, *mode))
     };
-    handle.name() == (0, APART as u8) && states.iter().any(validates)
+    handle.name() == (0, SET_APART as u8) && states.iter().any(validates)
 }
 
 /// The handle with another password, or with the right one at another width.
@@ -40,7 +38,7 @@ fn shut(random: &mut Random, cluster: &Cluster, handle: &Handle) -> Handle {
         return shut;
     }
     let width = others(handle.width()).nth(random.below(2) as usize).unwrap();
-    let primary = *random.pick(&[cluster.read, cluster.write]).unwrap();
+    let primary = random.one_of(&[cluster.read, cluster.write]);
     let (node, local) = handle.name();
     let handle = Handle::primary(width, node, local, primary);
     let cut = handle.weaken(random.number() as u16 | 1);
@@ -51,7 +49,7 @@ fn shut(random: &mut Random, cluster: &Cluster, handle: &Handle) -> Handle {
 fn free_call(random: &mut Random, states: &[Bench; 2]) -> Call {
     loop {
         let state = &states[random.below(2) as usize];
-        let cluster = state.store.clusters[0][APART];
+        let cluster = state.store.clusters[0][SET_APART];
         let mut call = valid_call(random, state);
         let close = |handle: &mut HandleBytes| {
             let presented = Handle::from_bytes(handle).expect("it has a width");
@@ -73,18 +71,18 @@ fn free_call(random: &mut Random, states: &[Bench; 2]) -> Call {
 
 /// The cluster set apart, and the bytes of its segments.
 fn held(state: &Bench) -> (Cluster, Vec<Vec<u8>>) {
-    let bytes = parts(state, APART).into_iter();
+    let bytes = parts(state, SET_APART).into_iter();
     let bytes = bytes.map(|part| state.memory[part].to_vec());
-    (state.store.clusters[0][APART], bytes.collect())
+    (state.store.clusters[0][SET_APART], bytes.collect())
 }
 
 /// The state without that cluster's passwords and bytes.
 fn without(state: &Bench) -> Bench {
     let mut state = state.clone();
-    for part in parts(&state, APART) {
+    for part in parts(&state, SET_APART) {
         state.memory[part].fill(0);
     }
-    let cluster = &mut state.store.clusters[0][APART];
+    let cluster = &mut state.store.clusters[0][SET_APART];
     (cluster.read, cluster.write) = (Password::default(), Password::default());
     state
 }
@@ -92,37 +90,26 @@ fn without(state: &Bench) -> Bench {
 #[test]
 fn the_same_is_told_whatever_it_holds() {
     let random = &mut Random::from_seed(1);
-    let mut met: BTreeMap<(usize, String, u8), usize> = BTreeMap::new();
+    let mut met = Met::new();
     let mut widths: BTreeMap<(u8, Option<Width>, u8), usize> = BTreeMap::new();
     for _ in 0..LISTS {
         let mut states = pair(random);
         let start = states.each_ref().map(held);
         let width = start[0].0.width;
-        for _ in 0..LIST_CALLS {
-            let call = free_call(random, &states);
-            let data: [u8; BUFFER_BYTES] = random.bytes();
-            let [one, two] = states.each_mut().map(|state| answer(state, &call, &data));
-            assert_eq!(one, two, "{call:?}");
+        run_list(random, &mut states, &mut met, free_call, |states, call, local, number| {
             assert!(without(&states[0]) == without(&states[1]), "{call:?}");
             assert_eq!(states.each_ref().map(held), start, "{call:?}");
-            let local = match call {
-                Call::NewCluster { local, .. } => local as usize,
-                _ => call.handle().map_or(0, |handle| handle.local.into()),
-            };
-            let name = format!("{call:?}").split(' ').next().map(str::to_string);
-            let number = one.0.number;
-            *met.entry((local, name.expect("it has one"), number)).or_default() += 1;
-            if local == APART && !matches!(call, Call::Weaken { .. }) {
+            if local == SET_APART && call.kind() != Kind::Weaken {
                 let by = call.handle().map(|handle| handle.width());
                 *widths.entry((width, by, number)).or_default() += 1;
             }
-        }
+        });
     }
-    for name in ["NewSegment", "Read", "Look", "Write", "Reduce", "NewPassword", "Join"] {
-        for (local, number) in [(APART, 25), (APART, 9), (BESIDE, 0)] {
-            let count = met.get(&(local, name.to_string(), number));
-            let fewest = if number == 0 { 5 } else { 30 };
-            assert!(count.is_some_and(|count| *count > fewest), "{name} {number} {met:?}");
+    use Kind::{Join, Look, NewPassword, NewSegment, Read, Reduce, Weaken, Write};
+    for kind in [NewSegment, Read, Look, Write, Reduce, NewPassword, Join] {
+        for (local, number, fewest) in [(SET_APART, 25, 30), (SET_APART, 9, 30), (BESIDE, 0, 5)] {
+            let count = met.get(&(local, kind, number));
+            assert!(count.is_some_and(|count| *count > fewest), "{kind:?} {number} {met:?}");
         }
     }
     // Of each width, by handles of each.
@@ -133,5 +120,5 @@ fn the_same_is_told_whatever_it_holds() {
             assert!(count.is_some_and(|count| *count > 100), "{widths:?}");
         }
     }
-    assert!(met.keys().all(|(local, name, number)| { *local == BESIDE || *number != 0 || name == "Weaken" }));
+    assert!(met.keys().all(|(local, kind, number)| *local == BESIDE || *number != 0 || *kind == Weaken));
 }

@@ -66,19 +66,15 @@ fn after_2_and_before_6() {
 }
 
 /// Calls that name a segment, with what each needs beside it.
-fn calls(segment: u32, reader: Handle, writer: Handle) -> Vec<Call> {
-    let node = 0;
-    let (reader, writer) = (|| reader.into(), || writer.into());
-    #[rustfmt::skip]
-    let calls = vec![
-        Call::NewSegment { node, segment, size: 4, handle: writer() },
-        Call::Write { segment, handle: writer() },
-        Call::Read { segment, handle: reader() },
-        Call::Look { node, segment, handle: reader() },
-        Call::Freeze { node, segment, handle: writer() },
-        Call::DeleteSegment { node, segment, handle: writer() },
-    ];
-    calls
+fn calls(segment: u32, reader: Handle, writer: Handle) -> [Call; 6] {
+    [
+        Call::new_segment(0, segment, 4, writer),
+        Call::write(segment, writer),
+        Call::read(segment, reader),
+        Call::look(0, segment, reader),
+        Call::freeze(0, segment, writer),
+        Call::delete_segment(0, segment, writer),
+    ]
 }
 
 /// Each segment of the width is made, written, read, looked at and frozen; the next one is 3, by any handle.
@@ -90,12 +86,10 @@ fn segments_of_the_handle_s_width() {
             let numbers = calls(segment, reader_of(width), writer_of(width)).into_iter().map(|call| state.number(call));
             assert!(numbers.eq([0, 0, 0, 0, 0, 22]), "{segment}");
         }
-        let far = [16, 17, 31, 255, 256, 256 + 3, 65_536, u32::MAX];
+        let far = [16, 17, 20, 31, 255, 256, 256 + 3, 256 + 5, 65_536, u32::MAX];
         let beyond = (0..16).chain(far);
         for segment in beyond.filter(|segment| !segments(width).contains(segment)) {
-            for call in calls(segment, reader_of(width), writer_of(width)) {
-                assert_eq!(state.reply(&call), Reply::refused(3), "{call:?}");
-            }
+            calls(segment, reader_of(width), writer_of(width)).iter().for_each(|call| state.refuses(call, 3));
         }
     }
 }
@@ -104,18 +98,15 @@ fn segments_of_the_handle_s_width() {
 #[test]
 fn whatever_the_cluster_s_width() {
     for width in Width::ALL {
-        let mut state = Bench::with_cluster_of(width);
+        let state = Bench::with_cluster_of(width);
         for other in others(width) {
             let forged = Handle::primary(other, 0, 2, [9; 16]);
             let mut gapped = forged;
             gapped.selector.subselectors[1] = 1;
             for segment in 0..20 {
                 let number = if segments(other).contains(&segment) { 25 } else { 3 };
-                for call in calls(segment, forged, forged) {
-                    assert_eq!(state.number(&call), number, "{call:?}");
-                }
-                for call in calls(segment, gapped, gapped) {
-                    assert_eq!(state.number(&call), number.min(4), "{call:?}");
+                for (handle, number) in [(forged, number), (gapped, number.min(4))] {
+                    calls(segment, handle, handle).iter().for_each(|call| state.refuses(call, number));
                 }
             }
         }

@@ -2,7 +2,6 @@
 
 mod support;
 
-use model::table::{numbers_of_calls, word};
 use support::*;
 
 /// Cluster 2 of node 0 with all segments of its width, of four bytes each, those of `marks` frozen.
@@ -30,17 +29,6 @@ fn marks(width: Width) -> Vec<u16> {
     let alone = (0..16).flat_map(|bit| [1 << bit, !(1 << bit)]);
     let others = (0..20).map(|at| 0x9e37_u16.wrapping_mul(at));
     alone.chain(others).chain([0xffff]).collect()
-}
-
-fn delete_cluster(handle: Handle) -> Call {
-    Call::delete_cluster(0, handle)
-}
-
-#[test]
-fn its_word_and_its_places() {
-    assert_eq!(word(22), Some("frozen"));
-    let places = [25, 1, 2, 3, 4, 24, 5, 6, 7, 8, 25, 9, 23, 10, 22, 11, 12, 13, 14, 22, 15, 16, 21, 17];
-    assert!(numbers_of_calls().eq(places));
 }
 
 // What is done.
@@ -132,12 +120,12 @@ fn no_cluster_is_deleted_of_which_any_segment_is_frozen() {
             let mut bench = bench_of(width, marks);
             let before = bench.clone();
             for other in others(width) {
-                assert_eq!(bench.number(delete_cluster(writer_of(other))), 25);
+                assert_eq!(bench.number(Call::delete_cluster(0, writer_of(other))), 25);
             }
-            assert_eq!(bench.number(delete_cluster(reader_of(width))), 9);
-            assert_eq!(bench.number(delete_cluster(forged)), 9);
-            assert_eq!(bench.number(delete_cluster(weaker)), 10);
-            let delete = delete_cluster(writer_of(width));
+            assert_eq!(bench.number(Call::delete_cluster(0, reader_of(width))), 9);
+            assert_eq!(bench.number(Call::delete_cluster(0, forged)), 9);
+            assert_eq!(bench.number(Call::delete_cluster(0, weaker)), 10);
+            let delete = Call::delete_cluster(0, writer_of(width));
             if marks != 0 {
                 assert_eq!(bench.reply(delete), Reply::refused(22));
                 assert_eq!(bench, before);
@@ -188,36 +176,4 @@ fn frozen_before_short_and_after_all_else() {
     assert_eq!(bench.write(4, b"", writer()), 14);
     assert_eq!(bench.number(freeze(4)), 14);
     assert_eq!(bench.read(5, reader()), Ok(b"abcd".to_vec()));
-}
-
-#[test]
-fn a_new_segment_where_one_is_frozen_is_13() {
-    let mut bench = bench(0xff);
-    for size in [1, 4, 4096] {
-        assert_eq!(bench.number(new_segment(5, size)), 13);
-    }
-}
-
-#[test]
-fn arguments_out_of_range() {
-    let mut bench = bench(0);
-    for node in [4, 5, 255, 256, 65_536, u32::MAX] {
-        assert_eq!(bench.number(Call::freeze(node, 8, writer())), 2, "{node}");
-    }
-    let at = |node, local| Handle::primary(Width::Eight, node, local, WRITE_SECRET);
-    for handle in [at(4, 2), at(256, 2), at(0x8000, 2), at(0, 8), at(0, 255)] {
-        assert_eq!(bench.number(Call::freeze(0, 8, handle)), 2, "{handle:?}");
-    }
-    for segment in [8, 9, 13, 255, 256, 261, u32::MAX] {
-        assert_eq!(bench.number(freeze(segment)), 3, "{segment}");
-    }
-    for node in 1..NODES as u32 {
-        assert_eq!(bench.number(Call::freeze(node, 5, writer())), 5);
-    }
-    let zero = Handle::primary(Width::Eight, 0, 3, [0; 16]);
-    assert_eq!(bench.number(Call::freeze(0, 5, zero)), 8);
-    assert_eq!(bench.number(Call::freeze(0, 5, reader())), 9);
-    assert!(!bench.store.clusters[0][2].has_frozen());
-    bench.memory.truncate(MEMORY_BYTES - 1);
-    assert_eq!(bench.number(freeze(5)), 1);
 }

@@ -84,10 +84,8 @@ fn lengths_and_widths() {
     }
     assert_eq!(Handle::from_bytes(&[0; 1000]), None);
     for number in 0..100 {
-        let expected = known.iter().find(|(_, width)| width.segments() == number);
-        let width = Width::of_segments(number);
-        assert_eq!(width, expected.map(|(_, width)| *width));
-        assert_eq!(width.is_some(), [4, 8, 16].contains(&number));
+        let segments = Width::of_segments(number).map(Width::segments);
+        assert_eq!(segments, [4, 8, 16].contains(&number).then_some(number));
     }
 }
 

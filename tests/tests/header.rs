@@ -41,10 +41,6 @@ fn expected() -> Vec<u8> {
 fn numbers_in_the_table_s_order() {
     let numbers: Vec<u8> = lines().map(|(_, number, _)| number).collect();
     assert_eq!(numbers, expected());
-    assert_eq!(numbers[..3], [0, 25, 1]);
-    assert_eq!(numbers[5..7], [4, 24]);
-    assert_eq!(numbers[10..15], [8, 9, 23, 10, 22]);
-    assert_eq!(numbers[numbers.len() - 3..], [16, 21, 17]);
 }
 
 #[test]
@@ -75,7 +71,7 @@ fn words_at_their_numbers() {
 }
 
 /// The functions that return a number, each with the numbers that its paragraph names.
-fn rows() -> BTreeMap<&'static str, Vec<u8>> {
+fn rows() -> BTreeMap<String, Vec<u8>> {
     let parts: Vec<&str> = HEADER.split("GELMUSZTA_USED gelmuszta_number ").collect();
     parts
         .windows(2)
@@ -86,27 +82,19 @@ fn rows() -> BTreeMap<&'static str, Vec<u8>> {
             let (row, end) = row.split_once('.').unwrap();
             assert_eq!(end.trim(), "*/", "{name}: the numbers come last");
             let numbers = row.split(' ').map(|number| number.parse().unwrap());
-            (name, numbers.collect())
+            (name.to_string(), numbers.collect())
         })
         .collect()
 }
 
-fn function(call: &Call) -> &'static str {
-    match call {
-        Call::NewCluster { .. } => "gelmuszta_new_cluster",
-        Call::DeleteCluster { .. } => "gelmuszta_delete_cluster",
-        Call::NewSegment { .. } => "gelmuszta_new_segment",
-        Call::DeleteSegment { .. } => "gelmuszta_delete_segment",
-        Call::Read { .. } => "gelmuszta_read",
-        Call::Write { .. } => "gelmuszta_write",
-        Call::Weaken { .. } => "gelmuszta_weaken",
-        Call::Reduce { .. } => "gelmuszta_reduce",
-        Call::NewPassword { .. } => "gelmuszta_new_password",
-        Call::Freeze { .. } => "gelmuszta_freeze",
-        Call::Join { .. } => "gelmuszta_join",
-        Call::Look { .. } => "gelmuszta_look",
-        Call::Validate { .. } => "gelmuszta_validate",
-    }
+/// Its name is that of the kind in small letters.
+fn function(call: &Call) -> String {
+    let kind = format!("{:?}", call.kind());
+    let words = kind.split_inclusive(char::is_lowercase).map(|letters| match letters.len() {
+        1 => letters.to_string(),
+        _ => format!("_{}", letters.to_lowercase()),
+    });
+    words.fold("gelmuszta".to_string(), |name, word| name + &word)
 }
 
 /// Each call's row is the model's, in its order; a handle from bytes can be refused for its length alone.
@@ -116,7 +104,8 @@ fn each_function_s_numbers_in_the_order_looked_at() {
     let calls = every(&handle, &handle, rest).into_iter();
     let calls = calls.chain([new_cluster(0, 2)]);
     let expected = calls.map(|call| (function(&call), numbers_of(&call)));
-    let expected: BTreeMap<&str, Vec<u8>> = expected.chain([("gelmuszta_handle_of", vec![LENGTH])]).collect();
+    let expected: BTreeMap<String, Vec<u8>> =
+        expected.chain([("gelmuszta_handle_of".to_string(), vec![LENGTH])]).collect();
     assert_eq!(rows(), expected);
     assert_eq!(expected.len(), 14);
     for (name, numbers) in [

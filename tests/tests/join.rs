@@ -6,24 +6,9 @@ mod support;
 use support::naive::{flat, has, selectors_of, sets};
 use support::*;
 
-/// A handle of cluster 2 of node 0 to read, with the password that goes with its selector.
-fn handle(selector: [u16; 4]) -> Handle {
-    Handle::converted(0, 2, &READ_SECRET, eight(selector))
-}
-
 /// The reduced handle for these segments.
-fn reduced(segments: u16) -> Handle {
-    reduced_of(Width::Eight, segments)
-}
-
-fn reduced_of(width: Width, segments: u16) -> Handle {
-    let flat = flat(width);
-    Handle {
-        node: 0,
-        local: 2,
-        password: convert(&READ_SECRET, segments),
-        selector: Selector::new(width, [segments, flat, flat, flat]),
-    }
+fn reduced(width: Width, segments: u16) -> Handle {
+    noted(width, &READ_SECRET, segments)
 }
 
 /// Whether every subselector has the segment.
@@ -41,8 +26,8 @@ fn one_handle_for_the_strips_of_two() {
     let [one, other] = [0x07, 0x18].map(|mask| reader().weaken(mask).unwrap());
     let before = bench.clone();
     let mut buffer = [0xee; 3];
-    let reply = bench.ask(join(READ_MODE, one, other), &mut buffer);
-    assert_eq!(reply, Reply::with_handle(&reduced(0x1f)));
+    let reply = bench.ask(Call::join(READ_MODE, one, other), &mut buffer);
+    assert_eq!(reply, Reply::with_handle(&reduced(Width::Eight, 0x1f)));
     assert_eq!((bench.clone(), buffer), (before, [0xee; 3]));
     let joined = given(&reply);
     for segment in 0..8 {
@@ -57,8 +42,7 @@ fn one_handle_for_the_strips_of_two() {
 /// Every two sets of segments, with one to four subselectors not flat; many at width 16.
 #[test]
 fn what_either_references_whichever_comes_first() {
-    for width in Width::ALL {
-        let mut bench = Bench::with_segment_of(width);
+    for (width, mut bench) in benches() {
         let before = bench.clone();
         let sets = usize::from(flat(width).min(1023)) + 1;
         let handle = |at: usize, kind: usize| {
@@ -68,15 +52,14 @@ fn what_either_references_whichever_comes_first() {
                 _ => at as u16,
             };
             let selectors = selectors_of(width, set);
-            let parts = selectors[kind % selectors.len()];
-            Handle::converted(0, 2, &READ_SECRET, Selector::new(width, parts))
+            reading(width, selectors[kind % selectors.len()])
         };
         let (mut done, mut whole) = (0, 0);
         let step = if width == Width::Sixteen { 37 } else { 1 };
         for at in (0..sets * sets).step_by(step).filter(|at| at % sets <= at / sets) {
             let (one, other) = (handle(at % sets, at / sets), handle(at / sets, at % 7));
-            let reply = bench.ask(join(READ_MODE, one, other), &mut []);
-            assert_eq!(reply, bench.ask(join(READ_MODE, other, one), &mut []));
+            let reply = bench.ask(Call::join(READ_MODE, one, other), &mut []);
+            assert_eq!(reply, bench.ask(Call::join(READ_MODE, other, one), &mut []));
             let parts = [one, other].map(|handle| handle.selector.subselectors);
             let either = |segment| parts.iter().any(|parts| references(*parts, segment));
             if segments(width).all(either) {
@@ -90,7 +73,7 @@ fn what_either_references_whichever_comes_first() {
                 let parts = given.selector.subselectors;
                 assert_eq!(references(parts, segment), either(segment));
             }
-            assert_eq!(given, reduced_of(width, given.selector.subselectors[0]));
+            assert_eq!(given, reduced(width, given.selector.subselectors[0]));
             done += 1;
         }
         assert_eq!(bench, before);
@@ -115,7 +98,7 @@ fn what_is_given_validates_in_the_mode_and_is_not_primary() {
             };
             for segments in (0..flat).step_by(if flat > 255 { 63 } else { 1 }) {
                 let one = at(segments & 0x3c3c | 0x01);
-                let reply = bench.reply(join(mode, at(segments), one));
+                let reply = bench.reply(Call::join(mode, at(segments), one));
                 if segments | 0x01 == flat {
                     assert_eq!(reply, Reply::refused(23));
                     continue;
@@ -138,15 +121,14 @@ fn with_itself_and_with_less() {
     for width in Width::ALL {
         let mut bench = Bench::with_cluster_of(width);
         for parts in sets(width) {
-            let selector = Selector::new(width, parts);
-            let handle = Handle::converted(0, 2, &READ_SECRET, selector);
+            let (handle, selector) = (reading(width, parts), Selector::new(width, parts));
             let reduction = bench.reply(Call::reduce(READ_MODE, handle));
             let expected = if selector.is_primary() { Reply::refused(23) } else { reduction };
-            let less = reduced_of(width, selector.referenced() & 0x5a5a);
-            let nothing = reduced_of(width, 0);
+            let less = reduced(width, selector.referenced() & 0x5a5a);
+            let nothing = reduced(width, 0);
             for other in [handle, less, nothing] {
-                assert_eq!(bench.reply(join(READ_MODE, handle, other)), expected);
-                assert_eq!(bench.reply(join(READ_MODE, other, handle)), expected);
+                assert_eq!(bench.reply(Call::join(READ_MODE, handle, other)), expected);
+                assert_eq!(bench.reply(Call::join(READ_MODE, other, handle)), expected);
             }
         }
     }
@@ -155,11 +137,12 @@ fn with_itself_and_with_less() {
 #[test]
 fn two_that_reference_nothing() {
     let mut bench = Bench::with_cluster();
-    let nothing = [[0x0f, 0xf0, 255, 255], [0, 255, 255, 255], [0; 4]].map(handle);
+    let nothing = [[0x0f, 0xf0, 255, 255], [0, 255, 255, 255], [0; 4]];
+    let nothing = nothing.map(|parts| reading(Width::Eight, parts));
     for one in nothing {
         for other in nothing {
-            let reply = bench.reply(join(READ_MODE, one, other));
-            assert_eq!(reply, Reply::with_handle(&reduced(0)));
+            let reply = bench.reply(Call::join(READ_MODE, one, other));
+            assert_eq!(reply, Reply::with_handle(&reduced(Width::Eight, 0)));
         }
     }
 }
@@ -169,12 +152,12 @@ fn two_that_reference_nothing() {
 fn what_is_joined_is_joined_again() {
     let mut bench = Bench::with_cluster();
     let mut joined = |one, other| {
-        let reply = bench.reply(join(READ_MODE, one, other));
+        let reply = bench.reply(Call::join(READ_MODE, one, other));
         assert_eq!(reply.number, 0);
         given(&reply)
     };
     let [one, two, three] = [0x03, 0x7e, 0x70].map(|mask| reader().weaken(mask).unwrap());
     let (first, last) = (joined(one, two), joined(two, three));
     assert_eq!(joined(first, three), joined(one, last));
-    assert_eq!(joined(first, three), reduced(0x7f));
+    assert_eq!(joined(first, three), reduced(Width::Eight, 0x7f));
 }

@@ -2,34 +2,14 @@
 
 mod support;
 
-use model::table::{numbers_of_calls, word};
 use support::joint::{self, union, LOCAL, NODE};
 use support::naive::flat;
 use support::*;
 
-/// A handle of cluster 2 of node 0 to read, with the password that goes with its selector.
-fn handle(selector: [u16; 4]) -> Handle {
-    Handle::converted(0, 2, &READ_SECRET, eight(selector))
-}
-
-/// The reduced handle for these segments.
-fn reduced(segments: u16) -> Handle {
-    handle([segments, 255, 255, 255])
-}
-
-#[test]
-fn their_words_and_their_places() {
-    assert_eq!((word(23), word(24)), (Some("whole"), Some("apart")));
-    let numbers: Vec<u8> = numbers_of_calls().collect();
-    assert!(numbers.windows(3).any(|row| row == [4, 24, 5]));
-    assert!(numbers.windows(3).any(|row| row == [9, 23, 10]));
-}
-
 /// All of the width: by two of which neither is primary, by one that is, by two that are.
 #[test]
 fn all_are_never_given() {
-    for width in Width::ALL {
-        let mut bench = Bench::with_segment_of(width);
+    for (width, mut bench) in benches() {
         let (before, flat) = (bench.clone(), flat(width));
         let reader = reader_of(width);
         let weaker = |mask| reader.weaken(mask).unwrap();
@@ -39,22 +19,22 @@ fn all_are_never_given() {
             (weaker(flat - 1), weaker(flat - last)),
             (weaker(flat - 1).weaken(0x02).unwrap(), weaker(flat - 2)),
             (reader, weaker(0x01)),
-            (reader, Handle::converted(0, 2, &READ_SECRET, Selector::new(width, [0; 4]))),
+            (reader, reading(width, [0; 4])),
             (reader, reader),
         ] {
-            assert_eq!(bench.reply(join(READ_MODE, one, other)), Reply::refused(23));
-            assert_eq!(bench.reply(join(READ_MODE, other, one)), Reply::refused(23));
+            assert_eq!(bench.reply(Call::join(READ_MODE, one, other)), Reply::refused(23));
+            assert_eq!(bench.reply(Call::join(READ_MODE, other, one)), Reply::refused(23));
             // A password that is wrong is told before.
             let forged = Handle { password: [9; 16], ..other };
-            assert_eq!(bench.number(join(READ_MODE, one, forged)), 9);
-            assert_eq!(bench.number(join(READ_MODE, forged, one)), 9);
-            assert_eq!(bench.number(join(WRITE_MODE, one, other)), 9);
+            assert_eq!(bench.number(Call::join(READ_MODE, one, forged)), 9);
+            assert_eq!(bench.number(Call::join(READ_MODE, forged, one)), 9);
+            assert_eq!(bench.number(Call::join(WRITE_MODE, one, other)), 9);
         }
         // All but one are, whichever it is.
         for segment in segments(width) {
             let but_one = flat - (1 << segment);
             let [one, other] = [0x0f0f, 0xf0f0].map(|mask| weaker(but_one).weaken(mask | 0x33));
-            let reply = bench.reply(join(READ_MODE, one.unwrap(), other.unwrap()));
+            let reply = bench.reply(Call::join(READ_MODE, one.unwrap(), other.unwrap()));
             assert_eq!(given(&reply).selector.referenced(), but_one);
         }
         assert_eq!(bench, before);
@@ -66,15 +46,9 @@ fn all_are_never_given() {
 fn numbers_in_their_order() {
     let (mut asked, mut done) = (0, 0);
     for joint in joint::all() {
-        let mut bench = Bench { store: joint.store.clone(), memory: vec![0x77; MEMORY_BYTES] };
-        let before = bench.clone();
-        let (width, flat) = (joint.width, joint.width.flat());
-        let given = Handle {
-            node: NODE,
-            local: LOCAL,
-            password: convert(&joint.primary, union(width)),
-            selector: Selector::new(width, [union(width), flat, flat, flat]),
-        };
+        let (mut bench, before) = (joint.put_to(), joint.put_to());
+        let secret = if joint.call.named_mode() == Some(READ_MODE) { READ_SECRET } else { WRITE_SECRET };
+        let given = Handle { node: NODE, local: LOCAL, ..noted(joint.width, &secret, union(joint.width)) };
         let expected = match joint.number() {
             0 => Reply::with_handle(&given),
             number => Reply::refused(number),
@@ -87,43 +61,20 @@ fn numbers_in_their_order() {
     assert_eq!((asked, done), (409_600, 2));
 }
 
-#[test]
-fn arguments_out_of_range() {
-    let mut bench = Bench::with_cluster();
-    let (one, two) = (reduced(0x07), reduced(0x18));
-    for mode in [0, 3, 4, 255, 256, 257, 258, 65_537, u32::MAX] {
-        assert_eq!(bench.number(join(mode, one, two)), 3, "{mode}");
-        let gapped = handle([255, 0x18, 255, 255]);
-        assert_eq!(bench.number(join(mode, one, gapped)), 3, "{mode}");
-        assert_eq!(bench.number(join(mode, gapped, two)), 3, "{mode}");
-    }
-    for (node, local) in [(4, 2), (256, 2), (0x8000, 2), (0, 8), (0, 255)] {
-        let far = |handle| Handle { node, local, ..handle };
-        for (one, two) in [(far(one), two), (one, far(two)), (far(one), far(two))] {
-            assert_eq!(bench.number(join(READ_MODE, one, two)), 2);
-            assert_eq!(bench.number(join(0, one, two)), 2);
-        }
-    }
-    for bytes in [0, MEMORY_BYTES - 1, MEMORY_BYTES + 1] {
-        bench.memory.resize(bytes, 0);
-        assert_eq!(bench.number(join(READ_MODE, one, two)), 1);
-    }
-}
-
 /// Both in the mode named, and both with what the cluster's password is now.
 #[test]
 fn both_have_to_validate() {
     let mut bench = Bench::with_cluster();
     let [reads, writes] = [reader(), writer()].map(|handle| handle.weaken(0x0f).unwrap());
     for mode in [READ_MODE, WRITE_MODE] {
-        assert_eq!(bench.number(join(mode, reads, writes)), 9);
-        assert_eq!(bench.number(join(mode, writes, reads)), 9);
+        assert_eq!(bench.number(Call::join(mode, reads, writes)), 9);
+        assert_eq!(bench.number(Call::join(mode, writes, reads)), 9);
     }
-    assert_eq!(bench.number(join(WRITE_MODE, reads, reads)), 9);
+    assert_eq!(bench.number(Call::join(WRITE_MODE, reads, reads)), 9);
     let renew = Call::new_password(READ_MODE, reader(), [0x33; 16]);
     assert_eq!(bench.number(renew), 0);
     let renewed = Handle::primary(Width::Eight, 0, 2, [0x33; 16]).weaken(0x30).unwrap();
-    assert_eq!(bench.number(join(READ_MODE, reads, renewed)), 9);
-    assert_eq!(bench.number(join(READ_MODE, renewed, reads)), 9);
-    assert_eq!(bench.number(join(READ_MODE, renewed, renewed)), 0);
+    assert_eq!(bench.number(Call::join(READ_MODE, reads, renewed)), 9);
+    assert_eq!(bench.number(Call::join(READ_MODE, renewed, reads)), 9);
+    assert_eq!(bench.number(Call::join(READ_MODE, renewed, renewed)), 0);
 }

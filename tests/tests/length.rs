@@ -3,7 +3,6 @@
 
 mod support;
 
-use model::table::{numbers_of_calls, refusal_above, refusal_below, word, Found, LENGTH, UNSOUND};
 use support::every::{every, looking, Rest};
 use support::*;
 
@@ -22,42 +21,23 @@ fn of_length(handle: Handle, length: usize) -> HandleBytes {
     bytes
 }
 
-/// The call is refused, and changes nothing, not even a buffer.
-fn refused(state: &Bench, call: &Call, number: u8) {
-    let (mut left, mut buffer) = (state.clone(), [0xee; 4]);
-    let reply = left.ask(call, &mut buffer);
-    assert_eq!(reply, Reply::refused(number), "{call:?}");
-    assert!(left == *state && buffer == [0xee; 4], "{call:?}");
-}
-
-#[test]
-fn its_word_and_its_places() {
-    assert_eq!((word(25), word(26)), (Some("length"), None));
-    let numbers: Vec<u8> = numbers_of_calls().collect();
-    assert_eq!(numbers[..3], [25, 1, 2]);
-    assert!(numbers.windows(4).any(|row| row == [8, 25, 9, 23]));
-    assert_eq!(numbers.iter().filter(|number| **number == 25).count(), 2);
-}
-
 // A length that no handle has.
 
-/// Whatever else is wrong: every call, every length, sound stores and others.
+/// Whatever else is wrong: every call, every length, sound stores and damaged ones.
 #[test]
 fn before_everything_else() {
     let sound = Bench::with_segment_of(Width::Eight);
-    let mut damaged = sound.clone();
-    damaged.store.clusters[3][7].write[0] = 1;
     let mut short = sound.clone();
     short.memory.pop();
+    let damaged = Width::ALL.into_iter().flat_map(damaged).map(|store| Bench { store, ..sound.clone() });
+    let states: Vec<Bench> = damaged.chain([sound.clone(), short]).collect();
     let lengths = (0..=40).filter(|length| ![21, 23, 27].contains(length));
-    for length in lengths.chain([255, 256, 277, 279, 4096]) {
+    for length in lengths.chain([64, 255, 256, 277, 279, 4096]) {
         for writer in [writer(), Handle { node: 9, ..writer() }] {
             let wrong = of_length(writer, length);
             for rest in [right(Width::Eight), WRONG_REST] {
                 for call in every(&wrong, &wrong, rest) {
-                    for state in [&sound, &damaged, &short] {
-                        refused(state, &call, 25);
-                    }
+                    states.iter().for_each(|state| state.refuses(&call, 25));
                 }
             }
         }
@@ -73,7 +53,7 @@ fn and_nothing_else_stands_above_1() {
     for width in Width::ALL {
         let handle = writer_of(width).to_bytes();
         for call in looking(&handle, &handle, WRONG_REST) {
-            refused(&damaged, &call, 1);
+            damaged.refuses(&call, 1);
             assert_eq!(refusal_above(UNSOUND, &call, &found), None);
         }
         let wrong = handle[..20].to_vec();
@@ -89,22 +69,21 @@ fn and_nothing_else_stands_above_1() {
 /// All but weakening, with a handle that would be right in all else.
 #[test]
 fn not_the_cluster_s_width() {
-    for width in Width::ALL {
-        let state = Bench::with_segment_of(width);
+    for (width, state) in benches() {
         for other in others(width) {
             let least = width.min(other);
             let rest = Rest { segment: own(least), ..right(width) };
             for handle in [writer_of(other), reader_of(other)] {
                 let joined = handle.weaken(6).unwrap().to_bytes();
                 for call in looking(&handle.into(), &joined, rest) {
-                    refused(&state, &call, 25);
+                    state.refuses(&call, 25);
                     // Somewhere else, or with a node that is no node, the numbers above it are given.
                     if let Call::Look { .. } = call {
                         let handle = handle.to_bytes();
                         let look = |node, segment| Call::Look { node, segment, handle: handle.clone() };
-                        refused(&state, &look(1, 0), 5);
-                        refused(&state, &look(4, 0), 2);
-                        refused(&state, &look(0, other.number().into()), 3);
+                        state.refuses(&look(1, 0), 5);
+                        state.refuses(&look(4, 0), 2);
+                        state.refuses(&look(0, other.number().into()), 3);
                     }
                 }
             }
@@ -116,20 +95,19 @@ fn not_the_cluster_s_width() {
 /// the cluster's width.
 #[test]
 fn does_not_validate() {
-    for width in Width::ALL {
-        let state = Bench::with_segment_of(width);
+    for (width, state) in benches() {
         let cluster = &state.store.clusters[0][2];
         for other in others(width) {
             let least = width.min(other);
             for parts in [[1; 4], [least.flat() - 1; 4], [0; 4]] {
-                let at = |width| Handle::converted(0, 2, &READ_SECRET, Selector::new(width, parts));
+                let at = |width| reading(width, parts);
                 assert_eq!(at(width).password, at(other).password);
                 let mode = Mode::Read;
                 assert!(at(width).validates(cluster, mode));
                 assert!(!at(other).validates(cluster, mode));
                 let validate = |handle: Handle| Call::Validate { mode: READ_MODE, handle: handle.into() };
                 assert_eq!(state.clone().number(validate(at(width))), 0);
-                refused(&state, &validate(at(other)), 25);
+                state.refuses(&validate(at(other)), 25);
             }
         }
     }
@@ -138,8 +116,7 @@ fn does_not_validate() {
 /// It never looks at the store, and so at no cluster's width.
 #[test]
 fn not_for_weakening() {
-    for width in Width::ALL {
-        let mut state = Bench::with_segment_of(width);
+    for (_, mut state) in benches() {
         for other in Width::ALL {
             let weaken = |mask| Call::Weaken { mask, handle: reader_of(other).into() };
             let reply = state.reply(weaken(0xfff1));

@@ -1,8 +1,7 @@
-//! Looks: the part of the lent memory that is the segment, where it is, and the numbers of a refused one.
+//! Looks: the part of the lent memory that is the segment, and where it is.
 
 mod support;
 
-use model::list::{request, Request, CODE_AT, RECORD_BYTES};
 use support::*;
 
 fn shown(from: usize, length: usize) -> Reply {
@@ -24,8 +23,7 @@ fn bench(width: Width, node: usize, segments: &[(u16, u16)]) -> Bench {
 
 #[test]
 fn the_segment_and_where_it_is() {
-    for width in Width::ALL {
-        let mut bench = Bench::with_segment_of(width);
+    for (width, mut bench) in benches() {
         let (reader, segment) = (reader_of(width), own(width));
         assert_eq!(bench.reply(Call::look(0, segment, reader)), shown(0, 4));
         assert_eq!(bench.look(0, segment, reader), Ok(b"abcd".to_vec()));
@@ -50,9 +48,6 @@ fn all_of_the_segment_and_no_other_byte() {
             assert_eq!(bench.look(node as u32, 0, handle), Ok(expected));
         }
     }
-    let last =
-        bench(Width::Eight, 3, &[(4095, 1)]).reply(Call::look(3, 0, Handle::primary(Width::Eight, 3, 2, READ_SECRET)));
-    assert_eq!(last.shown.from + last.shown.length, MEMORY_BYTES);
 }
 
 /// Primary, weakened once to four times, reduced, to nothing, and some that do not validate.
@@ -115,9 +110,6 @@ fn every_segment_of_the_width() {
             let reply = bench.reply(Call::look(2, segment as u32, handle));
             assert_eq!(reply, shown(from, (*length).into()));
         }
-        for segment in [u32::from(width.number()), 16, 20] {
-            assert_eq!(bench.look(2, segment, handle), Err(3));
-        }
     }
 }
 
@@ -134,79 +126,6 @@ fn whatever_the_buffer() {
 }
 
 #[test]
-fn no_such_place_in_the_handle_or_the_call() {
-    let mut bench = Bench::with_segment();
-    for node in [4, 5, 7, 8, 255, 256, 65_536, u32::MAX] {
-        assert_eq!(bench.look(node, 5, reader()), Err(2), "{node}");
-        assert_eq!(bench.look(node, 8, reader()), Err(2), "{node}");
-    }
-    let at = |node, local| Handle::primary(Width::Eight, node, local, READ_SECRET);
-    for handle in [at(4, 2), at(256, 2), at(0x8000, 2), at(0, 8), at(0, 255)] {
-        let node = u32::from(handle.node);
-        assert_eq!(bench.look(0, 5, handle), Err(2), "{handle:?}");
-        assert_eq!(bench.look(node, 5, handle), Err(2), "{handle:?}");
-        assert_eq!(bench.look(node, 8, handle), Err(2), "{handle:?}");
-    }
-}
-
-#[test]
-fn segments_above_7() {
-    let mut bench = Bench::with_segment();
-    for segment in [8, 9, 13, 255, 256, 261, u32::MAX] {
-        assert_eq!(bench.look(0, segment, reader()), Err(3), "{segment}");
-    }
-}
-
-#[test]
-fn elsewhere_is_every_other_node() {
-    for node in 0..NODES as u32 {
-        let mut bench = bench(Width::Four, node as usize, &[(0, 4)]);
-        let handle = Handle::primary(Width::Four, node as u16, 2, READ_SECRET);
-        let unknown = Handle::primary(Width::Four, node as u16, 2, [9; 16]);
-        for current in 0..NODES as u32 {
-            let (known, other) = if current == node { (None, Err(9)) } else { (Some(5), Err(5)) };
-            assert_eq!(bench.look(current, 0, handle).err(), known);
-            assert_eq!(bench.look(current, 0, unknown), other);
-        }
-    }
-}
-
-#[test]
-fn by_read_handles_alone() {
-    let mut bench = Bench::with_segment();
-    let weakened = writer().weaken(0x20).expect("all are flat");
-    for handle in [writer(), weakened, weakened.reduce(&WRITE_SECRET)] {
-        assert_eq!(bench.look(0, 5, handle), Err(9));
-        assert_eq!(bench.look(0, 0, handle), Err(9));
-    }
-    // Where the two passwords are equal, the handle is one for reading, too.
-    bench.store.clusters[0][2].read = WRITE_SECRET;
-    assert_eq!(bench.look(0, 5, writer()), Ok(b"abcd".to_vec()));
-}
-
-#[test]
-fn a_zero_password_opens_no_inactive_cluster() {
-    let mut bench = Bench::starting();
-    let zero = Handle::primary(Width::Eight, 0, 2, [0; 16]);
-    for segment in 0..8 {
-        assert_eq!(bench.look(0, segment, zero), Err(8));
-    }
-}
-
-/// One byte missing or too many, no memory at all, and damage far from the segment.
-#[test]
-fn unsound_stores_show_nothing() {
-    for bytes in [0, 4, MEMORY_BYTES - 1, MEMORY_BYTES + 1] {
-        let mut bench = Bench::with_segment();
-        bench.memory.resize(bytes, 0);
-        assert_eq!(bench.look(0, 5, reader()), Err(1), "{bytes}");
-    }
-    let mut bench = Bench::with_segment();
-    bench.store.clusters[3][7].write[0] = 1;
-    assert_eq!(bench.look(0, 5, reader()), Err(1));
-}
-
-#[test]
 fn what_the_calls_before_it_left() {
     let mut bench = Bench::with_segment();
     assert_eq!(bench.write(5, b"efgh", writer()), 0);
@@ -218,14 +137,4 @@ fn what_the_calls_before_it_left() {
     let renew = Call::new_password(READ_MODE, reader(), [0x33; 16]);
     assert_eq!(bench.number(renew), 0);
     assert_eq!(bench.look(0, 6, reader()), Err(9));
-}
-
-#[test]
-fn no_code_stands_for_it() {
-    for code in 0..=255 {
-        let mut record = [0; RECORD_BYTES];
-        record[CODE_AT] = code;
-        let is_call = request(&record) != Request::BadCode;
-        assert_eq!(is_call, (1..=11).contains(&code));
-    }
 }

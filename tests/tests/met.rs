@@ -1,6 +1,6 @@
 //! What is counted of joins and of widths is met by what is made by chance, in stores with clusters of every width.
 
-use model::{generate::joins::join_of_widths, joins::Meeting, model::run, widths::Sight, words::*};
+use model::{generate::joins::join_of_widths, joins, model::run, widths::Sight, words::*};
 use std::collections::BTreeSet;
 
 const STORES: usize = 1_000;
@@ -13,15 +13,9 @@ fn store(random: &mut Random) -> Store {
         if random.one_in(3) {
             continue;
         }
-        let width = Width::ALL[random.below(3) as usize];
+        let width = random.one_of(&Width::ALL);
         let read = random.bytes();
-        *cluster = Cluster {
-            active: true,
-            width: width.number(),
-            read,
-            write: if random.one_in(4) { read } else { random.bytes() },
-            ..Cluster::INACTIVE
-        };
+        *cluster = Cluster::new(width, read, if random.one_in(4) { read } else { random.bytes() });
         let segment = random.below(width.segments() as u64) as usize;
         cluster.segments[segment] = Segment::present(at as u16, 1);
     }
@@ -46,10 +40,10 @@ fn every_meeting_of_two_handles() {
             let call = Call::join(mode, handle, other);
             let found = Found { store: &store, memory_bytes: memory_bytes(random), buffer_bytes: 0 };
             let number = refusal(&call, &found).unwrap_or(0);
-            met.extend(Meeting::of(&found, &call, number));
+            met.extend(joins::met(&found, &call, number));
         }
     }
-    let missing: Vec<Meeting> = Meeting::all().filter(|meeting| !met.contains(meeting)).collect();
+    let missing: Vec<String> = joins::due().filter(|meeting| !met.contains(meeting)).collect();
     assert!(missing.is_empty(), "{missing:?}");
 }
 
@@ -57,7 +51,7 @@ fn every_meeting_of_two_handles() {
 fn handle(random: &mut Random, store: &Store) -> HandleBytes {
     let (node, local) = (random.below(NODES as u64), random.below(CLUSTERS as u64));
     let cluster = &store.clusters[node as usize][local as usize];
-    let any = Width::ALL[random.below(3) as usize];
+    let any = random.one_of(&Width::ALL);
     let own = cluster.known_width().filter(|_| !random.one_in(3));
     let width = own.unwrap_or(any);
     let mut handle = Handle::primary(width, node as u16, local as u8, cluster.write);
@@ -80,13 +74,13 @@ fn every_sight_of_a_width() {
         let mut store = store(random);
         for _ in 0..4 {
             let handle = handle(random, &store);
-            let (segment, mode) = (random.below(18) as u32, 2);
+            let segment = random.below(18) as u32;
             let (node, local) = (random.below(4) as u32, random.below(8) as u32);
             let width = match random.below(6) {
                 0 => random.below(20) as usize,
                 1 => 256 + 4 * random.below(5) as usize,
                 2 => 17 + random.below(9) as usize,
-                _ => Width::ALL[random.below(3) as usize].segments(),
+                _ => random.one_of(&Width::ALL).segments(),
             };
             let mask = match random.below(4) {
                 0 => 0xff00 | random.number() as u16,
@@ -94,14 +88,13 @@ fn every_sight_of_a_width() {
                 2 => random.number() as u16 & 0xfff0,
                 _ => random.number() as u16,
             };
-            #[rustfmt::skip]
             let call = match random.below(6) {
-                0 => Call::NewCluster { node, local, width, read: random.bytes(), write: random.bytes() },
-                1 => Call::Weaken { mask, handle },
-                2 => Call::Reduce { mode, handle },
-                3 => Call::Write { segment, handle },
-                4 => Call::NewSegment { node, segment, size: 1, handle },
-                _ => Call::Validate { mode, handle },
+                0 => Call::new_cluster(node, local, width, random.bytes(), random.bytes()),
+                1 => Call::weaken(mask, handle),
+                2 => Call::reduce(2, handle),
+                3 => Call::write(segment, handle),
+                4 => Call::new_segment(node, segment, 1, handle),
+                _ => Call::validate(2, handle),
             };
             let before = store.clone();
             let mut memory = vec![0; memory_bytes(random)];

@@ -3,15 +3,14 @@
 
 mod support;
 
-use model::table::word;
-use support::naive::{flat, has, number, referenced_and_kept, sets};
+use support::naive::{flat, number, referenced_and_kept, sets};
 use support::*;
 
 const EMPTY: u8 = 21;
 
 /// The read handle of [`Bench::with_segment`] with another selector, and the password that goes with it.
 fn handle(selector: u32) -> Handle {
-    Handle::converted(0, 2, &READ_SECRET, eight(selector.to_be_bytes().map(u16::from)))
+    reading(Width::Eight, selector.to_be_bytes().map(u16::from))
 }
 
 /// Handles that reference nothing, with three flat subselectors to none.
@@ -20,26 +19,9 @@ fn to_nothing() -> [Handle; 6] {
 }
 
 #[test]
-fn its_word() {
-    assert_eq!(word(EMPTY), Some("empty"));
-}
-
-#[test]
-fn a_mask_that_keeps_nothing() {
-    let mut bench = Bench::starting();
-    assert_eq!(bench.reply(Call::weaken(0, reader())), Reply::refused(EMPTY));
-    let lab = handle(0x20ff_ffff);
-    for mask in 0..=255 {
-        let number = if has(mask, 5) { 0 } else { EMPTY };
-        assert_eq!(bench.number(Call::weaken(mask, lab)), number, "{mask}");
-    }
-}
-
-#[test]
 fn a_handle_that_references_nothing_whatever_the_mask() {
     let mut bench = Bench::starting();
     for handle in to_nothing() {
-        assert_eq!(bench.reply(Call::weaken(255, handle)), Reply::refused(EMPTY));
         for mask in 0..=255 {
             assert_eq!(bench.reply(Call::weaken(mask, handle)), Reply::refused(EMPTY));
         }
@@ -66,15 +48,10 @@ fn no_such_place_and_gapped_come_before() {
 fn one_segment_kept_is_done_and_counted() {
     let mut bench = Bench::starting();
     for width in Width::ALL {
-        let flat = flat(width);
         for segment in segments(width) {
             let mask = 1 << segment;
             let reply = bench.reply(Call::weaken(mask, reader_of(width)));
-            let kept = Handle {
-                password: convert(&READ_SECRET, mask),
-                selector: Selector::new(width, [mask, flat, flat, flat]),
-                ..reader_of(width)
-            };
+            let kept = noted(width, &READ_SECRET, mask);
             let expected = Reply { count: 1, ..Reply::with_handle(&kept) };
             assert_eq!(reply, expected);
             assert_eq!(bench.reply(Call::weaken(mask, kept)), expected);
@@ -141,8 +118,7 @@ fn a_weakening_done_never_counts_0() {
 
 #[test]
 fn reduction_of_a_handle_that_references_nothing_is_done() {
-    for width in Width::ALL {
-        let mut bench = Bench::with_segment_of(width);
+    for (width, mut bench) in benches() {
         let flat = flat(width);
         let parts = [[0, flat, flat, flat], [0b0101, 0b1010, flat, flat], [0; 4]];
         let mut first = vec![0xff; width.handle_bytes()];
@@ -156,7 +132,7 @@ fn reduction_of_a_handle_that_references_nothing_is_done() {
         }
         for parts in parts {
             let before = bench.clone();
-            let handle = Handle::converted(0, 2, &READ_SECRET, Selector::new(width, parts));
+            let handle = reading(width, parts);
             let reduce = |mode| Call::Reduce { mode, handle: handle.into() };
             let expected = Reply { first: first.clone(), ..Reply::DONE };
             assert_eq!(bench.reply(reduce(READ_MODE)), expected);

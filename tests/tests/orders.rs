@@ -1,41 +1,42 @@
-//! Every set of numbers that can meet, at each width: alone each is given, and of several the first. Calls 1, 9 and
-//! 11 are beside what else is checked of them.
+//! Every set of numbers that can meet, at each width: alone each is given, and of several the first. Calls 1 and 11 are
+//! beside what else is checked of them.
 
 mod support;
 
-use support::faults::{self, Faulty, Kind, BASE, LENGTH, LOCAL, NODE};
+use support::faults::{self, spoiled, Faulty, BASE, LENGTH, LOCAL, NODE, OWN};
 use support::*;
 
 /// What a call leaves to which nothing applies, what it replies, and the buffer afterwards.
-fn done(faulty: &Faulty, kind: Kind) -> (Bench, Reply, Vec<u8>) {
-    let (mut state, mut buffer) = (put_to(faulty), vec![0xee; faulty.buffer_bytes]);
+fn done(faulty: &Faulty) -> (Bench, Reply, Vec<u8>) {
+    let (mut state, mut buffer) = (faulty.put_to(), vec![0xee; faulty.buffer_bytes]);
     let segment = &mut state.store.clusters[NODE][LOCAL].segments[faulty.segment];
     let (at, mut reply) = (NODE * NODE_BYTES, Reply::DONE);
-    match kind {
-        Kind::DeleteCluster => state.store.clusters[NODE][LOCAL] = Cluster::INACTIVE,
-        Kind::NewSegment => {
+    match faulty.call {
+        Call::DeleteCluster { .. } => state.store.clusters[NODE][LOCAL] = Cluster::INACTIVE,
+        Call::NewSegment { .. } => {
             *segment = Segment::present(0, LENGTH as u16);
             state.memory[at..at + LENGTH].fill(0);
         }
-        Kind::DeleteSegment => *segment = Segment::ABSENT,
-        Kind::Read => {
+        Call::DeleteSegment { .. } => *segment = Segment::ABSENT,
+        Call::Read { .. } => {
             buffer[..LENGTH].fill(0x77);
             reply.length = LENGTH as u32;
         }
-        Kind::Write => state.memory[at + BASE..at + BASE + LENGTH].fill(0xee),
-        Kind::Reduce => {
-            let handle = faulty.call.handle().unwrap();
-            reply.first = handle.reduce(kind.primary_password()).to_bytes();
+        Call::Write { .. } => state.memory[at + BASE..at + BASE + LENGTH].fill(0xee),
+        Call::Reduce { .. } => reply.first = faulty.call.handle().unwrap().reduce(&OWN).to_bytes(),
+        Call::NewPassword { mode, password, .. } => {
+            let cluster = &mut state.store.clusters[NODE][LOCAL];
+            match mode {
+                READ_MODE => cluster.read = password,
+                _ => cluster.write = password,
+            }
+            reply.first = Handle::primary(faulty.width, NODE as u16, LOCAL as u8, password).to_bytes();
         }
-        Kind::Freeze => segment.frozen = true,
-        Kind::Look => reply.shown = Part { from: at + BASE, length: LENGTH },
-        Kind::Validate => {}
+        Call::Freeze { .. } => segment.frozen = true,
+        Call::Look { .. } => reply.shown = Part { from: at + BASE, length: LENGTH },
+        _ => {}
     }
     (state, reply, buffer)
-}
-
-fn put_to(faulty: &Faulty) -> Bench {
-    Bench { store: faulty.store.clone(), memory: vec![0x77; MEMORY_BYTES] }
 }
 
 #[test]
@@ -47,16 +48,18 @@ fn numbers_in_their_order() {
         (Kind::Read, 2 * 2048),
         (Kind::Write, 3072),
         (Kind::Reduce, 2 * 256),
+        // In either mode: the mode's own where the two differ and where they are equal, and three that are not.
+        (Kind::NewPassword, 2 * 2 * (2 + 3) * 512),
         (Kind::Freeze, 2 * 2048),
         (Kind::Look, 2 * 2048),
         (Kind::Validate, 2 * 256),
     ];
     for (kind, count) in kinds {
         for faulty in faults::all(kind) {
-            let (mut left, mut buffer) = (put_to(&faulty), vec![0xee; faulty.buffer_bytes]);
+            let (mut left, mut buffer) = (faulty.put_to(), vec![0xee; faulty.buffer_bytes]);
             let expected = match faulty.number() {
-                0 => done(&faulty, kind),
-                number => (put_to(&faulty), Reply::refused(number), buffer.clone()),
+                0 => done(&faulty),
+                number => (faulty.put_to(), Reply::refused(number), buffer.clone()),
             };
             let reply = left.ask(&faulty.call, &mut buffer);
             assert!((left, reply.clone(), buffer) == expected, "{faulty:?} {reply:?}");
@@ -79,9 +82,7 @@ fn numbers_of_weakening_in_their_order() {
                 (_, true) => [two; 4],
                 _ => [two, flat, flat, flat],
             };
-            let mut handle = Handle::converted(0, 2, &READ_SECRET, Selector::new(width, parts));
-            handle.node += 4 * u16::from(nowhere);
-            let handle = if cut_off { cut(handle, set as usize) } else { handle.into() };
+            let handle = spoiled(reading(width, parts), false, nowhere, cut_off.then_some(set as usize));
             let last = flat - (flat >> 1);
             let mask = if empty { !two } else { last | !flat };
             let numbers = [(cut_off, 25), (nowhere, 2), (gapped, 4), (empty, 21), (spent, 17)];

@@ -3,15 +3,7 @@
 
 mod support;
 
-use support::renewed::{self, LOCAL, NODE};
 use support::*;
-
-/// Both modes at each width, each with its primary handle and the other mode's.
-fn modes() -> impl Iterator<Item = (u32, Handle, Handle)> {
-    Width::ALL.into_iter().flat_map(|width| {
-        [(READ_MODE, reader_of(width), writer_of(width)), (WRITE_MODE, writer_of(width), reader_of(width))]
-    })
-}
 
 /// What each width's clusters can come to: their passwords made equal in one mode, or in the other.
 fn made() -> impl Iterator<Item = (Width, u32)> {
@@ -19,15 +11,20 @@ fn made() -> impl Iterator<Item = (Width, u32)> {
     Width::ALL.into_iter().flat_map(move |width| modes.map(|mode| (width, mode)))
 }
 
-/// Cluster 2 of node 0 with a segment, after `mode` has got the other mode's password, and the one handle that is
-/// primary in both modes then.
-fn equal((width, mode): (Width, u32)) -> (Bench, Handle) {
-    let mut state = Bench::with_segment_of(width);
-    let (own, other) = match mode {
+/// The primary handle of the mode, and the other mode's.
+fn primaries((width, mode): (Width, u32)) -> (Handle, Handle) {
+    match mode {
         READ_MODE => (reader_of(width), writer_of(width)),
         _ => (writer_of(width), reader_of(width)),
-    };
-    let reply = state.reply(renew(mode, own, other.password));
+    }
+}
+
+/// Cluster 2 of node 0 with a segment, after the mode has got the other mode's password, and the one handle that is
+/// primary in both modes then.
+fn equal(made: (Width, u32)) -> (Bench, Handle) {
+    let mut state = Bench::with_segment_of(made.0);
+    let (own, other) = primaries(made);
+    let reply = state.reply(Call::new_password(made.1, own, other.password));
     assert_eq!(reply, Reply::with_handle(&other));
     (state, other)
 }
@@ -41,15 +38,13 @@ fn neighbours(password: Password) -> impl Iterator<Item = Password> {
     })
 }
 
-fn validates(state: &mut Bench, mode: u32, handle: Handle) -> bool {
-    let number = state.number(Call::validate(mode, handle));
-    assert!(number == 0 || number == 9);
-    number == 0
-}
-
 /// In which modes a handle validates: to read, to write.
 fn opens(state: &mut Bench, handle: Handle) -> [bool; 2] {
-    [READ_MODE, WRITE_MODE].map(|mode| validates(state, mode, handle))
+    [READ_MODE, WRITE_MODE].map(|mode| match state.number(Call::validate(mode, handle)) {
+        0 => true,
+        9 => false,
+        number => panic!("{number}"),
+    })
 }
 
 /// The primary handle and what is made from it: weakened once and twice, reduced, joined. All but the first reference
@@ -59,7 +54,7 @@ fn family(state: &mut Bench, mode: u32, primary: Handle) -> Vec<Handle> {
     let once = primary.weaken(!1).unwrap();
     let twice = once.weaken(two).unwrap();
     let reduce = Call::reduce(mode, twice);
-    let joined = join(mode, twice, primary.weaken(0b1000).unwrap());
+    let joined = Call::join(mode, twice, primary.weaken(0b1000).unwrap());
     let made = [reduce, joined].map(|call| given(&state.reply(call)));
     let parts = made.map(|handle| handle.selector.subselectors[0]);
     assert_eq!(parts, [two, two | 0b1000]);
@@ -71,13 +66,14 @@ fn family(state: &mut Bench, mode: u32, primary: Handle) -> Vec<Handle> {
 #[test]
 fn by_the_mode_s_own_password_alone() {
     let mut refused = 0;
-    for (mode, own, other) in modes() {
+    for made @ (_, mode) in made() {
+        let (own, other) = primaries(made);
         let start = Bench::with_segment_of(own.width());
         let alike = (0..=255).map(|byte| [byte; 16]);
         let near = [own, other].map(|handle| neighbours(handle.password));
         for password in alike.chain(near.into_iter().flatten()) {
             let mut state = start.clone();
-            let reply = state.reply(renew(mode, own, password));
+            let reply = state.reply(Call::new_password(mode, own, password));
             let mut expected = start.clone();
             if password == own.password {
                 assert_eq!(reply, Reply::refused(12));
@@ -95,30 +91,6 @@ fn by_the_mode_s_own_password_alone() {
         }
     }
     assert_eq!(refused, 6);
-}
-
-/// Every set of faults: alone each gives its number, and of several the first is given.
-#[test]
-fn numbers_in_their_order() {
-    let (mut asked, mut done) = (0, 0);
-    for renewed in renewed::all() {
-        let mut state = Bench { store: renewed.store.clone(), memory: vec![0x77; MEMORY_BYTES] };
-        let mut expected = state.clone();
-        let reply = match renewed.number() {
-            0 => {
-                let node = &mut expected.store.clusters[usize::from(NODE)];
-                *node[usize::from(LOCAL)].primary_mut(renewed.mode) = renewed.password;
-                Reply::with_handle(&renewed.given())
-            }
-            number => Reply::refused(number),
-        };
-        assert_eq!(state.ask(&renewed.call, &mut []), reply, "{renewed:?}");
-        assert!(state == expected, "{renewed:?}");
-        asked += 1;
-        done += usize::from(reply.is_done());
-    }
-    // Done in either mode at each width: two new passwords where the two differ, one where they are equal.
-    assert_eq!((asked, done), (512 * 12 * 3, 6 * 3));
 }
 
 /// A new cluster never begins with one password for both.
@@ -174,7 +146,7 @@ fn the_same_is_made_from_it_in_either_mode() {
         assert_eq!(reads, writes);
         for call in [
             |mode, handle: Handle| Call::Reduce { mode, handle: handle.into() },
-            |mode, handle: Handle| join(mode, handle, handle),
+            |mode, handle: Handle| Call::join(mode, handle, handle),
         ] {
             for &handle in &reads {
                 let [one, other] = modes.map(|mode| state.reply(call(mode, handle)));
@@ -189,28 +161,23 @@ fn it_does_all_that_a_write_primary_handle_does() {
     for made in made() {
         let (mut state, handle) = equal(made);
         let present = own(handle.width());
-        let (node, segment, size) = (0, present + 1, 3);
-        #[rustfmt::skip]
-        let calls = [
-            Call::NewSegment { node, segment, size, handle: handle.into() },
-            Call::DeleteSegment { node, segment, handle: handle.into() },
-            Call::NewSegment { node, segment, size, handle: handle.into() },
-            Call::Read { segment, handle: handle.into() },
-            Call::DeleteSegment { node, segment, handle: handle.into() },
-            Call::Freeze { node, segment: present, handle: handle.into() },
-            Call::Read { segment: present, handle: handle.into() },
-        ];
-        for call in calls {
+        let segment = present + 1;
+        for call in [
+            Call::new_segment(0, segment, 3, handle),
+            Call::delete_segment(0, segment, handle),
+            Call::new_segment(0, segment, 3, handle),
+            Call::read(segment, handle),
+            Call::delete_segment(0, segment, handle),
+            Call::freeze(0, present, handle),
+            Call::read(present, handle),
+        ] {
             assert_eq!(state.number(&call), 0, "{call:?}");
         }
-        let delete = Call::delete_cluster(node, handle);
-        assert_eq!(state.number(delete), 22);
-        let weaker = handle.weaken(1 << present).unwrap();
+        assert_eq!(state.number(Call::delete_cluster(0, handle)), 22);
         let by_the_old = freeze_of(handle.width(), present);
-        let number = u8::from(made.1 == WRITE_MODE) * 9;
-        assert_eq!(state.number(by_the_old), number);
-        let by_the_weaker = Call::delete_segment(node, present, weaker);
-        assert_eq!(state.number(by_the_weaker), 10);
+        assert_eq!(state.number(by_the_old), u8::from(made.1 == WRITE_MODE) * 9);
+        let weaker = handle.weaken(1 << present).unwrap();
+        assert_eq!(state.number(Call::delete_segment(0, present, weaker)), 10);
     }
 }
 
@@ -221,7 +188,7 @@ fn a_change_of_one_mode_ends_it() {
         for changed in [READ_MODE, WRITE_MODE] {
             let (mut state, both) = equal(made);
             let old = family(&mut state, changed, both);
-            let reply = state.reply(renew(changed, both, [0x33; 16]));
+            let reply = state.reply(Call::new_password(changed, both, [0x33; 16]));
             let renewed = Handle::primary(both.width(), 0, 2, [0x33; 16]);
             assert_eq!(reply, Reply::with_handle(&renewed));
             let reads = changed == READ_MODE;
@@ -233,8 +200,8 @@ fn a_change_of_one_mode_ends_it() {
             }
             // The other mode's own is still 12 there, and is taken back here.
             let other = 3 - changed;
-            assert_eq!(state.number(renew(other, both, both.password)), 12);
-            assert_eq!(state.number(renew(changed, renewed, both.password)), 0);
+            assert_eq!(state.number(Call::new_password(other, both, both.password)), 12);
+            assert_eq!(state.number(Call::new_password(changed, renewed, both.password)), 0);
             assert_eq!(opens(&mut state, both), [true; 2]);
         }
     }

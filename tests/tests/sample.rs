@@ -55,15 +55,12 @@ fn lengths() {
 
 #[test]
 fn links() {
-    let mut beyond = sample();
-    beyond[RECORD_BYTES] = 4;
-    assert_eq!(text(&beyond), "list 19\n");
-    let mut itself = sample();
-    itself[RECORD_BYTES] = 2;
-    assert_eq!(text(&itself), "list 20\n");
-    let mut back = sample();
-    back[RECORD_BYTES] = 1;
-    assert_eq!(text(&back), "list 20\n");
+    // Beyond the last record, to itself, back to the first.
+    for (link, refused) in [(4, "list 19\n"), (2, "list 20\n"), (1, "list 20\n")] {
+        let mut list = sample();
+        list[RECORD_BYTES] = link;
+        assert_eq!(text(&list), refused);
+    }
 }
 
 #[test]

@@ -1,41 +1,35 @@
-//! What makes a store unsound, one thing at a time, and what looks odd and is sound.
+//! What makes a store unsound, one thing at a time, and what looks odd and is sound; placement examples P10 to P14, and
+//! placement against its own definition.
 
 mod support;
 
-use model::model::run;
 use support::*;
 
-fn store() -> Store {
-    store_of(Width::Eight)
+/// Whether a store with one cluster of eight segments, of which one is there, is sound after a change.
+fn is_sound(change: impl FnOnce(&mut Store)) -> bool {
+    let mut store = store_of(Width::Eight);
+    change(&mut store);
+    store.is_sound(MEMORY_BYTES)
 }
 
-fn with_segment(base: u16, length: u16) -> Store {
-    let mut store = store();
-    store.clusters[1][3].segments[7] = Segment::present(base, length);
-    store
+fn is_sound_with(base: u16, length: u16) -> bool {
+    is_sound(|store| store.clusters[1][3].segments[7] = Segment::present(base, length))
 }
 
 #[test]
 fn odd_and_sound() {
     assert!(Store::starting().is_sound(MEMORY_BYTES));
-    assert!(with_segment(0, 10).is_sound(MEMORY_BYTES));
-    assert!(with_segment(30, 4066).is_sound(MEMORY_BYTES));
-    assert!(with_segment(4095, 1).is_sound(MEMORY_BYTES));
-    let mut twins = store();
-    twins.clusters[1][3].read = WRITE_SECRET;
-    assert!(twins.is_sound(MEMORY_BYTES));
-    let mut zero = store();
-    zero.clusters[1][3].write = [0; 16];
-    assert!(zero.is_sound(MEMORY_BYTES));
-    let mut same_bytes_of_another_node = store();
-    same_bytes_of_another_node.clusters[2][3] = store().clusters[1][3];
-    assert!(same_bytes_of_another_node.is_sound(MEMORY_BYTES));
+    assert!([(0, 10), (30, 4066), (4095, 1)].iter().all(|(base, length)| is_sound_with(*base, *length)));
+    // Twins, a password of zeros, the same bytes of another node.
+    assert!(is_sound(|store| store.clusters[1][3].read = WRITE_SECRET));
+    assert!(is_sound(|store| store.clusters[1][3].write = [0; 16]));
+    assert!(is_sound(|store| store.clusters[2][3] = store.clusters[1][3]));
 }
 
 #[test]
 fn lengths_of_the_slice() {
     for bytes in [0, MEMORY_BYTES - 1, MEMORY_BYTES + 1, 2 * MEMORY_BYTES] {
-        assert!(!store().is_sound(bytes));
+        assert!(!store_of(Width::Eight).is_sound(bytes));
     }
 }
 
@@ -56,26 +50,20 @@ fn segments_out_of_range_or_overlapping() {
         (0, 4096),
     ];
     for (base, length) in wrong {
-        assert!(!with_segment(base, length).is_sound(MEMORY_BYTES), "{base} {length}");
+        assert!(!is_sound_with(base, length), "{base} {length}");
     }
-    let mut overlapping = store();
-    overlapping.clusters[1][4].active = true;
-    overlapping.clusters[1][4].width = 8;
-    overlapping.clusters[1][4].segments[2] = Segment::present(29, 5);
-    assert!(!overlapping.is_sound(MEMORY_BYTES));
+    // The last byte of another cluster's segment.
+    assert!(!is_sound(|store| {
+        store.clusters[1][4] = Cluster::new(Width::Eight, READ_SECRET, WRITE_SECRET);
+        store.clusters[1][4].segments[2] = Segment::present(29, 5);
+    }));
 }
 
 #[test]
 fn inactive_with_something_left() {
-    let mut read = Store::starting();
-    read.clusters[0][0].read[15] = 1;
-    let mut write = Store::starting();
-    write.clusters[3][7].write[0] = 1;
-    let mut segment = Store::starting();
-    segment.clusters[2][5].segments[6] = Segment::present(0, 1);
-    for store in [read, write, segment] {
-        assert!(!store.is_sound(MEMORY_BYTES));
-    }
+    assert!(!is_sound(|store| store.clusters[0][0].read[15] = 1));
+    assert!(!is_sound(|store| store.clusters[3][7].write[0] = 1));
+    assert!(!is_sound(|store| store.clusters[2][5].segments[6] = Segment::present(0, 1)));
 }
 
 /// In whichever segment, of an active cluster or an inactive one, also at or above the width.
@@ -87,11 +75,9 @@ fn marks_on_absent_segments() {
             present.clusters[1][3].segments[segment] = Segment::present(100, 1).marked();
             let is_there = segment < width.segments();
             assert_eq!(present.is_sound(MEMORY_BYTES), is_there);
-            let mut active = store_of(width);
-            active.clusters[1][3].segments[segment] = Segment::ABSENT.marked();
-            let mut inactive = store_of(width);
-            inactive.clusters[3][7].segments[segment] = Segment::ABSENT.marked();
-            for damaged in [active, inactive] {
+            for (node, local) in [(1, 3), (3, 7)] {
+                let mut damaged = store_of(width);
+                damaged.clusters[node][local].segments[segment] = Segment::ABSENT.marked();
                 assert!(!damaged.is_sound(MEMORY_BYTES));
             }
         }
@@ -104,15 +90,12 @@ fn marks_on_absent_segments() {
 #[test]
 fn widths_of_clusters() {
     for width in 0..=255 {
-        let mut active = store();
-        active.clusters[1][3].width = width;
-        assert_eq!(active.is_sound(MEMORY_BYTES), [4, 8, 16].contains(&width));
-        active.clusters[1][3].segments = [Segment::ABSENT; SEGMENTS];
-        assert_eq!(active.is_sound(MEMORY_BYTES), [4, 8, 16].contains(&width));
+        let known = [4, 8, 16].contains(&width);
+        assert_eq!(is_sound(|store| store.clusters[1][3].width = width), known);
+        let empty = Cluster { width, segments: [Segment::ABSENT; SEGMENTS], ..store_of(Width::Eight).clusters[1][3] };
+        assert_eq!(is_sound(|store| store.clusters[1][3] = empty), known);
         for (node, local) in [(0, 0), (1, 4), (3, 7)] {
-            let mut inactive = store();
-            inactive.clusters[node][local].width = width;
-            assert_eq!(inactive.is_sound(MEMORY_BYTES), width == 0, "{width}");
+            assert_eq!(is_sound(|store| store.clusters[node][local].width = width), width == 0, "{width}");
         }
     }
 }
@@ -162,25 +145,72 @@ fn a_node_full_of_segments() {
     }
 }
 
-/// What call 1 and those after it leave is sound at each width; so is what call 2 leaves.
+// Placement.
+
+/// A store whose node 0 has the given segments, in as many clusters of the width as they need.
+fn placed(width: Width, extents: &[(u16, u16)]) -> Store {
+    let mut store = Store::starting();
+    for (at, &(base, length)) in extents.iter().enumerate() {
+        let cluster = &mut store.clusters[0][at / width.segments()];
+        (cluster.active, cluster.width) = (true, width.number());
+        cluster.segments[at % width.segments()] = Segment::present(base, length);
+    }
+    store
+}
+
 #[test]
-fn what_calls_leave() {
-    for width in Width::ALL {
-        let mut store = Store::starting();
-        let mut memory = vec![0; MEMORY_BYTES];
-        let mut ask = |call| {
-            let reply = run(&mut store, &mut memory, &mut [], &call);
-            assert_eq!(reply.number, 0, "{call:?}");
-            assert!(store.is_sound(MEMORY_BYTES));
-        };
-        let (read, write, node) = (READ_SECRET, WRITE_SECRET, 1);
-        let (local, segments) = (3, width.segments());
-        ask(Call::NewCluster { node, local, width: segments, read, write });
-        let handle = || Handle::primary(width, 1, 3, WRITE_SECRET);
-        for segment in 0..segments as u32 {
-            ask(Call::new_segment(node, segment, 9, handle()));
+fn p10_to_p14() {
+    let store = placed(Width::Eight, &[(0, 100), (150, 10)]);
+    assert!(store.is_sound(MEMORY_BYTES));
+    assert_eq!(store.place(0, 50), Some(100));
+    assert_eq!(store.place(0, 51), Some(160));
+    assert_eq!(store.place(0, 3936), Some(160));
+    assert_eq!(store.place(0, 3937), None);
+    assert_eq!(Store::starting().place(0, 4096), Some(0));
+}
+
+#[test]
+fn other_nodes_take_no_room() {
+    let store = placed(Width::Eight, &[(0, 4096)]);
+    assert_eq!(store.place(0, 1), None);
+    assert_eq!(store.place(1, 4096), Some(0));
+}
+
+/// The definition, tried base by base.
+fn first_free(extents: &[Extent], size: usize) -> Option<usize> {
+    (0..=NODE_BYTES - size)
+        .find(|&base| extents.iter().all(|extent| extent.end() <= base || base + size <= extent.base))
+}
+
+/// Segments with gaps between them, by chance, in no order of their numbers; as many as the width allows, or as there
+/// is room for.
+fn scattered(random: &mut Random, width: Width) -> Store {
+    let mut extents = Vec::new();
+    let mut end = 0;
+    let most = if width == Width::Sixteen { 32 } else { 90 };
+    while extents.len() < CLUSTERS * width.segments() {
+        let base = end + random.below(most) as usize;
+        let length = 1 + random.below(most) as usize;
+        end = base + length;
+        if end > NODE_BYTES {
+            break;
         }
-        ask(Call::delete_cluster(node, handle()));
-        assert_eq!(store, Store::starting());
+        extents.push((base as u16, length as u16));
+    }
+    random.shuffle(&mut extents);
+    placed(width, &extents)
+}
+
+#[test]
+fn placement_is_the_smallest_base_that_fits() {
+    let mut random = Random::from_seed(7);
+    for at in 0..300 {
+        let store = scattered(&mut random, Width::ALL[at % 3]);
+        assert!(store.is_sound(MEMORY_BYTES));
+        let segments = store.clusters[0].iter().flat_map(|cluster: &Cluster| &cluster.segments);
+        let extents: Vec<Extent> = segments.filter_map(Segment::extent).collect();
+        for size in [1, 2, 17, 60, 89, 90, 400, 4000, 4096] {
+            assert_eq!(store.place(0, size), first_free(&extents, size));
+        }
     }
 }

@@ -3,8 +3,7 @@
 
 mod support;
 
-use model::list::{output, Record, RECORD_BYTES};
-use std::collections::BTreeMap;
+use std::collections::BTreeSet;
 use support::{naive::sets, *};
 
 const NEAR: Password = [1, 1, 1, 1, 1, 1, 1, 1, 1, 1, 1, 1, 1, 1, 1, 0];
@@ -38,7 +37,7 @@ fn number(width: Width, mode: Mode, own: Password, others: [Password; 2], call: 
 /// that of the mode, primary and not, or one made from the other mode's password in either store.
 #[test]
 fn whatever_the_four_passwords_are() {
-    let mut numbers: BTreeMap<u8, usize> = BTreeMap::new();
+    let mut numbers = BTreeSet::new();
     for at in 0..2 * FEW.len().pow(4) {
         let mode = Mode::ALL[at % 2];
         let [own, one, two, password] = [0, 1, 2, 3].map(|place| FEW[at / 2 / 5_usize.pow(place) % 5]);
@@ -48,14 +47,12 @@ fn whatever_the_four_passwords_are() {
         for made_from in [own, one, two] {
             for selector in [Selector::primary(width), weaker] {
                 let handle = Handle::converted(0, 2, &made_from, selector);
-                let call = renew(mode.number(), handle, password);
-                let number = number(width, mode, own, [one, two], call);
-                *numbers.entry(number).or_default() += 1;
+                let call = Call::new_password(mode.number(), handle, password);
+                numbers.insert(number(width, mode, own, [one, two], call));
             }
         }
     }
-    let met: Vec<u8> = numbers.keys().copied().collect();
-    assert_eq!(met, [0, 9, 10, 12], "{numbers:?}");
+    assert!(numbers.iter().eq(&[0, 9, 10, 12]), "{numbers:?}");
 }
 
 /// Handles with every set of segments, right and wrong ones, some of another width than the cluster's, and passwords by
@@ -68,7 +65,7 @@ fn whatever_the_handle_is() {
         let selectors = sets(width).into_iter().chain([[flat; 4]; 400]).chain([[flat, 0, flat, flat]; 9]);
         let selectors = selectors.map(|parts| Selector::new(width, parts));
         let wide = others(width).flat_map(|other| [Selector::primary(other); 40]);
-        let mut numbers: BTreeMap<u8, usize> = BTreeMap::new();
+        let mut numbers = BTreeSet::new();
         for selector in selectors.chain(wide) {
             let passwords: [Password; 4] = std::array::from_fn(|_| random.bytes());
             let [own, one, two, third] = passwords;
@@ -78,51 +75,10 @@ fn whatever_the_handle_is() {
             // Either store may have equal passwords, or neither.
             let others = *random.pick(&[[one, two], [own, two], [one, own]]).unwrap();
             for password in passwords {
-                let call = renew(mode.number(), handle, password);
-                let number = number(width, mode, own, others, call);
-                *numbers.entry(number).or_default() += 1;
+                let call = Call::new_password(mode.number(), handle, password);
+                numbers.insert(number(width, mode, own, others, call));
             }
         }
-        let met: Vec<u8> = numbers.keys().copied().collect();
-        assert_eq!(met, [0, 4, 9, 10, 12, 25], "{numbers:?}");
+        assert!(numbers.iter().eq(&[0, 4, 9, 10, 12, 25]), "{numbers:?}");
     }
-}
-
-/// A list of two records: a cluster is made, and one mode's password replaced.
-fn list(mode: Mode, own: Password, other: Password, password: Password) -> Vec<u8> {
-    let mut new_cluster: Record = [0; RECORD_BYTES];
-    (new_cluster[0], new_cluster[1], new_cluster[4]) = (2, 1, 2);
-    let (read, write) = match mode {
-        Mode::Read => (own, other),
-        Mode::Write => (other, own),
-    };
-    new_cluster[32..48].copy_from_slice(&read);
-    new_cluster[48..].copy_from_slice(&write);
-    let mut renewed: Record = [0; RECORD_BYTES];
-    (renewed[1], renewed[3]) = (9, mode.number() as u8);
-    renewed[8..31].copy_from_slice(&Handle::primary(Width::Eight, 0, 2, own).to_bytes());
-    renewed[32..48].copy_from_slice(&password);
-    [new_cluster, renewed].concat()
-}
-
-#[test]
-fn the_line_of_a_list_is_the_same() {
-    let line = |list: Vec<u8>| {
-        let text = String::from_utf8(output(&list)).unwrap();
-        text.lines().nth(1).unwrap().to_string()
-    };
-    let mut lines: BTreeMap<String, usize> = BTreeMap::new();
-    for mode in Mode::ALL {
-        for password in FEW {
-            let [first, rest @ ..] = [1, 2, 3, 4].map(|other| {
-                let list = list(mode, FEW[0], FEW[other], password);
-                line(list)
-            });
-            assert!(rest.iter().all(|line| *line == first), "{first} {rest:?}");
-            *lines.entry(first).or_default() += 1;
-        }
-    }
-    // One is refused, and each other gives its own handle; either mode says the same.
-    assert_eq!(lines.len(), FEW.len());
-    assert_eq!(lines["2 9 12"], 2);
 }

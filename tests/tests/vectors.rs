@@ -124,22 +124,13 @@ fn every_handle_validates_and_every_count_is_right() {
 /// A cluster with the line's primary password in its mode, and with its width, or that of the handle's length.
 fn cluster(values: &HashMap<&str, &str>, handle: &[u8]) -> Cluster {
     let primary: Password = decode(values["primary"]).unwrap().try_into().unwrap();
-    let told = Width::of_handle_bytes(handle.len()).map(Width::number);
     let other = primary.map(|byte| !byte);
-    let (read, write) = match values["mode"] {
-        "read" => (primary, other),
-        _ => (other, primary),
+    let (read, write) = if values["mode"] == "read" { (primary, other) } else { (other, primary) };
+    let width = match values.get("width") {
+        Some(width) => Width::of_segments(width.parse().unwrap()),
+        None => Width::of_handle_bytes(handle.len()),
     };
-    Cluster {
-        active: true,
-        width: match values.get("width") {
-            Some(width) => width.parse().unwrap(),
-            None => told.unwrap(),
-        },
-        read,
-        write,
-        ..Cluster::INACTIVE
-    }
+    Cluster::new(width.unwrap(), read, write)
 }
 
 /// The number of a call where this cluster stands at node 0 to 3, local number 0 to 7.

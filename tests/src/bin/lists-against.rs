@@ -1,6 +1,7 @@
 //! Runs a program on lists made by chance and compares what it prints with what the model prints. A program that tells
 //! a fault, or ends by a signal or with another status than 0, differs too. The lists have to reach all that lists can.
 
+use model::command::{self, done};
 use model::generate;
 use model::list::{reachable, request, run, Request, CODE_AT};
 use model::met::{due_in_lists, situations, table, way, Met};
@@ -8,8 +9,6 @@ use model::program::{Outcome, Program};
 use model::words::*;
 use std::{collections::BTreeMap, ffi::OsString, io, path::PathBuf, process::ExitCode};
 
-const USAGE: &str = "usage: lists-against PROGRAM [SEED] [COUNT]";
-const BAD_USAGE: u8 = 2;
 const USUAL_SEED: u64 = 1;
 const USUAL_COUNT: u64 = 1000;
 /// Stands for every code that belongs to no call.
@@ -47,15 +46,11 @@ fn in_words(number: u8) -> String {
     format!("{number} ({})", word(number).unwrap_or(""))
 }
 
-fn task() -> Option<Task> {
-    let mut arguments = std::env::args_os().skip(1);
-    let program = arguments.next()?;
-    let mut number = |usual| match arguments.next() {
-        None => Some(usual),
-        Some(word) => word.to_str()?.parse().ok(),
-    };
+fn task(words: &mut dyn Iterator<Item = OsString>) -> Option<Task> {
+    let program = words.next()?;
+    let mut number = |usual| words.next().map_or(Some(usual), command::number);
     let (seed, count) = (number(USUAL_SEED)?, number(USUAL_COUNT)?);
-    arguments.next().is_none().then_some(Task { program, seed, count })
+    words.next().is_none().then_some(Task { program, seed, count })
 }
 
 fn expected(list: &[u8], tally: &mut Tally) -> Vec<u8> {
@@ -105,30 +100,23 @@ fn compare(task: &Task, tally: &mut Tally) -> io::Result<bool> {
     Ok(true)
 }
 
-fn main() -> ExitCode {
-    let Some(task) = task() else {
-        eprintln!("{USAGE}");
-        return ExitCode::from(BAD_USAGE);
-    };
+/// Tells what was reached, too, where there is no difference; true if it is all that lists can reach.
+fn told(task: &Task) -> Result<bool, String> {
     let mut tally = Tally::new();
-    match compare(&task, &mut tally) {
-        Ok(true) => {
-            let calls: u64 = tally.pairs.values().sum();
-            println!("seed {}, {} lists, {calls} calls: no difference", task.seed, task.count);
-            let numbers: Vec<u8> = (0..=SPENT).chain(EMPTY..=APART).collect();
-            let codes = CALLS.into_iter().chain([(NO_CALL, "no call")]);
-            println!("{}{}", table(codes, &numbers, &tally.pairs), tally.met);
-            let missing = tally.met.faults();
-            missing.iter().for_each(|what| println!("{what}"));
-            match missing.is_empty() {
-                true => ExitCode::SUCCESS,
-                false => ExitCode::FAILURE,
-            }
-        }
-        Ok(false) => ExitCode::FAILURE,
-        Err(mistake) => {
-            eprintln!("lists-against: {}: {mistake}", task.program.to_string_lossy());
-            ExitCode::FAILURE
-        }
+    let same = compare(task, &mut tally);
+    if !same.map_err(|mistake| format!("{}: {mistake}", task.program.to_string_lossy()))? {
+        return Ok(false);
     }
+    let calls: u64 = tally.pairs.values().sum();
+    println!("seed {}, {} lists, {calls} calls: no difference", task.seed, task.count);
+    let numbers: Vec<u8> = (0..=SPENT).chain(EMPTY..=APART).collect();
+    let codes = CALLS.into_iter().chain([(NO_CALL, "no call")]);
+    println!("{}{}", table(codes, &numbers, &tally.pairs), tally.met);
+    let missing = tally.met.faults();
+    missing.iter().for_each(|what| println!("{what}"));
+    Ok(missing.is_empty())
+}
+
+fn main() -> ExitCode {
+    done("lists-against", "PROGRAM [SEED] [COUNT]", task, told)
 }

@@ -1,7 +1,7 @@
 //! Reads a list of calls from standard input, runs it from the starting store and prints its lines.
 
 use model::list::{output, MOST_LIST_BYTES};
-use std::io::{self, Read, Write};
+use std::io::{self, Read};
 use std::process::ExitCode;
 
 /// Reads a list, or just enough of a longer input to know that it is none.
@@ -11,19 +11,6 @@ fn read_list() -> io::Result<Vec<u8>> {
     Ok(list)
 }
 
-fn run() -> io::Result<()> {
-    let text = output(&read_list()?);
-    let mut standard_output = io::stdout().lock();
-    standard_output.write_all(&text)?;
-    standard_output.flush()
-}
-
 fn main() -> ExitCode {
-    match run() {
-        Ok(()) => ExitCode::SUCCESS,
-        Err(mistake) => {
-            eprintln!("model-benchrun: {mistake}");
-            ExitCode::FAILURE
-        }
-    }
+    model::command::printed("model-benchrun", || Ok(output(&read_list()?)))
 }

@@ -1,15 +1,8 @@
 //! Prints the published handles, `docs/vectors/handles.txt`.
 
-use std::io::{self, Write};
+use model::{command, vectors};
 use std::process::ExitCode;
 
 fn main() -> ExitCode {
-    let mut standard_output = io::stdout().lock();
-    match standard_output.write_all(model::vectors::text().as_bytes()) {
-        Ok(()) => ExitCode::SUCCESS,
-        Err(mistake) => {
-            eprintln!("model-vectors: {mistake}");
-            ExitCode::FAILURE
-        }
-    }
+    command::printed("model-vectors", || Ok(vectors::text().into_bytes()))
 }

@@ -1,15 +1,14 @@
 //! Runs a program on lists that come in every way, and on streams that fail, and compares its text, its message and its
 //! end with what is expected.
 
+use model::command::{done, number};
 use model::generate;
 use model::list::{output, MOST_LIST_BYTES, RECORD_BYTES};
 use model::program::Program;
 use model::random::Random;
 use model::streams::{all, failures, inputs, outputs, Checked};
-use std::{fs, path::PathBuf, process::ExitCode};
+use std::{ffi::OsString, fs, path::PathBuf, process::ExitCode};
 
-const USAGE: &str = "usage: streams-against PROGRAM SEED LIST...";
-const BAD_USAGE: u8 = 2;
 /// How many lists are made by chance.
 const CHANCE_LISTS: usize = 25;
 /// How many bytes the inputs have that are longer than any list, beyond the longest list.
@@ -23,13 +22,9 @@ struct Task {
     paths: Vec<PathBuf>,
 }
 
-fn task() -> Option<Task> {
-    let mut arguments = std::env::args_os().skip(1);
-    Some(Task {
-        program: Program::named(arguments.next()?),
-        seed: arguments.next()?.to_str()?.parse().ok()?,
-        paths: arguments.map(PathBuf::from).collect(),
-    })
+fn task(words: &mut dyn Iterator<Item = OsString>) -> Option<Task> {
+    let (program, seed) = (Program::named(words.next()?), number(words.next()?)?);
+    Some(Task { program, seed, paths: words.map(PathBuf::from).collect() })
 }
 
 /// What the program is run on.
@@ -79,7 +74,7 @@ fn failing(program: &Program, list: &[u8]) -> Checked {
     ])
 }
 
-fn compare(task: &Task) -> Checked {
+fn compare(task: &Task) -> Result<bool, String> {
     let program = &task.program;
     let mut random = Random::from_seed(task.seed);
     let lists = lists(&task.paths, &mut random)?;
@@ -90,22 +85,10 @@ fn compare(task: &Task) -> Checked {
     let slow = outputs::taken_slowly(program, &lists.wordy)?;
     let failed = all([&lists.longest, &lists.wordy].map(|list| failing(program, list)))?;
     println!("lists as files {files}, on pipes and in pieces {pieces}, taken slowly {slow}, failing {failed}");
-    Ok(files + pieces + slow + failed)
+    println!("seed {}, {} runs: no difference", task.seed, files + pieces + slow + failed);
+    Ok(true)
 }
 
 fn main() -> ExitCode {
-    let Some(task) = task() else {
-        eprintln!("{USAGE}");
-        return ExitCode::from(BAD_USAGE);
-    };
-    match compare(&task) {
-        Ok(runs) => {
-            println!("seed {}, {runs} runs: no difference", task.seed);
-            ExitCode::SUCCESS
-        }
-        Err(difference) => {
-            eprintln!("streams-against: {difference}");
-            ExitCode::FAILURE
-        }
-    }
+    done("streams-against", "PROGRAM SEED LIST...", task, compare)
 }

@@ -1,14 +1,12 @@
 //! Times two programs on a list, one after the other in turn: how long each takes from its start to its end, with the
 //! list as a file on standard input and the text going nowhere.
 
+use model::command::{done, number};
 use std::ffi::OsString;
 use std::fs::File;
 use std::io;
 use std::process::{Command, ExitCode, Stdio};
 use std::time::{Duration, Instant};
-
-const USAGE: &str = "usage: time-lists PROGRAM OTHER-PROGRAM ROUNDS LIST...";
-const BAD_USAGE: u8 = 2;
 
 struct Task {
     programs: [OsString; 2],
@@ -16,11 +14,10 @@ struct Task {
     lists: Vec<OsString>,
 }
 
-fn task() -> Option<Task> {
-    let mut arguments = std::env::args_os().skip(1);
-    let programs = [arguments.next()?, arguments.next()?];
-    let rounds = arguments.next()?.to_str()?.parse().ok()?;
-    let lists: Vec<OsString> = arguments.collect();
+fn task(words: &mut dyn Iterator<Item = OsString>) -> Option<Task> {
+    let programs = [words.next()?, words.next()?];
+    let rounds = number(words.next()?)?;
+    let lists: Vec<OsString> = words.collect();
     (rounds > 0 && !lists.is_empty()).then_some(Task { programs, rounds, lists })
 }
 
@@ -47,7 +44,7 @@ fn least_and_middle(times: &mut [Duration]) -> (f64, f64) {
     (microseconds(times[0]), microseconds(times[times.len() / 2]))
 }
 
-fn run(task: &Task) -> io::Result<()> {
+fn run(task: &Task) -> io::Result<bool> {
     println!("least and middle of {} runs each, in us", task.rounds);
     for list in &task.lists {
         let mut times = [Vec::new(), Vec::new()];
@@ -56,31 +53,14 @@ fn run(task: &Task) -> io::Result<()> {
                 taken.push(once(program, list)?);
             }
         }
-        let [first, second] = times.each_mut().map(|taken| least_and_middle(taken));
-        println!(
-            "{:<40} {:8.0} {:8.0}   {:8.0} {:8.0}   ratio {:.2} {:.2}",
-            list.to_string_lossy(),
-            first.0,
-            first.1,
-            second.0,
-            second.1,
-            first.0 / second.0,
-            first.1 / second.1
-        );
+        let [(least, middle), (other_least, other_middle)] = times.each_mut().map(|taken| least_and_middle(taken));
+        let times = format!("{least:8.0} {middle:8.0}   {other_least:8.0} {other_middle:8.0}");
+        let ratios = format!("{:.2} {:.2}", least / other_least, middle / other_middle);
+        println!("{:<40} {times}   ratio {ratios}", list.to_string_lossy());
     }
-    Ok(())
+    Ok(true)
 }
 
 fn main() -> ExitCode {
-    let Some(task) = task() else {
-        eprintln!("{USAGE}");
-        return ExitCode::from(BAD_USAGE);
-    };
-    match run(&task) {
-        Ok(()) => ExitCode::SUCCESS,
-        Err(mistake) => {
-            eprintln!("time-lists: {mistake}");
-            ExitCode::FAILURE
-        }
-    }
+    done("time-lists", "PROGRAM OTHER-PROGRAM ROUNDS LIST...", task, run)
 }

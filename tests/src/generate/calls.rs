@@ -14,8 +14,6 @@ const SEGMENTS: usize = WIDTH.segments();
 const ALL: u8 = WIDTH.flat() as u8;
 /// Few passwords, so that equal ones meet.
 const PASSWORDS: u64 = 5;
-/// Node and local number in a handle.
-const NAME_BYTES: usize = 3;
 /// Codes as often as they are wanted: what fills the store comes more often than what empties it.
 const CODES: [u8; 31] =
     [1, 1, 1, 2, 2, 3, 3, 3, 3, 3, 4, 4, 5, 5, 5, 5, 6, 6, 6, 6, 7, 7, 8, 8, 9, 9, 10, 10, 11, 11, 11];
@@ -50,10 +48,13 @@ impl Maker {
             call::WRITE => self.move_bytes(&mut record, Mode::Write),
             call::WEAKEN => self.weaken(&mut record),
             call::JOIN => self.join(&mut record),
-            _ => self.call_with_mode(&mut record),
+            _ => {
+                self.call_with_mode(&mut record);
+            }
         }
         let reply = self.session.run(&record);
-        self.note(code, &reply);
+        // Handles that a call does not give have no bytes.
+        self.given.extend([reply.first, reply.second].iter().filter_map(|bytes| Handle::from_bytes(bytes)));
         record
     }
 
@@ -63,7 +64,7 @@ impl Maker {
         match self.random.below(40) {
             0 => self.random.byte(),
             1..=30 if empty => call::NEW_CLUSTER,
-            _ => *self.random.pick(&CODES).expect("there are codes"),
+            _ => self.random.one_of(&CODES),
         }
     }
 
@@ -73,19 +74,6 @@ impl Maker {
             [0; RECORD_BYTES]
         } else {
             self.random.bytes()
-        }
-    }
-
-    fn note(&mut self, code: u8, reply: &Reply) {
-        if reply.is_done() {
-            let count = match code {
-                call::NEW_CLUSTER => 2,
-                call::WEAKEN | call::REDUCE | call::NEW_PASSWORD | call::JOIN => 1,
-                _ => 0,
-            };
-            let handles = [&reply.first, &reply.second];
-            let handles = handles[..count].iter();
-            self.given.extend(handles.filter_map(|bytes| Handle::from_bytes(bytes)));
         }
     }
 
@@ -178,7 +166,7 @@ impl Maker {
     }
 
     fn weaken(&mut self, record: &mut Record) {
-        let mode = self.mode();
+        let mode = self.random.one_of(&Mode::ALL);
         let wish = Wish { mode, primary: false, segments: true };
         let handle = self.put_handle(record, wish);
         let referenced = handle.selector.referenced() as u8;
@@ -193,17 +181,9 @@ impl Maker {
         };
     }
 
-    fn mode(&mut self) -> Mode {
-        if self.random.one_in(2) {
-            Mode::Read
-        } else {
-            Mode::Write
-        }
-    }
-
     /// Calls 8 and 9, and codes that belong to no call.
-    fn call_with_mode(&mut self, record: &mut Record) {
-        let mode = self.mode();
+    fn call_with_mode(&mut self, record: &mut Record) -> Handle {
+        let mode = self.random.one_of(&Mode::ALL);
         let primary = record[CODE_AT] == call::NEW_PASSWORD;
         let segments = self.random.one_in(2);
         let wish = Wish { mode, primary, segments };
@@ -211,6 +191,7 @@ impl Maker {
         record[MODE_AT] = self.near(number_of(mode), 2);
         let password = self.next_password(&handle);
         record[FIRST_PASSWORD_AT..SECOND_PASSWORD_AT].copy_from_slice(&password);
+        handle
     }
 
     /// Often one of the two that the handle's cluster has.
@@ -228,26 +209,23 @@ impl Maker {
     fn join(&mut self, record: &mut Record) {
         let aimed = if self.random.one_in(4) { None } else { joins::join(&mut self.random, &self.session.store) };
         let Some(join) = aimed else {
-            self.call_with_mode(record);
-            return self.put_other(record);
+            let handle = self.call_with_mode(record);
+            return self.put_other(record, &handle);
         };
         put(record, HANDLE_AT, &join.handles[0]);
         put(record, OTHER_HANDLE_AT, &join.handles[1]);
         record[MODE_AT] = match join.is_a_mode {
             true => number_of(join.mode),
-            false => *self.random.pick(&[0, 3, 255]).expect("there are bytes"),
+            false => self.random.one_of(&[0, 3, 255]),
         };
     }
 
-    fn put_other(&mut self, record: &mut Record) {
-        let name = record[HANDLE_AT..HANDLE_AT + NAME_BYTES].to_vec();
-        let given = self.given.iter().copied();
-        let given: Vec<Handle> = given.filter(|handle| handle.to_bytes().starts_with(&name)).collect();
-        let handle = match self.random.pick(&given) {
-            Some(handle) => *handle,
-            None => handles::any(&mut self.random),
-        };
-        put(record, OTHER_HANDLE_AT, &handle.to_bytes());
+    fn put_other(&mut self, record: &mut Record, handle: &Handle) {
+        let given = self.given.iter().filter(|given| given.name() == handle.name());
+        let given: Vec<Handle> = given.copied().collect();
+        let given = self.random.pick(&given).copied();
+        let other = given.unwrap_or_else(|| handles::any(&mut self.random));
+        put(record, OTHER_HANDLE_AT, &other.to_bytes());
     }
 }
 

@@ -40,10 +40,7 @@ pub fn handle(random: &mut Random, store: &Store, given: &[Handle], wish: Wish) 
         0 | 1 => random.pick(given).copied(),
         _ => None,
     };
-    let handle = match chosen {
-        Some(handle) => handle,
-        None => right(random, store, wish),
-    };
+    let handle = chosen.unwrap_or_else(|| right(random, store, wish));
     if random.one_in(5) {
         wrong(random, store, handle)
     } else {
@@ -77,10 +74,7 @@ fn right(random: &mut Random, store: &Store, wish: Wish) -> Handle {
     let Some((node, local)) = active_place(random, store, wish) else { return any(random) };
     let cluster = &store.clusters[usize::from(node)][usize::from(local)];
     let width = width_of(cluster);
-    let mode = match (wish.mode, random.one_in(10)) {
-        (Mode::Read, true) | (Mode::Write, false) => Mode::Write,
-        _ => Mode::Read,
-    };
+    let mode = if random.one_in(10) { wish.mode.other() } else { wish.mode };
     let primary = *cluster.primary(mode);
     let mut handle = Handle::primary(width, node, local, primary);
     let times = if wish.primary && !random.one_in(6) { 0 } else { random.below(6) };
@@ -169,7 +163,7 @@ fn not_of(random: &mut Random, width: Width, segments: u16) -> u16 {
 /// Bytes of a length that no handle has: cut, or with more bytes after them.
 pub fn of_no_length(random: &mut Random, mut bytes: HandleBytes) -> HandleBytes {
     let lengths = [0, 1, 2, 16, 19, 20, 22, 24, 25, 26, 28, 31, 46, 64];
-    let length = random.pick(&lengths).expect("there are lengths");
-    bytes.resize_with(*length, || random.byte());
+    let length = random.one_of(&lengths);
+    bytes.resize_with(length, || random.byte());
     bytes
 }

@@ -19,13 +19,8 @@ listed! {
     }
 }
 
-/// Which of the two handles it is done to.
-#[derive(Clone, Copy)]
-enum To {
-    First,
-    Second,
-    Both,
-}
+/// Which of the two handles it is done to; one of them more often than both.
+const TO: [&[usize]; 5] = [&[0], &[1], &[0], &[1], &[0, 1]];
 
 /// What lists can have; they have one width.
 const IN_LISTS: [Fault; 6] =
@@ -44,26 +39,22 @@ pub fn join_of_widths(random: &mut Random, store: &Store) -> Option<Join> {
 fn join_with(random: &mut Random, store: &Store, faults: &[Fault]) -> Option<Join> {
     let equal = if random.one_in(5) { place(random, store, Cluster::has_equal_passwords) } else { None };
     let (node, local) = equal.or_else(|| place(random, store, |cluster| cluster.active))?;
-    let mode = if random.one_in(2) { Mode::Read } else { Mode::Write };
-    let mut making =
-        Making { mode, is_a_mode: true, handles: two(random, store, (node, local), mode), has_length: [true; 2] };
-    let mut faults = chosen(random, faults);
-    faults.sort_by_key(|(fault, _)| *fault as u8);
-    for (fault, to) in faults {
-        making.spoil(random, store, fault, to);
-    }
-    Some(making.finished(random))
-}
-
-/// None, one or two, and one of them may be there twice.
-fn chosen(random: &mut Random, faults: &[Fault]) -> Vec<(Fault, To)> {
+    let mode = random.one_of(&Mode::ALL);
+    let mut handles = two(random, store, (node, local), mode);
+    // None, one or two, and one of them may be there twice.
     let count = random.below(4).min(2);
-    let fault = |_| {
-        let fault = random.pick(faults).expect("there are faults");
-        let to = random.pick(&[To::First, To::Second, To::First, To::Second, To::Both]);
-        (*fault, *to.expect("there are two handles"))
+    let mut faults: Vec<(Fault, &[usize])> = (0..count).map(|_| (random.one_of(faults), random.one_of(&TO))).collect();
+    faults.sort_by_key(|(fault, _)| *fault);
+    for (fault, to) in &faults {
+        spoil(random, store, mode, &mut handles, *fault, to);
+    }
+    let has = |fault: Fault, at: usize| faults.iter().any(|(own, to)| *own == fault && to.contains(&at));
+    let mut bytes = |at: usize| match has(Fault::NoLength, at) {
+        true => of_no_length(random, handles[at].to_bytes()),
+        false => handles[at].to_bytes(),
     };
-    (0..count).map(fault).collect()
+    let is_a_mode = !has(Fault::NoMode, 0) && !has(Fault::NoMode, 1);
+    Some(Join { mode, is_a_mode, handles: [bytes(0), bytes(1)] })
 }
 
 /// Two handles of an active cluster, in either order.
@@ -96,64 +87,28 @@ fn two(random: &mut Random, store: &Store, place: (u16, u8), mode: Mode) -> [Han
     both
 }
 
-/// A join on its way.
-struct Making {
-    mode: Mode,
-    is_a_mode: bool,
-    handles: [Handle; 2],
-    has_length: [bool; 2],
-}
-
-impl Making {
-    fn finished(self, random: &mut Random) -> Join {
-        let [first, second] = self.handles.map(|handle| handle.to_bytes());
-        let [keeps_first, keeps_second] = self.has_length;
-        let mut bytes = |bytes, keeps| if keeps { bytes } else { of_no_length(random, bytes) };
-        Join {
-            mode: self.mode,
-            is_a_mode: self.is_a_mode,
-            handles: [bytes(first, keeps_first), bytes(second, keeps_second)],
+fn spoil(random: &mut Random, store: &Store, mode: Mode, handles: &mut [Handle; 2], fault: Fault, to: &[usize]) {
+    match fault {
+        Fault::NoMode | Fault::NoLength => {}
+        Fault::Inactive => {
+            if let Some(inactive) = place(random, store, is_inactive) {
+                *handles = handles.map(|handle| moved(store, &handle, inactive, mode));
+            }
         }
-    }
-
-    fn spoil(&mut self, random: &mut Random, store: &Store, fault: Fault, to: To) {
-        let mode = self.mode;
-        match fault {
-            Fault::NoMode => self.is_a_mode = false,
-            Fault::NoLength => match to {
-                To::First => self.has_length[0] = false,
-                To::Second => self.has_length[1] = false,
-                To::Both => self.has_length = [false; 2],
-            },
-            Fault::Inactive => {
-                if let Some(inactive) = place(random, store, is_inactive) {
-                    for handle in &mut self.handles {
-                        *handle = moved(store, handle, inactive, mode);
-                    }
-                }
-            }
-            Fault::Apart => {
-                let handle = match to {
-                    To::Second => &mut self.handles[1],
-                    _ => &mut self.handles[0],
-                };
-                let elsewhere = apart(random, store, handle);
-                *handle = moved(store, handle, elsewhere, mode);
-            }
-            _ => {
-                let chosen = match to {
-                    To::First => &mut self.handles[..1],
-                    To::Second => &mut self.handles[1..],
-                    To::Both => &mut self.handles[..],
-                };
-                let choice = random.number();
-                for handle in chosen {
-                    match fault {
-                        Fault::Gapped => *handle = with_a_gap(random, store, handle, mode),
-                        Fault::NotValid => *handle = not_valid(random, store, handle, mode),
-                        Fault::OtherWidth => *handle = of_other_width(choice, store, handle, mode),
-                        _ => to_no_place(choice, handle),
-                    }
+        Fault::Apart => {
+            let handle = &mut handles[to[0]];
+            let elsewhere = apart(random, store, handle);
+            *handle = moved(store, handle, elsewhere, mode);
+        }
+        _ => {
+            let choice = random.number();
+            for at in to {
+                let handle = &mut handles[*at];
+                match fault {
+                    Fault::Gapped => *handle = with_a_gap(random, store, handle, mode),
+                    Fault::NotValid => *handle = not_valid(random, store, handle, mode),
+                    Fault::OtherWidth => *handle = of_other_width(choice, store, handle, mode),
+                    _ => to_no_place(choice, handle),
                 }
             }
         }
@@ -180,7 +135,7 @@ fn apart(random: &mut Random, store: &Store, handle: &Handle) -> (u16, u8) {
     if random.one_in(2) && places.iter().any(inactive) {
         places.retain(inactive);
     }
-    let (node, local) = *random.pick(&places).expect("there are others");
+    let (node, local) = random.one_of(&places);
     (node as u16, local as u8)
 }
 

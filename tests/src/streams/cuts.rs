@@ -11,11 +11,8 @@ const LENGTHS: [usize; 8] =
 /// Two pieces, with the border here.
 const BORDERS: [usize; 6] = [1, RECORD_BYTES, NODE_BYTES, MOST_LIST_BYTES, MOST_LIST_BYTES + 1, SPACE];
 
-/// Pieces of a list, and what they are called.
-pub struct Cut<'a> {
-    pub name: String,
-    pub pieces: Vec<&'a [u8]>,
-}
+/// What the pieces of a list are called, and the pieces.
+type Cut<'a> = (String, Vec<&'a [u8]>);
 
 /// Pieces of up to `most` bytes, none of them empty.
 pub fn by_chance<'a>(list: &'a [u8], most: usize, random: &mut Random) -> Vec<&'a [u8]> {
@@ -32,22 +29,13 @@ pub fn by_chance<'a>(list: &'a [u8], most: usize, random: &mut Random) -> Vec<&'
 
 /// The ways in which a list is cut; no piece is empty.
 pub fn of<'a>(list: &'a [u8], random: &mut Random) -> Vec<Cut<'a>> {
-    let cut = |name: String, pieces: Vec<&'a [u8]>| Cut { name, pieces };
-    let mut cuts = Vec::new();
-    for length in LENGTHS {
-        let name = format!("in pieces of {length}");
-        cuts.push(cut(name, list.chunks(length).collect()));
-    }
-    let last = list.len().saturating_sub(1);
-    for border in BORDERS.into_iter().chain([last]) {
-        if (1..list.len()).contains(&border) {
-            let (first, second) = list.split_at(border);
-            cuts.push(cut(format!("cut at {border}"), vec![first, second]));
-        }
-    }
-    for most in [RECORD_BYTES, NODE_BYTES] {
-        let pieces = by_chance(list, most, random);
-        cuts.push(cut(format!("in pieces by chance, up to {most}"), pieces));
-    }
-    cuts
+    let lengths = LENGTHS.into_iter().map(|length| (format!("in pieces of {length}"), list.chunks(length).collect()));
+    let borders = BORDERS.into_iter().chain([list.len().saturating_sub(1)]);
+    let borders = borders.filter(|border| (1..list.len()).contains(border)).map(|border| {
+        let (first, second) = list.split_at(border);
+        (format!("cut at {border}"), vec![first, second])
+    });
+    let chance = [RECORD_BYTES, NODE_BYTES]
+        .map(|most| (format!("in pieces by chance, up to {most}"), by_chance(list, most, random)));
+    lengths.chain(borders).chain(chance).collect()
 }

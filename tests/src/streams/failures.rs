@@ -27,16 +27,11 @@ fn reading(program: &Program, input: io::Result<impl Into<Stdio>>) -> io::Result
 }
 
 /// These bytes, and then no end: a read that finds nothing fails.
-fn breaking_off(bytes: &[u8]) -> io::Result<(UnixStream, OwnedFd)> {
+fn broken_off(program: &Program, bytes: &[u8]) -> io::Result<Outcome> {
     let (mut ours, theirs) = UnixStream::pair()?;
     ours.write_all(bytes)?;
     theirs.set_nonblocking(true)?;
-    Ok((ours, theirs.into()))
-}
-
-fn broken_off(program: &Program, bytes: &[u8]) -> io::Result<Outcome> {
-    let (ours, theirs) = breaking_off(bytes)?;
-    let outcome = reading(program, Ok(theirs));
+    let outcome = reading(program, Ok(OwnedFd::from(theirs)));
     drop(ours);
     outcome
 }
@@ -103,11 +98,9 @@ pub fn of_writes(program: &Program, list: &[u8]) -> Checked {
 pub fn of_a_later_write(program: &Program, list: &[u8]) -> Checked {
     let way = "a file that may not grow";
     let text = output(list);
-    let name = format!("streams-against-{}", std::process::id());
-    let path = std::env::temp_dir().join(name);
-    let limited = program.command_after("trap '' XFSZ\nulimit -f 1");
+    let path = std::env::temp_dir().join(format!("streams-against-{}", std::process::id()));
     let found = File::create(&path).and_then(|file| {
-        let mut command = limited;
+        let mut command = program.command_after("trap '' XFSZ\nulimit -f 1");
         command.stdout(file);
         let outcome = writing(command, list)?;
         let output = fs::read(&path)?;
@@ -115,11 +108,9 @@ pub fn of_a_later_write(program: &Program, list: &[u8]) -> Checked {
     });
     let _ = fs::remove_file(&path);
     let found = found.map_err(|mistake| format!("{way}: {mistake}"))?;
-    let part = !found.output.is_empty() && found.output.len() < text.len() && text.starts_with(&found.output);
-    let expected = Outcome::ended(&found.output, UNWRITTEN);
-    if part {
-        check(way, &expected, Ok(found))
-    } else {
-        Err(unequal(way, "a part of the text", found))
+    let is_part = !found.output.is_empty() && found.output.len() < text.len() && text.starts_with(&found.output);
+    match is_part {
+        true => check(way, &Outcome::ended(&found.output, UNWRITTEN), Ok(found)),
+        false => Err(unequal(way, "a part of the text", found)),
     }
 }

@@ -56,9 +56,9 @@ pub fn in_pieces(program: &Program, list: &[u8], random: &mut Random) -> Checked
     all([
         check(&way("on a pipe"), &expected, program.answer(list)),
         check(&way("on a pipe with pauses"), &expected, with_pauses(program, &paused)),
-        all(cuts::of(list, random).iter().map(|cut| {
-            let found = piece_by_piece(program, &cut.pieces);
-            check(&way(&cut.name), &expected, found)
+        all(cuts::of(list, random).iter().map(|(name, pieces)| {
+            let found = piece_by_piece(program, pieces);
+            check(&way(name), &expected, found)
         })),
     ])
 }

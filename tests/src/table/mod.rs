@@ -1,72 +1,55 @@
 //! The numbers that a call may be turned down with, their words and their order.
 
-mod concerns;
 mod rows;
 
-use crate::call::Call;
-use crate::handle::Handle;
-use crate::sizes::MEMORY_BYTES;
-use crate::store::{Cluster, Extent, Segment, Store};
+use crate::words::*;
+use Kind::*;
+use Of::{AllBut, These};
 
-pub const DONE: u8 = 0;
-pub const UNSOUND: u8 = 1;
-pub const NO_SUCH_PLACE: u8 = 2;
-pub const FIELD: u8 = 3;
-pub const GAPPED: u8 = 4;
-pub const ELSEWHERE: u8 = 5;
-pub const IN_USE: u8 = 6;
-pub const TWINS: u8 = 7;
-pub const INACTIVE: u8 = 8;
-pub const VIOLATED_PROTECTION: u8 = 9;
-pub const NOT_PRIMARY: u8 = 10;
-pub const NOT_REFERENCED: u8 = 11;
-pub const OLD_PASSWORD: u8 = 12;
-pub const PRESENT: u8 = 13;
-pub const ABSENT: u8 = 14;
-pub const SHORT: u8 = 15;
-pub const NO_ROOM: u8 = 16;
-pub const SPENT: u8 = 17;
-pub const LIST_LENGTH: u8 = 18;
-pub const LINK: u8 = 19;
-pub const LOOP: u8 = 20;
-pub const EMPTY: u8 = 21;
-pub const FROZEN: u8 = 22;
-pub const WHOLE: u8 = 23;
-pub const APART: u8 = 24;
-pub const LENGTH: u8 = 25;
+/// Constants for numbers, and the list of them with their words.
+macro_rules! numbered {
+    ($(#[$about:meta])* $list:ident: $($name:ident = $number:literal $word:literal),* $(,)?) => {
+        $(pub const $name: u8 = $number;)*
+        $(#[$about])*
+        pub const $list: [(u8, &str); [$($number),*].len()] = [$(($name, $word)),*];
+    };
+}
+pub(crate) use numbered;
 
-const WORDS: [&str; 26] = [
-    "done",
-    "unsound",
-    "no such place",
-    "field",
-    "gapped",
-    "elsewhere",
-    "in use",
-    "twins",
-    "inactive",
-    "violated protection",
-    "not primary",
-    "not referenced",
-    "old password",
-    "present",
-    "absent",
-    "short",
-    "no room",
-    "spent",
-    "list length",
-    "link",
-    "loop",
-    "empty",
-    "frozen",
-    "whole",
-    "apart",
-    "length",
-];
+numbered! {
+    /// All numbers, each at its own place.
+    NUMBERS:
+    DONE = 0 "done",
+    UNSOUND = 1 "unsound",
+    NO_SUCH_PLACE = 2 "no such place",
+    FIELD = 3 "field",
+    GAPPED = 4 "gapped",
+    ELSEWHERE = 5 "elsewhere",
+    IN_USE = 6 "in use",
+    TWINS = 7 "twins",
+    INACTIVE = 8 "inactive",
+    VIOLATED_PROTECTION = 9 "violated protection",
+    NOT_PRIMARY = 10 "not primary",
+    NOT_REFERENCED = 11 "not referenced",
+    OLD_PASSWORD = 12 "old password",
+    PRESENT = 13 "present",
+    ABSENT = 14 "absent",
+    SHORT = 15 "short",
+    NO_ROOM = 16 "no room",
+    SPENT = 17 "spent",
+    LIST_LENGTH = 18 "list length",
+    LINK = 19 "link",
+    LOOP = 20 "loop",
+    EMPTY = 21 "empty",
+    FROZEN = 22 "frozen",
+    WHOLE = 23 "whole",
+    APART = 24 "apart",
+    LENGTH = 25 "length",
+}
 
 /// The word that stands beside `number` in the table.
 pub fn word(number: u8) -> Option<&'static str> {
-    WORDS.get(usize::from(number)).copied()
+    NUMBERS.get(usize::from(number)).map(|(_, word)| *word)
 }
 
 /// What a call finds: the records, how long the memory is, how long the buffer (or the data) is.
@@ -80,11 +63,6 @@ impl Found<'_> {
     /// With a memory that is as long as it should be.
     pub fn whole(store: &Store, buffer_bytes: usize) -> Found<'_> {
         Found { store, memory_bytes: MEMORY_BYTES, buffer_bytes }
-    }
-
-    /// The cluster that a handle names, if there is such a place.
-    fn cluster_of(&self, handle: &Handle) -> Option<&Cluster> {
-        self.store.cluster_of(handle)
     }
 }
 
@@ -108,8 +86,24 @@ impl<'a> Asked<'a> {
         self.handle.iter().chain(&self.other)
     }
 
+    /// The two of a join.
+    fn both(&self) -> Option<(Handle, Handle)> {
+        self.handle.zip(self.other)
+    }
+
+    fn handle_and_segment(&self) -> Option<(Handle, u32)> {
+        self.handle.zip(self.call.segment())
+    }
+
+    fn handle_and_mask(&self) -> Option<(Handle, u16)> {
+        match *self.call {
+            Call::Weaken { mask, .. } => Some((self.handle?, mask)),
+            _ => None,
+        }
+    }
+
     fn named_cluster(&self) -> Option<&Cluster> {
-        self.found.cluster_of(self.handle.as_ref()?)
+        self.found.store.cluster_of(self.handle.as_ref()?)
     }
 
     fn named_segment(&self) -> Option<&Segment> {
@@ -117,44 +111,63 @@ impl<'a> Asked<'a> {
         self.named_cluster()?.segments.get(segment)
     }
 
-    fn named_extent(&self) -> Option<Extent> {
-        self.named_segment()?.extent()
+    /// Whether the call has to validate its handles, and this is so of one of them and its cluster.
+    fn any_judged(&self, test: impl Fn(&Handle, &Cluster, Mode) -> bool) -> bool {
+        let judged = |handle, mode| {
+            let cluster = self.found.store.cluster_of(handle);
+            cluster.is_some_and(|cluster| test(handle, cluster, mode))
+        };
+        self.call.needed_mode().is_some_and(|mode| self.handles().any(|handle| judged(handle, mode)))
     }
 }
 
-type Concerns = fn(&Call) -> bool;
-type Test = fn(&Asked) -> bool;
+/// The calls that a row concerns.
+enum Of {
+    These(&'static [Kind]),
+    AllBut(&'static [Kind]),
+}
+
+impl Of {
+    fn has(&self, kind: Kind) -> bool {
+        match self {
+            These(kinds) => kinds.contains(&kind),
+            AllBut(kinds) => !kinds.contains(&kind),
+        }
+    }
+}
+
+type Row = (u8, Of, fn(&Asked) -> bool);
 
 /// The rows that concern calls, in the table's order; a number added later stands at the place named
 /// for it. Two have two places: 22, one for call 2 and one for calls 4 and 6, and 25, first for
 /// lengths that no handle has, then for handles of another width than their cluster's. A row's test
 /// may count on its concerning the call, and on the rows above it not applying.
 #[rustfmt::skip]
-const ROWS: [(u8, Concerns, Test); 24] = [
-    (LENGTH, concerns::presenting, rows::no_length),
-    (UNSOUND, concerns::on_a_store, rows::unsound),
-    (NO_SUCH_PLACE, concerns::all, rows::no_such_place),
-    (FIELD, concerns::with_a_field, rows::field),
-    (GAPPED, concerns::presenting, rows::gapped),
-    (APART, concerns::is_join, rows::apart),
-    (ELSEWHERE, concerns::local, rows::elsewhere),
-    (IN_USE, concerns::is_new_cluster, rows::in_use),
-    (TWINS, concerns::is_new_cluster, rows::twins),
-    (INACTIVE, concerns::validating, rows::inactive),
-    (LENGTH, concerns::validating, rows::other_width),
-    (VIOLATED_PROTECTION, concerns::validating, rows::violated_protection),
-    (WHOLE, concerns::is_join, rows::whole),
-    (NOT_PRIMARY, Call::needs_primary, rows::not_primary),
-    (FROZEN, concerns::is_delete_cluster, rows::frozen_in_the_cluster),
-    (NOT_REFERENCED, Call::reaches_bytes, rows::not_referenced),
-    (OLD_PASSWORD, concerns::is_new_password, rows::old_password),
-    (PRESENT, concerns::is_new_segment, rows::present),
-    (ABSENT, concerns::present_segments, rows::absent),
-    (FROZEN, concerns::altering_segments, rows::frozen),
-    (SHORT, Call::moves_bytes, rows::short),
-    (NO_ROOM, concerns::is_new_segment, rows::no_room),
-    (EMPTY, concerns::is_weaken, rows::empty),
-    (SPENT, concerns::is_weaken, rows::spent),
+const ROWS: [Row; 24] = [
+    (LENGTH, AllBut(&[NewCluster]), rows::no_length),
+    (UNSOUND, AllBut(&[Weaken]), |asked| !asked.found.store.is_sound(asked.found.memory_bytes)),
+    (NO_SUCH_PLACE, AllBut(&[]), rows::no_such_place),
+    (FIELD, AllBut(&[DeleteCluster, Weaken]), rows::field),
+    (GAPPED, AllBut(&[NewCluster]), |asked| asked.handles().any(|handle| handle.selector.is_gapped())),
+    (APART, These(&[Join]), |asked| asked.both().is_some_and(|(handle, other)| handle.name() != other.name())),
+    (ELSEWHERE, These(&[DeleteCluster, NewSegment, DeleteSegment, Freeze, Look]), rows::elsewhere),
+    (IN_USE, These(&[NewCluster]), rows::in_use),
+    (TWINS, These(&[NewCluster]), |asked| matches!(asked.call, Call::NewCluster { read, write, .. } if read == write)),
+    (INACTIVE, AllBut(&[NewCluster, Weaken]), |asked| asked.any_judged(|_, cluster, _| !cluster.active)),
+    (LENGTH, AllBut(&[NewCluster, Weaken]), rows::other_width),
+    (VIOLATED_PROTECTION, AllBut(&[NewCluster, Weaken]), rows::violated_protection),
+    (WHOLE, These(&[Join]), rows::whole),
+    (NOT_PRIMARY, These(&[DeleteCluster, NewSegment, DeleteSegment, NewPassword, Freeze]), rows::not_primary),
+    (FROZEN, These(&[DeleteCluster]), |asked| asked.named_cluster().is_some_and(Cluster::has_frozen)),
+    (NOT_REFERENCED, These(&[Read, Write, Look]), rows::not_referenced),
+    (OLD_PASSWORD, These(&[NewPassword]), rows::old_password),
+    (PRESENT, These(&[NewSegment]), |asked| asked.named_segment().is_some_and(Segment::is_present)),
+    (ABSENT, These(&[DeleteSegment, Read, Write, Freeze, Look]), rows::absent),
+    (FROZEN, These(&[DeleteSegment, Write]), |asked| asked.named_segment().is_some_and(|segment| segment.frozen)),
+    (SHORT, These(&[Read, Write]), rows::short),
+    (NO_ROOM, These(&[NewSegment]), rows::no_room),
+    (EMPTY, These(&[Weaken]), |asked| asked.handle_and_mask().is_some_and(|(handle, mask)| handle.kept(mask) == 0)),
+    (SPENT, These(&[Weaken]), rows::spent),
 ];
 
 /// The numbers of the rows that concern calls, in the table's order; 22 and 25 come twice.
@@ -164,7 +177,7 @@ pub fn numbers_of_calls() -> impl Iterator<Item = u8> {
 
 /// The same for calls like this one, whatever it is asked with.
 pub fn numbers_of(call: &Call) -> Vec<u8> {
-    let rows = ROWS.iter().filter(|(_, concerns, _)| concerns(call));
+    let rows = ROWS.iter().filter(|(_, of, _)| of.has(call.kind()));
     rows.map(|(number, ..)| *number).collect()
 }
 
@@ -191,9 +204,8 @@ pub fn refusal_below(row: u8, call: &Call, found: &Found) -> Option<u8> {
     first_of(&ROWS[last + 1..], call, found)
 }
 
-fn first_of(rows: &[(u8, Concerns, Test)], call: &Call, found: &Found) -> Option<u8> {
+fn first_of(rows: &[Row], call: &Call, found: &Found) -> Option<u8> {
     let asked = Asked::of(call, found);
-    let mut concerned = rows.iter().filter(|(_, concerns, _)| concerns(call));
-    let row = concerned.find(|(_, _, applies)| applies(&asked))?;
-    Some(row.0)
+    let applying = rows.iter().find(|(_, of, applies)| of.has(call.kind()) && applies(&asked));
+    applying.map(|(number, ..)| *number)
 }

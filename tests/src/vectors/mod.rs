@@ -1,13 +1,11 @@
 //! The published handles: a text that a laboratory can check with a program of its own.
 //! `docs/vectors/README.md` explains the lines.
 
-mod joins;
+mod refused;
 mod tables;
-mod validations;
-mod widths;
 
 use crate::{hexadecimal::encode, words::*};
-use tables::paths;
+use tables::{Pair, Path, TABLES, WIDE_PATHS_OF_EIGHT};
 
 const HEADER: &str = "\
 # Handles for checking a program that weakens, reduces, joins or validates them. README.md beside
@@ -23,48 +21,56 @@ struct Cluster {
     write: Password,
 }
 
-impl Cluster {
-    fn primary(&self, password: Password) -> Handle {
-        Handle::primary(self.width, self.node, self.local, password)
-    }
+const fn cluster(name: &'static str, width: Width, node: u16, local: u8, read: u128, write: Password) -> Cluster {
+    Cluster { name, width, node, local, read: read.to_be_bytes(), write }
 }
 
-const CLUSTERS: [Cluster; 4] = [
-    Cluster { name: "a", width: Width::Eight, node: 0, local: 2, read: [0x11; 16], write: [0x22; 16] },
-    Cluster {
-        name: "b",
-        width: Width::Eight,
-        node: 3,
-        local: 7,
-        read: [0, 1, 2, 3, 4, 5, 6, 7, 8, 9, 10, 11, 12, 13, 14, 15],
-        write: *b"sixteen  letters",
-    },
-    Cluster { name: "c", width: Width::Eight, node: 1, local: 0, read: [0; 16], write: [0xff; 16] },
+const EIGHTS: [Cluster; 4] = [
+    cluster("a", Width::Eight, 0, 2, 0x11111111_11111111_11111111_11111111, [0x22; 16]),
+    cluster("b", Width::Eight, 3, 7, 0x00010203_04050607_08090a0b_0c0d0e0f, *b"sixteen  letters"),
+    cluster("c", Width::Eight, 1, 0, 0, [0xff; 16]),
     // The key of FIPS 197, appendix B, and the outcome there.
-    Cluster {
-        name: "d",
-        width: Width::Eight,
-        node: 2,
-        local: 5,
-        read: 0x2b7e1516_28aed2a6_abf71588_09cf4f3c_u128.to_be_bytes(),
-        write: 0x3925841d_02dc09fb_dc118597_196a0b32_u128.to_be_bytes(),
-    },
+    cluster("d", Width::Eight, 2, 5, 0x2b7e1516_28aed2a6_abf71588_09cf4f3c, OUTCOME),
+];
+const OUTCOME: Password = 0x3925841d_02dc09fb_dc118597_196a0b32_u128.to_be_bytes();
+
+const OTHERS: [Cluster; 2] = [
+    cluster("e, of four segments", Width::Four, 0, 4, 0xa0a1a2a3_a4a5a6a7_a8a9aaab_acadaeaf, [0x5a; 16]),
+    cluster(
+        "f, of sixteen segments",
+        Width::Sixteen,
+        0,
+        5,
+        0x0f1e2d3c_4b5a6978_8796a5b4_c3d2e1f0,
+        *b"full of segments",
+    ),
 ];
 
 const PARAMETERS: [u16; 8] = [0x00, 0x01, 0x20, 0x7f, 0x80, 0xf3, 0xfe, 0xff];
+const WIDE_PARAMETERS: [u16; 8] = [0x0000, 0x000e, 0x00ff, 0x0100, 0x0102, 0x7fff, 0xfffe, 0xffff];
 
-/// The whole text: what concerns handles of 23 bytes alone, and what concerns others.
+/// The whole text: what concerns handles of 23 bytes alone, and what concerns those of 21 and of 27 bytes, masks with
+/// bits above the width, and 25.
 pub fn text() -> String {
-    let mut text = HEADER.to_string();
-    text.push_str("\n# Conversion by itself.\n");
-    text.push_str(&conversions(&CLUSTERS, &PARAMETERS));
-    for cluster in &CLUSTERS {
-        text.push_str(&families(cluster));
-    }
-    text.push_str(&joins::apart(&CLUSTERS[0]));
-    text.push_str(&validations::of(&CLUSTERS[0]));
-    text.push_str(&widths::text());
-    text
+    let [first, ..] = &EIGHTS;
+    let others = |of: fn(&Cluster) -> String| OTHERS.iter().map(of).collect::<String>();
+    [
+        HEADER.to_string(),
+        "\n# Conversion by itself.\n".to_string(),
+        conversions(&EIGHTS, &PARAMETERS),
+        EIGHTS.iter().map(families).collect(),
+        refused::apart(first),
+        refused::validations(first),
+        "\n# Conversion by itself, with parameters of sixteen bits.\n".to_string(),
+        conversions(&OTHERS, &WIDE_PARAMETERS),
+        others(|cluster| families(cluster) + &refused::spent(cluster)),
+        masks_of_sixteen_bits(first),
+        others(|cluster| refused::apart(cluster) + &refused::validations(cluster)),
+        refused::other_widths(first),
+        others(refused::other_widths),
+        refused::no_length(first),
+    ]
+    .concat()
 }
 
 /// As many hexadecimal digits as the parameters and masks of these widths have.
@@ -73,6 +79,10 @@ fn digits(width: Width, number: u16) -> String {
         true => format!("{number:02x}"),
         false => format!("{number:04x}"),
     }
+}
+
+fn hex(handle: Handle) -> String {
+    encode(&handle.to_bytes())
 }
 
 fn conversions(clusters: &[Cluster], parameters: &[u16]) -> String {
@@ -85,76 +95,94 @@ fn conversions(clusters: &[Cluster], parameters: &[u16]) -> String {
     pairs.map(line).collect()
 }
 
-/// The primary handle of each mode and all that is made from it.
-fn families(cluster: &Cluster) -> String {
-    family(cluster, "read", &cluster.read) + &family(cluster, "write", &cluster.write)
-}
-
-fn family(cluster: &Cluster, mode: &'static str, primary: &Password) -> String {
-    let handle = cluster.primary(*primary);
-    let family = Family { mode, primary };
-    let mut text = format!(
-        "\n# Cluster {}, to {mode}.\nprimary {} node={:04x} local={:02x} handle={} count={}\n",
-        cluster.name,
-        family.secret(),
-        cluster.node,
-        cluster.local,
-        encode(&handle.to_bytes()),
-        handle.selector.count()
-    );
-    for masks in paths(cluster.width) {
-        text.push_str(&family.weakenings(handle, masks));
-    }
-    text.push_str(&joins::of(&family, handle));
-    text
-}
-
 /// What all handles made from one primary handle have in common.
 struct Family<'a> {
+    cluster: &'a Cluster,
     mode: &'static str,
     primary: &'a Password,
 }
 
+/// That of each mode.
+fn both_modes(cluster: &Cluster) -> [Family<'_>; 2] {
+    let family = |mode, primary| Family { cluster, mode, primary };
+    [family("read", &cluster.read), family("write", &cluster.write)]
+}
+
+/// The primary handle of each mode and all that is made from it.
+fn families(cluster: &Cluster) -> String {
+    let Cluster { name, width, node, local, .. } = cluster;
+    let table = &TABLES[*width as usize];
+    let text = both_modes(cluster).map(|family| {
+        let (mode, secret, handle) = (family.mode, family.secret(), family.handle());
+        let (bytes, count) = (hex(handle), handle.selector.count());
+        let weakened: String = table.paths.iter().map(|masks| family.weakenings(masks)).collect();
+        let joined: String = table.joined.iter().map(|pair| family.joining(pair)).collect();
+        let whole: String = table.whole.iter().map(|pair| family.pair("whole", family.both(pair), WHOLE)).collect();
+        format!(
+            "\n# Cluster {name}, to {mode}.\n\
+            primary {secret} node={node:04x} local={local:02x} handle={bytes} count={count}\n\
+            {weakened}# Joined.\n{joined}{whole}"
+        )
+    });
+    text.concat()
+}
+
+fn masks_of_sixteen_bits(cluster: &Cluster) -> String {
+    let of = |family: Family| WIDE_PATHS_OF_EIGHT.map(|masks| family.weakenings(masks)).concat();
+    format!("\n# Masks of sixteen bits, cluster {}.\n{}", cluster.name, both_modes(cluster).map(of).concat())
+}
+
 impl Family<'_> {
+    fn handle(&self) -> Handle {
+        Handle::primary(self.cluster.width, self.cluster.node, self.cluster.local, *self.primary)
+    }
+
     fn secret(&self) -> String {
         format!("mode={} primary={}", self.mode, encode(self.primary))
     }
 
+    /// The handle with these subselectors.
+    fn converted(&self, selector: Selector) -> Handle {
+        Handle::converted(self.cluster.node, self.cluster.local, self.primary, selector)
+    }
+
     /// Each weakening, and each of its outcomes reduced.
-    fn weakenings(&self, mut handle: Handle, masks: &[u16]) -> String {
+    fn weakenings(&self, masks: Path) -> String {
+        let mut handle = self.handle();
         let all: Vec<String> = masks.iter().map(|mask| digits(handle.width(), *mask)).collect();
         let between = if all.iter().all(|digits| digits.len() == 2) { "" } else { " " };
         let mut text = format!("# Masks {}.\n", all.join(between));
-        for &mask in masks {
-            let Some(weaker) = handle.weaken(mask) else {
-                text.push_str(&refused(&handle, mask));
-                break;
+        for (mask, shown) in masks.iter().zip(&all) {
+            let Some(weaker) = handle.weaken(*mask) else {
+                return text + &refused::weakening(&handle, *mask);
             };
-            let shown = digits(handle.width(), mask);
-            let weakened = format!("weakened {} mask={shown}", self.secret());
-            let reduced = format!("reduced {}", self.secret());
-            text.push_str(&outcome(&weakened, &handle, &weaker));
-            text.push_str(&outcome(&reduced, &weaker, &weaker.reduce(self.primary)));
+            let secret = self.secret();
+            text += &outcome(&format!("weakened {secret} mask={shown}"), handle, weaker);
+            text += &outcome(&format!("reduced {secret}"), weaker, weaker.reduce(self.primary));
             handle = weaker;
         }
         text
     }
+
+    /// The two handles that these masks make from the primary one.
+    fn both(&self, (first, second): &Pair) -> [Handle; 2] {
+        let weaken = |handle: Handle, mask: &u16| handle.weaken(*mask).expect("some are left");
+        [first, second].map(|masks| masks.iter().fold(self.handle(), weaken))
+    }
+
+    fn joining(&self, pair: &Pair) -> String {
+        let [one, two] = self.both(pair);
+        let new = one.join(&two, self.primary);
+        let (secret, count) = (self.secret(), new.selector.count());
+        format!("joined {secret} one={} two={} new={} count={count}\n", hex(one), hex(two), hex(new))
+    }
+
+    /// Two handles that are not joined.
+    fn pair(&self, kind: &str, [one, two]: [Handle; 2], number: u8) -> String {
+        format!("{kind} {} one={} two={} number={number}\n", self.secret(), hex(one), hex(two))
+    }
 }
 
-/// A weakening that is refused: its kind is the number's word.
-fn refused(old: &Handle, mask: u16) -> String {
-    let number = match old.kept(mask) {
-        0 => EMPTY,
-        _ => SPENT,
-    };
-    let kind = word(number).expect("the number is of the table");
-    let mask = digits(old.width(), mask);
-    let old = encode(&old.to_bytes());
-    format!("{kind} old={old} mask={mask} number={number}\n")
-}
-
-fn outcome(what: &str, old: &Handle, new: &Handle) -> String {
-    let count = new.selector.count();
-    let (old, new) = (encode(&old.to_bytes()), encode(&new.to_bytes()));
-    format!("{what} old={old} new={new} count={count}\n")
+fn outcome(what: &str, old: Handle, new: Handle) -> String {
+    format!("{what} old={} new={} count={}\n", hex(old), hex(new), new.selector.count())
 }

@@ -8,37 +8,25 @@ use super::*;
 pub struct Rest {
     pub node: u32,
     pub segment: u32,
-    /// None: the one that fits, to write.
+    /// None: the one that fits, to read for validation, to write for the others.
     pub mode: Option<u32>,
 }
 
-/// A read handle is needed by the last three.
-pub fn every(handle: &HandleBytes, other: &HandleBytes, rest: Rest) -> Vec<Call> {
-    let Rest { node, segment, mode } = rest;
-    let [write, read] = [WRITE_MODE, READ_MODE].map(|right| mode.unwrap_or(right));
-    let (size, mask, password) = (4, 1, [9; 16]);
-    let (handle, other) = (|| handle.clone(), || other.clone());
-    #[rustfmt::skip]
-    let calls = vec![
-        Call::DeleteCluster { node, handle: handle() },
-        Call::NewSegment { node, segment, size, handle: handle() },
-        Call::DeleteSegment { node, segment, handle: handle() },
-        Call::Write { segment, handle: handle() },
-        Call::Weaken { mask, handle: handle() },
-        Call::Reduce { mode: write, handle: handle() },
-        Call::NewPassword { mode: write, handle: handle(), password },
-        Call::Freeze { node, segment, handle: handle() },
-        Call::Join { mode: write, handle: handle(), other: other() },
-        Call::Read { segment, handle: handle() },
-        Call::Look { node, segment, handle: handle() },
-        Call::Validate { mode: read, handle: handle() },
-    ];
-    calls
+/// All but a new cluster. A read handle is needed by a read, a look and validation.
+pub fn every(handle: &HandleBytes, other: &HandleBytes, Rest { node, segment, mode }: Rest) -> Vec<Call> {
+    let (handle, other, password) = (handle.clone(), other.clone(), [9; 16]);
+    let mut fields = Fields { node, segment, size: 4, mask: 1, handle, other, password, ..Fields::default() };
+    let call = |kind: &Kind| {
+        let right = if *kind == Kind::Validate { READ_MODE } else { WRITE_MODE };
+        fields.mode = mode.unwrap_or(right);
+        fields.call(*kind)
+    };
+    Kind::ALL[1..].iter().map(call).collect()
 }
 
 /// Those that look at the store: all but weakening.
 pub fn looking(handle: &HandleBytes, other: &HandleBytes, rest: Rest) -> Vec<Call> {
     let mut calls = every(handle, other, rest);
-    calls.retain(|call| !matches!(call, Call::Weaken { .. }));
+    calls.retain(|call| call.kind() != Kind::Weaken);
     calls
 }

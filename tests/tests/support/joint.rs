@@ -2,6 +2,7 @@
 //! what each has to be refused with is known from the set alone.
 #![allow(dead_code)] // each test file uses its own part
 
+use super::faults::{spoiled, Faulty, OTHER_WIDTH};
 use super::*;
 
 /// The cluster that the first handle names, where that is a place.
@@ -11,9 +12,6 @@ pub const LOCAL: u8 = 6;
 pub fn union(width: Width) -> u16 {
     width.flat() >> 1
 }
-
-const READ: Password = [0x11; 16];
-const WRITE: Password = [0x22; 16];
 
 const PAIRS: usize = 5;
 
@@ -43,27 +41,8 @@ const NAMES: [((u16, u8), usize); 10] = [
 /// How many ways there are for: 25, 1, 2, 3, 4, the names, 25 again, 9, the selectors, the mode.
 const WAYS: [usize; 10] = [4, 2, 4, 2, 4, NAMES.len(), 4, 4, PAIRS, 2];
 
-/// A join, and what it is put to.
-#[derive(Debug)]
-pub struct Joint {
-    pub faults: Vec<u8>,
-    pub store: Store,
-    pub call: Call,
-    /// That of the clusters.
-    pub width: Width,
-    /// The primary password of the mode.
-    pub primary: Password,
-}
-
-impl Joint {
-    /// The first number that applies, or 0.
-    pub fn number(&self) -> u8 {
-        self.faults.first().copied().unwrap_or(0)
-    }
-}
-
 /// The first is one that is done. Each set of faults is there once, at one of the widths.
-pub fn all() -> impl Iterator<Item = Joint> {
+pub fn all() -> impl Iterator<Item = Faulty> {
     (0..WAYS.iter().product()).map(|at| {
         let mut rest = at;
         let choices = WAYS.map(|ways| {
@@ -75,25 +54,15 @@ pub fn all() -> impl Iterator<Item = Joint> {
     })
 }
 
-fn with(choices: [usize; 10], width: Width) -> Joint {
+fn with(choices: [usize; 10], width: Width) -> Faulty {
     let [cut_off, unsound, nowhere, field, gapped, names, wide, violated, selectors, write] = choices;
     let ((more_nodes, more_locals), inactive) = NAMES[names];
-    let apart = NAMES[names].0 != (0, 0);
-    let applying = [
-        (cut_off, 25),
-        (unsound, 1),
-        (nowhere, 2),
-        (field, 3),
-        (gapped, 4),
-        (usize::from(apart), 24),
-        (inactive, 8),
-        (wide, 25),
-        (violated, 9),
-        (selectors, 23),
-    ];
-    let mode = [Mode::Read, Mode::Write][write];
+    let apart = usize::from(NAMES[names].0 != (0, 0));
+    let applying = [cut_off, unsound, nowhere, field, gapped, apart, inactive, wide, violated, selectors];
+    let applying = applying.into_iter().zip([25, 1, 2, 3, 4, 24, 8, OTHER_WIDTH, 9, 23]);
+    let mode = Mode::ALL[write];
     let places = [(NODE, LOCAL), (NODE + more_nodes, LOCAL + more_locals)];
-    let store = store(places, width, inactive);
+    let mut store = store(places, width, inactive);
     let handle = |at: usize| -> HandleBytes {
         let has = |fault: usize| fault >> at & 1 == 1;
         let (node, local) = places[at];
@@ -104,44 +73,30 @@ fn with(choices: [usize; 10], width: Width) -> Joint {
             true => [own.flat(), pairs(own)[0][at][0], own.flat(), own.flat()],
             false => pairs(own)[selectors][at],
         };
-        let selector = Selector::new(own, selector);
-        let mut handle = Handle::converted(node, local, cluster.primary(mode), selector);
-        handle.password[15] ^= u8::from(has(violated));
-        handle.node += 4 * u16::from(has(nowhere));
-        match has(cut_off) {
-            true => cut(handle, choices.iter().sum()),
-            false => handle.into(),
-        }
+        let handle = Handle::converted(node, local, cluster.primary(mode), Selector::new(own, selector));
+        spoiled(handle, has(violated), has(nowhere), has(cut_off).then(|| choices.iter().sum()))
     };
-    let mut put_to = store.clone();
+    let call = Call::join([1, 2, 0, 3][2 * field + write], handle(0), handle(1));
     if unsound == 1 {
-        make_unsound(&mut put_to);
+        make_unsound(&mut store);
     }
-    Joint {
-        faults: applying.iter().filter(|(fault, _)| *fault != 0).map(|(_, number)| *number).collect(),
-        call: Call::join([1, 2, 0, 3][2 * field + write], handle(0), handle(1)),
-        width,
-        primary: [READ, WRITE][write],
-        store: put_to,
-    }
+    let faults = applying.filter(|(fault, _)| *fault != 0).map(|(_, number)| number).collect();
+    Faulty { faults, store, call, width, segment: 0, buffer_bytes: 0 }
 }
 
 /// Both places are active but for those that are not to be; the passwords are the same everywhere, so that the names
 /// alone tell the clusters from one another.
 fn store(places: [(u16, u8); 2], width: Width, inactive: usize) -> Store {
     let mut store = Store::starting();
-    store.clusters[0][0] = active(width);
+    let active = Cluster::new(width, READ_SECRET, WRITE_SECRET);
+    store.clusters[0][0] = active;
     store.clusters[0][0].segments[3] = Segment::present(0, 9).marked();
     for (at, (node, local)) in places.into_iter().enumerate() {
         let cluster = &mut store.clusters[usize::from(node)][usize::from(local)];
         if inactive >> at & 1 == 0 {
-            *cluster = active(width);
+            *cluster = active;
             cluster.segments[0] = Segment::present(at as u16, 1);
         }
     }
     store
-}
-
-fn active(width: Width) -> Cluster {
-    Cluster::new(width, READ, WRITE)
 }

@@ -1,11 +1,7 @@
 //! A store, a memory and shorthands for asking it things.
 #![allow(dead_code, unused_imports)] // each test file uses its own part
 
-pub use model::call::{Call, Part, Reply};
-pub use model::handle::{convert, derive, Handle, HandleBytes, Password, Selector, Width};
-pub use model::random::Random;
-pub use model::sizes::{CLUSTERS, MEMORY_BYTES, NODES, NODE_BYTES, SEGMENTS};
-pub use model::store::{Cluster, Extent, Mode, Place, Segment, Store};
+pub use model::words::*;
 
 #[cfg(of_the_library)]
 use library::guard::run;
@@ -17,8 +13,16 @@ pub mod every;
 pub mod faults;
 pub mod joint;
 pub mod naive;
-pub mod renewed;
 pub mod valid;
+
+/// New passwords with every set of faults.
+pub mod renewed {
+    use super::faults::{self, Faulty, Kind};
+
+    pub fn all() -> impl Iterator<Item = Faulty> {
+        faults::all(Kind::NewPassword)
+    }
+}
 
 pub const READ_SECRET: Password = [0x11; 16];
 pub const WRITE_SECRET: Password = [0x22; 16];
@@ -74,6 +78,14 @@ impl Bench {
         self.ask(call, &mut [0; NODE_BYTES])
     }
 
+    /// The call is refused, and changes nothing, not even a buffer.
+    pub fn refuses(&self, call: &Call, number: u8) {
+        let (mut left, mut buffer) = (self.clone(), [0xee; 4]);
+        let reply = left.ask(call, &mut buffer);
+        assert_eq!(reply, Reply::refused(number), "{call:?}");
+        assert!(left == *self && buffer == [0xee; 4], "{call:?}");
+    }
+
     pub fn write(&mut self, segment: u32, data: &[u8], handle: impl Into<HandleBytes>) -> u8 {
         self.ask(Call::write(segment, handle), &mut data.to_vec()).number
     }
@@ -97,19 +109,19 @@ impl Bench {
         let call = Call::look(node, segment, handle);
         let reply = self.ask(&call, &mut buffer);
         assert!(*self == before && buffer == [0xee; 3], "{call:?}");
-        let shown = reply.shown;
-        let number = reply.number;
+        let Reply { number, shown, .. } = reply;
+        let shown = if number == 0 { shown } else { Part::NONE };
+        assert_eq!(reply, Reply { shown, ..Reply::refused(number) });
         match number {
-            0 => {
-                assert_eq!(reply, Reply { shown, ..Reply::DONE });
-                Ok(shown.of(&self.memory).expect("a part of it").to_vec())
-            }
-            _ => {
-                assert_eq!(reply, Reply::refused(number));
-                Err(number)
-            }
+            0 => Ok(shown.of(&self.memory).expect("a part of it").to_vec()),
+            _ => Err(number),
         }
     }
+}
+
+/// Cluster 2 of node 0 with its segment, at each width.
+pub fn benches() -> impl Iterator<Item = (Width, Bench)> {
+    Width::ALL.into_iter().map(|width| (width, Bench::with_segment_of(width)))
 }
 
 /// A store with cluster 3 of node 1, which has one segment.
@@ -121,6 +133,39 @@ pub fn store_of(width: Width) -> Store {
     store
 }
 
+/// A segment in an inactive cluster that goes beyond its node, marks where no segment is, and what widths do: a width
+/// that is none, one that an inactive cluster has, a segment at or above it, and a cluster's own made another.
+pub fn damaged(width: Width) -> Vec<Store> {
+    let put = |(node, local): (usize, usize), at: usize, segment| {
+        let mut store = store_of(width);
+        store.clusters[node][local].segments[at] = segment;
+        store
+    };
+    let resized = |(node, local): (usize, usize), number| {
+        let mut store = store_of(width);
+        store.clusters[node][local].width = number;
+        store
+    };
+    let mut damaged = vec![
+        put((3, 7), 3, Segment::present(4000, 97)),
+        put((3, 7), 3, Segment::ABSENT.marked()),
+        put((3, 7), 15, Segment::ABSENT.marked()),
+        put((1, 3), 3, Segment::ABSENT.marked()),
+        resized((3, 7), 4),
+        resized((3, 7), 8),
+        resized((3, 7), 255),
+        resized((1, 3), 0),
+        resized((1, 3), 5),
+        resized((1, 3), 17),
+    ];
+    if width != Width::Sixteen {
+        let at = width.segments();
+        damaged.push(put((1, 3), at, Segment::present(100, 1)));
+        damaged.push(put((1, 3), 15, Segment::present(100, 1)));
+    }
+    damaged
+}
+
 /// Makes a store unsound where no call of these tests is about: an inactive cluster has a width.
 pub fn make_unsound(store: &mut Store) {
     store.clusters[1][7].width = Width::Eight.number();
@@ -129,6 +174,18 @@ pub fn make_unsound(store: &mut Store) {
 /// A selector of width 8.
 pub fn eight(subselectors: [u16; 4]) -> Selector {
     Selector::new(Width::Eight, subselectors)
+}
+
+/// A handle of cluster 2 of node 0 to read, with the password that goes with its subselectors.
+pub fn reading(width: Width, subselectors: [u16; 4]) -> Handle {
+    Handle::converted(0, 2, &READ_SECRET, Selector::new(width, subselectors))
+}
+
+/// The cluster's handle for these segments in the form of a reduced one, by a single conversion.
+pub fn noted(width: Width, primary: &Password, segments: u16) -> Handle {
+    let mut handle = Handle::primary(width, 0, 2, convert(primary, segments));
+    handle.selector.subselectors[0] = segments;
+    handle
 }
 
 /// The segment of [`Bench::with_segment_of`]: 1, 5 or 13.
@@ -207,12 +264,4 @@ pub fn freeze(segment: u32) -> Call {
 
 pub fn freeze_of(width: Width, segment: u32) -> Call {
     Call::freeze(0, segment, writer_of(width))
-}
-
-pub fn renew(mode: u32, handle: impl Into<HandleBytes>, password: Password) -> Call {
-    Call::new_password(mode, handle, password)
-}
-
-pub fn join(mode: u32, handle: impl Into<HandleBytes>, other: impl Into<HandleBytes>) -> Call {
-    Call::join(mode, handle, other)
 }
