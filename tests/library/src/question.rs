@@ -28,6 +28,11 @@ pub fn name(code: u8) -> &'static str {
     }
 }
 
+/// A number as the model takes it.
+pub fn narrow(number: usize) -> u32 {
+    u32::try_from(number).unwrap_or(BEYOND)
+}
+
 pub type Memory = [u8; MEMORY_BYTES];
 
 /// What a caller keeps and lends to calls.
@@ -89,6 +94,23 @@ impl Question {
     /// The bytes of every handle that the call presents.
     pub fn presented_mut(&mut self) -> Vec<&mut HandleBytes> {
         self.call.presented_mut()
+    }
+
+    /// Current node, segment and mode of a call by handles, those of them that it has.
+    pub fn numbers_mut(&mut self) -> [Option<&mut u32>; 3] {
+        match &mut self.call {
+            Call::NewCluster { .. } | Call::Weaken { .. } => [None, None, None],
+            Call::DeleteCluster { node, .. } => [Some(node), None, None],
+            Call::NewSegment { node, segment, .. }
+            | Call::DeleteSegment { node, segment, .. }
+            | Call::Freeze { node, segment, .. }
+            | Call::Look { node, segment, .. } => [Some(node), Some(segment), None],
+            Call::Read { segment, .. } | Call::Write { segment, .. } => [None, Some(segment), None],
+            Call::Reduce { mode, .. }
+            | Call::NewPassword { mode, .. }
+            | Call::Join { mode, .. }
+            | Call::Validate { mode, .. } => [None, None, Some(mode)],
+        }
     }
 
     /// The same with every handle changed that the call presents.

@@ -1,10 +1,8 @@
 //! A question as a wrong library sees it.
 
-use library::guard;
-use library::image::{decode, encode};
-use library::pairs::parts_of;
-use library::question::{Held, Question};
-use model::words::*;
+use crate::wrong::in_one_byte;
+use library::{guard, pairs::parts_of, words::*};
+use std::ops::Range;
 
 /// A question by a handle of one of the three lengths, and what it is put to.
 pub struct Seen {
@@ -31,7 +29,7 @@ impl Seen {
     }
 
     /// Node and local number of the cluster that the handle names.
-    fn place(&self) -> (usize, usize) {
+    pub fn place(&self) -> (usize, usize) {
         (self.handle.node.into(), self.handle.local.into())
     }
 
@@ -120,10 +118,13 @@ impl Seen {
         self.question.call.needed_mode()
     }
 
-    /// The handle is not made from the password of the call's mode.
+    /// The password of the call's mode.
+    pub fn primary(&self) -> Option<Password> {
+        Some(*self.cluster()?.primary(self.mode()?))
+    }
+
     pub fn is_forged(&self) -> bool {
-        let needed = self.mode().zip(self.cluster());
-        needed.is_some_and(|(mode, own)| !self.handle.is_made_from(own.primary(mode)))
+        self.primary().is_some_and(|primary| !self.handle.is_made_from(&primary))
     }
 
     pub fn has_another_width(&self) -> bool {
@@ -134,7 +135,7 @@ impl Seen {
     /// What the library replies to the same call in the node of its handle.
     pub fn at_home(&self) -> Reply {
         self.asked(|_, question| {
-            if let Call::Look { node, .. } | Call::Freeze { node, .. } = &mut question.call {
+            if let [Some(node), ..] = question.numbers_mut() {
                 *node = self.handle.node.into();
             }
         })
@@ -148,16 +149,16 @@ impl Seen {
         Some(self.at_home()).filter(Reply::is_done)
     }
 
+    /// What it replies where some of its numbers are taken in their lowest byte alone, if that is done.
+    pub fn done_in_one_byte(&self, numbers: Range<usize>) -> Option<Reply> {
+        self.done(|_, question| question.numbers_mut()[numbers].iter_mut().flatten().for_each(|cut| in_one_byte(cut)))
+    }
+
     /// What it replies where the call is by the primary handle of its mode, if that is done.
     pub fn done_by_the_primary_handle(&self) -> Option<Reply> {
-        let password = *self.cluster()?.primary(self.mode()?);
         let (node, local) = self.handle.name();
-        let primary = Handle::primary(self.handle.width(), node, local, password);
-        self.done(|_, question| {
-            if let Some(handle) = question.handle_mut() {
-                *handle = primary.to_bytes();
-            }
-        })
+        let primary = Handle::primary(self.handle.width(), node, local, self.primary()?);
+        self.done(|_, question| *question.handle_mut().expect("there is one") = primary.to_bytes())
     }
 
     /// What it replies where the password of the call's mode is the other's, if that is done.

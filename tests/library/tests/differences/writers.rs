@@ -26,13 +26,9 @@ fn is_odd(seen: &Seen) -> bool {
     first.is_some_and(|byte| byte % 2 == 1)
 }
 
-fn is_not_zero(seen: &Seen) -> bool {
-    seen.there().is_some_and(|there| !is_zero(there))
-}
-
 /// Refuses with 22, for what lies there, what would be done.
-fn kept_by(code: u8, applies: fn(&Seen) -> bool) -> Wrong {
-    refusing(code, 0, 22, applies)
+fn kept_by(code: u8, applies: fn(&Seen) -> bool) -> Row {
+    (refusing(code, 0, 22, applies), writers(code, REPLIES))
 }
 
 /// A write that is done comes to something else by what lay there.
@@ -70,14 +66,13 @@ fn reading_and_refusing(held: &mut Held, question: &Question) -> Answer {
 
 // What hangs on the bytes of the segment, or of the cluster's segments.
 table! {
-    a_refusal_for_the_byte_that_is_there_write: kept_by(WRITE, is_odd) => writers(WRITE, REPLIES);
-    a_refusal_for_the_byte_that_is_there_delete: kept_by(DELETE_SEGMENT, is_odd) => writers(DELETE_SEGMENT, REPLIES);
-    a_refusal_for_the_byte_that_is_there_freeze: kept_by(FREEZE, is_odd) => writers(FREEZE, REPLIES);
+    a_refusal_for_the_byte_that_is_there_write: kept_by(WRITE, is_odd);
+    a_refusal_for_the_byte_that_is_there_delete: kept_by(DELETE_SEGMENT, is_odd);
+    a_refusal_for_the_byte_that_is_there_freeze: kept_by(FREEZE, is_odd);
     a_cluster_that_is_not_deleted_while_something_lies_there:
-        kept_by(DELETE_CLUSTER, |seen| !seen.in_the_cluster().into_iter().all(is_zero))
-        => writers(DELETE_CLUSTER, REPLIES);
-    a_segment_that_is_not_deleted_while_something_lies_there: kept_by(DELETE_SEGMENT, is_not_zero)
-        => writers(DELETE_SEGMENT, REPLIES);
+        kept_by(DELETE_CLUSTER, |seen| !seen.in_the_cluster().into_iter().all(is_zero));
+    a_segment_that_is_not_deleted_while_something_lies_there:
+        kept_by(DELETE_SEGMENT, |seen| seen.there().is_some_and(|there| !is_zero(there)));
     a_write_that_gives_back_what_was_there: written(|it, there| it.buffer[..there.len()].copy_from_slice(there))
         => writers(WRITE, BUFFERS);
     /// The data of some writes is what lies there in one of the copies.
@@ -102,15 +97,16 @@ fn new_segment(it: &After) -> (usize, Extent) {
 }
 
 /// Leaves some bytes of a new segment as they had been: those at these places, of so many.
-fn not_cleared(kept: fn(usize, usize) -> bool) -> Wrong {
-    on(NEW_SEGMENT, 0, move |it| {
+fn not_cleared(kept: fn(usize, usize) -> bool) -> Row {
+    let wrong = on(NEW_SEGMENT, 0, move |it| {
         let (node, extent) = new_segment(it);
         for (at, place) in extent.in_memory(node).enumerate() {
             if kept(at, extent.length) {
                 it.held.memory[place] = it.before.memory[place];
             }
         }
-    })
+    });
+    (wrong, writers(NEW_SEGMENT, SEGMENTS))
 }
 
 /// The least base at which so many zeros lie in memory that is no segment's.
@@ -168,11 +164,10 @@ fn a_byte_more(it: &mut After) {
 
 // What hangs on memory that is no segment's, and that may have been one of the cluster's.
 table! {
-    a_new_segment_that_is_not_cleared: not_cleared(|_, _| true) => writers(NEW_SEGMENT, SEGMENTS);
-    a_new_segment_that_is_not_cleared_first: not_cleared(|at, _| at == 0) => writers(NEW_SEGMENT, SEGMENTS);
-    a_new_segment_that_is_not_cleared_last:
-        not_cleared(|at, length| at + 1 == length) => writers(NEW_SEGMENT, SEGMENTS);
-    a_new_segment_that_is_not_cleared_from_64_on: not_cleared(|at, _| at >= 64) => writers(NEW_SEGMENT, SEGMENTS);
+    a_new_segment_that_is_not_cleared: not_cleared(|_, _| true);
+    a_new_segment_that_is_not_cleared_first: not_cleared(|at, _| at == 0);
+    a_new_segment_that_is_not_cleared_last: not_cleared(|at, length| at + 1 == length);
+    a_new_segment_that_is_not_cleared_from_64_on: not_cleared(|at, _| at >= 64);
     a_new_segment_that_keeps_off_what_lies_there: on(NEW_SEGMENT, 0, in_clean_memory) => writers(NEW_SEGMENT, RECORDS);
     a_new_segment_that_keeps_off_what_lies_there_refused: instead(NEW_SEGMENT, 0, no_room)
         => writers(NEW_SEGMENT, REPLIES);
@@ -211,25 +206,22 @@ table! {
         => writers(NEW_PASSWORD, REPLIES);
 }
 
-// A handle that reads in one copy alone writes there alone.
-mod a_read_handle_that_writes {
-    use super::*;
+/// A handle that reads in one copy alone writes there alone.
+fn writes(code: u8) -> Row {
+    (either_mode(code, Mode::Write), writers(code, REPLIES))
+}
 
-    fn writes(code: u8) -> Wrong {
-        either_mode(code, Mode::Write)
-    }
-
-    table! {
-        delete_cluster: writes(DELETE_CLUSTER) => writers(DELETE_CLUSTER, REPLIES);
-        new_segment: writes(NEW_SEGMENT) => writers(NEW_SEGMENT, REPLIES);
-        delete_segment: writes(DELETE_SEGMENT) => writers(DELETE_SEGMENT, REPLIES);
-        write: writes(WRITE) => writers(WRITE, REPLIES);
-        reduce: writes(REDUCE) => writers(REDUCE, REPLIES);
-        new_password: writes(NEW_PASSWORD) => writers(NEW_PASSWORD, REPLIES);
-        freeze: writes(FREEZE) => writers(FREEZE, REPLIES);
-        join: writes(JOIN) => writers(JOIN, REPLIES);
-        validation: writes(VALIDATION) => writers(VALIDATION, REPLIES);
-    }
+table! {
+    mod a_read_handle_that_writes;
+    delete_cluster: writes(DELETE_CLUSTER);
+    new_segment: writes(NEW_SEGMENT);
+    delete_segment: writes(DELETE_SEGMENT);
+    write: writes(WRITE);
+    reduce: writes(REDUCE);
+    new_password: writes(NEW_PASSWORD);
+    freeze: writes(FREEZE);
+    join: writes(JOIN);
+    validation: writes(VALIDATION);
 }
 
 /// Tells something of the read password of a handle's cluster: to those whose call is in this mode, and who present a
@@ -240,8 +232,7 @@ fn telling(mode: Mode, has_to_open: bool) -> Wrong {
         let cluster = seen.as_ref().and_then(Seen::active);
         if let (Some(seen), Some(cluster)) = (seen, cluster) {
             if !has_to_open || !seen.is_gapped() && seen.handle.validates(&cluster, mode) {
-                let read = cluster.read.iter();
-                it.reply.count = read.fold(0, |sum, byte| (sum * 31 + u32::from(*byte)) % 65_521);
+                it.reply.count = sum_of(&cluster.read);
             }
         }
     })
@@ -267,6 +258,6 @@ fn what_tells_nothing_is_not_found_out() {
     let clearing = after(|it| it.buffer.fill(0));
     let validating = either_mode(VALIDATION, Mode::Read);
     for wrong in [right(), asked(refuse), clearing, validating] {
-        run("nothing told", &wrong, &not_by([By::Writers]));
+        run("nothing told", (wrong, not_by([By::Writers])));
     }
 }

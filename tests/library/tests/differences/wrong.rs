@@ -1,11 +1,9 @@
 //! Ways to be wrong that tables put together: another question, another answer, something left behind.
 
+use crate::driver::{numbers, Row};
 use crate::seen::Seen;
 use library::ffi::gelmuszta_handle;
-use library::guard;
-use library::image::{record_at, segment_at, Image};
-use library::question::{Answer, Held, Question};
-use model::call::{Call, Reply};
+use library::{guard, words::*};
 use std::{ops::Range, rc::Rc};
 
 pub type Ask = dyn Fn(&mut Held, &Question) -> Answer;
@@ -69,6 +67,27 @@ pub fn asking(change: impl Fn(&mut Question) + 'static) -> Wrong {
 /// Takes a mode or another number for what its low bytes say, where no four bytes hold it.
 pub fn cut_to(bytes: usize) -> Wrong {
     asking(move |question| question.beyond &= (1 << (8 * bytes)) - 1)
+}
+
+/// The same in calls with this code alone, for the lowest four.
+pub fn in_four_bytes(code: u8) -> Wrong {
+    asking(move |question| {
+        if question.code() == code {
+            question.beyond &= 0xffff_ffff;
+        }
+    })
+}
+
+/// Takes a number that four bytes hold for what its lowest says.
+pub fn in_one_byte(number: &mut u32) {
+    if *number != BEYOND {
+        *number &= 0xff;
+    }
+}
+
+/// Takes mode and width of a batch for others.
+pub fn batch_taking(taken: impl Fn(usize, usize) -> (usize, usize) + 'static) -> Wrong {
+    batch(move |held, (mode, width), handles, numbers| validate_all(held, taken(mode, width), handles, numbers))
 }
 
 /// What a call was asked of, what it was, and what has come of it.
@@ -148,21 +167,20 @@ fn after_some(meant: impl Fn(&Question) -> bool + 'static, change: impl Fn(&mut 
 
 /// The same for calls that get this number.
 pub fn at(number: u8, change: impl Fn(&mut After) + 'static) -> Wrong {
-    after(move |after| {
-        if after.reply.number == number {
-            change(after);
-        }
-    })
+    after(getting(number, change))
 }
 
 /// The same for calls with this code that get this number.
 pub fn on(code: u8, number: u8, change: impl Fn(&mut After) + 'static) -> Wrong {
-    let meant = move |question: &Question| question.code() == code;
-    after_some(meant, move |after| {
+    after_some(move |question| question.code() == code, getting(number, change))
+}
+
+fn getting(number: u8, change: impl Fn(&mut After) + 'static) -> impl Fn(&mut After) + 'static {
+    move |after| {
         if after.reply.number == number {
             change(after);
         }
-    })
+    }
 }
 
 /// Gives calls with this code that get this number what `other` has for them; nothing changes then.
@@ -176,11 +194,35 @@ pub fn instead(code: u8, number: u8, other: impl Fn(&Seen) -> Option<Reply> + 's
     })
 }
 
+/// The same with one that is done, found out by that.
+pub fn done(code: u8, right: u8, other: impl Fn(&Seen) -> Option<Reply> + 'static) -> Row {
+    (instead(code, right, other), numbers(code, right, 0))
+}
+
 /// Refuses with `wrong` what gets `right`, where this applies.
 pub fn refusing(code: u8, right: u8, wrong: u8, applies: impl Fn(&Seen) -> bool + 'static) -> Wrong {
     instead(code, right, move |seen| refused_if(applies(seen), wrong))
 }
 
+/// The same, found out by the two numbers.
+pub fn refused(code: u8, right: u8, wrong: u8, applies: impl Fn(&Seen) -> bool + 'static) -> Row {
+    (refusing(code, right, wrong, applies), numbers(code, right, wrong))
+}
+
 pub fn refused_if(applies: bool, number: u8) -> Option<Reply> {
     applies.then_some(Reply::refused(number))
+}
+
+/// Takes any password in calls with this code.
+pub fn by_any_password(code: u8) -> Wrong {
+    on(code, 9, |it| {
+        let primary = it.seen().and_then(|seen| seen.primary()).expect("9 comes after 2");
+        let other = it.question.with_handles(|handle| handle.password = derive(&primary, &handle.selector));
+        it.reply = guard::ask(it.held, &other).reply;
+    })
+}
+
+/// A number that hangs on all of these bytes.
+pub fn sum_of(bytes: &[u8]) -> u32 {
+    bytes.iter().fold(0, |sum, byte| (sum * 31 + u32::from(*byte)) % 65_521)
 }

@@ -9,7 +9,7 @@ use crate::words::*;
 
 /// By single calls and by long rows, where the model gives this number.
 fn widths(right: u8) -> Complaint {
-    told([Word::Right(right)])
+    told([Right(right)])
 }
 
 /// Whether every handle has one of the three lengths.
@@ -20,6 +20,14 @@ fn is_known(call: &Call) -> bool {
 
 fn is_none(width: usize) -> bool {
     Width::of_segments(width).is_none()
+}
+
+/// One width or length taken for another.
+fn one<const FROM: usize, const TO: usize>(number: usize) -> usize {
+    match number == FROM {
+        true => TO,
+        false => number,
+    }
 }
 
 /// Up to the next width that there is.
