@@ -86,11 +86,6 @@ pub fn every_width(guard: BatchGuard, seed: u64) -> Result<u64, String> {
     Ok(batches)
 }
 
-/// A mode as the model takes it.
-fn narrow(mode: usize) -> u32 {
-    u32::try_from(mode).unwrap_or(BEYOND)
-}
-
 fn one(guard: BatchGuard, batch: &Batch, tally: &mut Tally) -> Result<(), String> {
     let mut held = batch.held.clone();
     let mut found = batch.numbers.clone();

@@ -73,7 +73,7 @@ fn compare(task: &Task, tally: &mut Tally) -> Result<Vec<Met>, String> {
 type Asked<'a> = &'a dyn Fn() -> Result<(u64, u64), String>;
 
 fn edges(seed: u64) -> Result<(), String> {
-    let images = edges::every_byte(&guard::is_sound, seed).map_err(named("every byte"))?;
+    let (images, _) = edges::every_byte(&guard::is_sound, seed).map_err(named("every byte"))?;
     println!("images with one byte changed: {images}");
     let all: [(&str, Asked); 9] = [
         ("pairs at words", &|| edges::pairs_at_words(&guard::is_sound, seed)),

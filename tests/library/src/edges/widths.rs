@@ -1,7 +1,7 @@
 //! Handles where their length changes, and what goes by the width: handles of another than their cluster's, segments
 //! about it, masks of all sixteen bits, and the widths of new clusters.
 
-use super::{around, narrow, HIGH};
+use super::{around, each, put, Asked, HIGH};
 use crate::chance::handles::at_width;
 use crate::chance::stores::{self, active_of, present};
 use crate::words::*;
@@ -14,9 +14,6 @@ const LENGTH: usize = 5;
 const ABSENT: u32 = 3;
 const NODE: usize = 2;
 const LOCAL: usize = 6;
-
-/// How many calls there were, and how many of them were done.
-type Asked = (u64, u64);
 
 /// A store with a cluster of one width, and with calls that are done by handles of it.
 struct Known {
@@ -67,33 +64,24 @@ impl Known {
 }
 
 /// Each case with a cluster of each width.
-fn with_each(seed: u64, mut case: impl FnMut(&mut Random, Width, &Known) -> Result<(), String>) -> Result<(), String> {
-    let mut widths = Width::ALL.into_iter();
-    cases(seed, Width::ALL.len() as u64, |random| {
-        let width = widths.next().expect("there are as many cases");
+fn with_each(
+    seed: u64,
+    mut case: impl FnMut(&mut Random, Width, &Known, &mut Asked) -> Result<(), String>,
+) -> Result<Asked, String> {
+    each(seed, Width::ALL, |random, width, asked| {
         let known = Known::by_chance(random, width);
-        case(random, width, &known)
+        case(random, width, &known, asked)
     })
-}
-
-/// Puts one question to both, and counts it.
-fn put(guard: Guard, held: &Held, question: &Question, asked: &mut Asked) -> Result<(), String> {
-    let answer = ask(guard, &mut Sides::both(held.clone()), question)?;
-    asked.0 += 1;
-    asked.1 += u64::from(answer.reply.is_done());
-    Ok(())
 }
 
 /// Every call with every length byte in every handle that it takes, alone and, of two, in both; what a handle of 28
 /// bytes has behind its length is anything.
 pub fn lengths(guard: Guard, seed: u64) -> Result<Asked, String> {
-    let mut asked = (0, 0);
-    with_each(seed, |random, _, known| {
+    with_each(seed, |random, _, known, asked| {
         for question in &known.questions {
             let handles = question.call.presented_bytes().count();
-            for (held, chosen) in
-                known.each().iter().flat_map(|held| (1..1 << handles).map(move |chosen| (held, chosen)))
-            {
+            let both = known.each().into_iter().flat_map(|held| (1..1 << handles).map(move |at| (held.clone(), at)));
+            for (held, chosen) in both {
                 for length in 0..=u8::MAX.into() {
                     let more = bytes(random, length);
                     let mut question = question.clone();
@@ -103,20 +91,18 @@ pub fn lengths(guard: Guard, seed: u64) -> Result<Asked, String> {
                         handle.extend(&more);
                         handle.truncate(length);
                     }
-                    put(guard, held, &question, &mut asked)?;
+                    put(guard, &mut Sides::both(held.clone()), &question, asked)?;
                 }
             }
         }
         Ok(())
-    })?;
-    Ok(asked)
+    })
 }
 
 /// Every call by handles of each width, with the password that goes with it and with another; where it is about a
 /// segment, with each that there can be and with others.
 pub fn segments(guard: Guard, seed: u64) -> Result<Asked, String> {
-    let mut asked = (0, 0);
-    with_each(seed, |_, own, known| {
+    with_each(seed, |_, own, known, asked| {
         let cluster = &known.store.clusters[NODE][LOCAL];
         for (question, width) in known.questions.iter().flat_map(|question| Width::ALL.map(|width| (question, width))) {
             let mode = question.call.needed_mode().unwrap_or(Mode::Read);
@@ -127,86 +113,57 @@ pub fn segments(guard: Guard, seed: u64) -> Result<Asked, String> {
                 handle.password = derive(cluster.primary(mode), &handle.selector);
             });
             let forged = wide.with_handles(|handle| handle.password[PASSWORD_BYTES - 1] ^= 1);
-            for question in [wide, forged] {
-                for question in about_each_segment(&question) {
-                    put(guard, &known.held, &question, &mut asked)?;
-                }
+            for question in [wide, forged].iter().flat_map(about_each_segment) {
+                put(guard, &mut Sides::both(known.held.clone()), &question, asked)?;
             }
         }
         Ok(())
-    })?;
-    Ok(asked)
+    })
 }
 
 fn about_each_segment(question: &Question) -> Vec<Question> {
-    let right = match question.call.segment() {
-        Some(segment) => segment as usize,
-        None => return vec![question.clone()],
-    };
+    let Some(right) = question.call.segment() else { return vec![question.clone()] };
     let about = |other: usize| {
-        let mut about = question.clone();
-        if let Call::NewSegment { segment, .. }
-        | Call::DeleteSegment { segment, .. }
-        | Call::Read { segment, .. }
-        | Call::Write { segment, .. }
-        | Call::Freeze { segment, .. }
-        | Call::Look { segment, .. } = &mut about.call
-        {
+        let mut about = Question { beyond: other, ..question.clone() };
+        if let [_, Some(segment), _] = about.numbers_mut() {
             *segment = narrow(other);
         }
-        about.beyond = other;
         about
     };
-    around(right, SEGMENTS).map(about).collect()
+    around(right as usize, SEGMENTS).map(about).collect()
 }
 
 /// Weakening by every mask: of handles of each width with one subselector that is not flat, and with four.
 pub fn masks(guard: Guard, seed: u64) -> Result<Asked, String> {
-    let mut asked = (0, 0);
-    with_each(seed, |_, width, known| {
+    with_each(seed, |_, width, known, asked| {
         let flat = width.flat();
-        let selectors = [[flat & 0x7bda, flat, flat, flat], [flat - 1, flat - 2, flat - 1, flat - 2]];
-        for subselectors in selectors {
-            let selector = Selector::new(width, subselectors);
-            let (node, local) = (NODE as u16, LOCAL as u8);
-            let handle = Handle::converted(node, local, &[0x11; PASSWORD_BYTES], selector);
+        for parts in [[flat & 0x7bda, flat, flat, flat], [flat - 1, flat - 2, flat - 1, flat - 2]] {
+            let selector = Selector::new(width, parts);
+            let handle = Handle::converted(NODE as u16, LOCAL as u8, &[0x11; PASSWORD_BYTES], selector);
             for mask in 0..=u16::MAX {
-                let handle = handle.to_bytes();
-                let question = Question::of(Call::Weaken { mask, handle });
-                put(guard, &known.held, &question, &mut asked)?;
+                let question = Question::of(Call::weaken(mask, handle));
+                put(guard, &mut Sides::both(known.held.clone()), &question, asked)?;
             }
         }
         Ok(())
-    })?;
-    Ok(asked)
+    })
 }
 
 /// Call 1 with widths from 0 on and with those that are right in their low bytes alone; where nothing else is wrong,
 /// and where the place is none, is in use, or the passwords are equal.
 pub fn new_clusters(guard: Guard, seed: u64) -> Result<Asked, String> {
-    let mut asked = (0, 0);
-    with_each(seed, |random, own, known| {
+    with_each(seed, |random, own, known, asked| {
         let high = HIGH.map(|more| own.segments() + more);
-        let widths = (0..MOST_WIDTH).chain(high).chain([usize::MAX]);
-        let [first, second] = [random.bytes(), random.bytes()];
-        for width in widths {
-            let call = |node: usize, local: usize, write| Call::NewCluster {
-                node: node as u32,
-                local: local as u32,
-                width,
-                read: first,
-                write,
-            };
-            for call in [
-                call(NODE, LOCAL + 1, second),
-                call(NODE, LOCAL + 1, first),
-                call(NODE, LOCAL, second),
-                call(NODES, LOCAL, second),
-            ] {
-                put(guard, &known.held, &Question::of(call), &mut asked)?;
+        let [read, other] = [random.bytes(), random.bytes()];
+        let next = LOCAL + 1;
+        for width in (0..MOST_WIDTH).chain(high).chain([usize::MAX]) {
+            for (node, local, write) in
+                [(NODE, next, other), (NODE, next, read), (NODE, LOCAL, other), (NODES, LOCAL, other)]
+            {
+                let call = Call::NewCluster { node: node as u32, local: local as u32, width, read, write };
+                put(guard, &mut Sides::both(known.held.clone()), &Question::of(call), asked)?;
             }
         }
         Ok(())
-    })?;
-    Ok(asked)
+    })
 }
