@@ -3,7 +3,7 @@
 use crate::ffi::HANDLE_MAX;
 use crate::guard::handles::Behind;
 use crate::image::{encode, Image};
-use model::{call, words::*};
+use model::words::*;
 use std::fmt;
 
 /// The number of a call's argument that stands for [`Question::beyond`].
@@ -15,6 +15,11 @@ pub const WRITE_MODE: u32 = 2;
 pub const VALIDATION: u8 = 101;
 pub const BATCH: u8 = 102;
 pub const LOOK: u8 = 103;
+/// What validates handles.
+#[rustfmt::skip]
+pub const VALIDATING: [u8; 11] = [
+    DELETE_CLUSTER, NEW_SEGMENT, DELETE_SEGMENT, READ, WRITE, REDUCE, NEW_PASSWORD, FREEZE, JOIN, VALIDATION, LOOK,
+];
 /// The rows of tables.
 pub const CODES: [u8; 14] = [1, 2, 3, 4, 5, 6, 7, 8, 9, 10, 11, VALIDATION, BATCH, LOOK];
 
@@ -70,17 +75,17 @@ impl Question {
     /// The call's code, or [`VALIDATION`], or [`LOOK`].
     pub fn code(&self) -> u8 {
         match self.call {
-            Call::NewCluster { .. } => call::NEW_CLUSTER,
-            Call::DeleteCluster { .. } => call::DELETE_CLUSTER,
-            Call::NewSegment { .. } => call::NEW_SEGMENT,
-            Call::DeleteSegment { .. } => call::DELETE_SEGMENT,
-            Call::Read { .. } => call::READ,
-            Call::Write { .. } => call::WRITE,
-            Call::Weaken { .. } => call::WEAKEN,
-            Call::Reduce { .. } => call::REDUCE,
-            Call::NewPassword { .. } => call::NEW_PASSWORD,
-            Call::Freeze { .. } => call::FREEZE,
-            Call::Join { .. } => call::JOIN,
+            Call::NewCluster { .. } => NEW_CLUSTER,
+            Call::DeleteCluster { .. } => DELETE_CLUSTER,
+            Call::NewSegment { .. } => NEW_SEGMENT,
+            Call::DeleteSegment { .. } => DELETE_SEGMENT,
+            Call::Read { .. } => READ,
+            Call::Write { .. } => WRITE,
+            Call::Weaken { .. } => WEAKEN,
+            Call::Reduce { .. } => REDUCE,
+            Call::NewPassword { .. } => NEW_PASSWORD,
+            Call::Freeze { .. } => FREEZE,
+            Call::Join { .. } => JOIN,
             Call::Look { .. } => LOOK,
             Call::Validate { .. } => VALIDATION,
         }
@@ -162,8 +167,8 @@ impl Answer {
     pub fn handles(&self, question: &Question) -> Vec<Handle> {
         let count = match question.code() {
             _ if !self.reply.is_done() => 0,
-            call::NEW_CLUSTER => 2,
-            call::WEAKEN | call::REDUCE | call::NEW_PASSWORD | call::JOIN => 1,
+            NEW_CLUSTER => 2,
+            WEAKEN | REDUCE | NEW_PASSWORD | JOIN => 1,
             _ => 0,
         };
         let handles = [&self.reply.first, &self.reply.second].into_iter().take(count);

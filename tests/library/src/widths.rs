@@ -4,12 +4,6 @@
 use crate::{chance::handles::MOST_BYTES, words::*};
 use model::widths::Sight as Seen;
 
-/// What takes a handle: alone, or in a batch.
-#[rustfmt::skip]
-const WITH_A_HANDLE: [u8; 12] = [
-    DELETE_CLUSTER, NEW_SEGMENT, DELETE_SEGMENT, READ, WRITE, WEAKEN, REDUCE, NEW_PASSWORD, FREEZE, JOIN,
-    VALIDATION, LOOK,
-];
 /// What takes a segment, and what takes a current node or a second handle, which can be nowhere.
 const WITH_A_SEGMENT: [u8; 6] = [NEW_SEGMENT, DELETE_SEGMENT, READ, WRITE, FREEZE, LOOK];
 const WITH_A_PLACE: [u8; 6] = [DELETE_CLUSTER, NEW_SEGMENT, DELETE_SEGMENT, FREEZE, LOOK, JOIN];
@@ -23,12 +17,11 @@ const FIRST_PLACE: [&str; 3] = ["OnSound", "OnUnsound", "OnDamaged"];
 pub fn due() -> Vec<String> {
     let mut due: Vec<String> = Seen::all().map(|seen| format!("widths, {seen:?}")).collect();
     let mut add = |codes: &[u8], what: String| due.extend(codes.iter().map(|code| of(*code, &what)));
-    let validating: Vec<u8> = WITH_A_HANDLE.into_iter().filter(|code| *code != WEAKEN).chain([BATCH]).collect();
-    let [not_in_batches, with_batches] = [&validating[..validating.len() - 1], &validating];
+    let [with_batches, with_weakening] = [BATCH, WEAKEN].map(|code| [&VALIDATING[..], &[code]].concat());
     for width in Width::ALL {
-        add(&[&WITH_A_HANDLE[..], &[BATCH]].concat(), seen(Seen::Done(width)));
+        add(&[&with_weakening[..], &[BATCH]].concat(), seen(Seen::Done(width)));
         for other in Width::ALL.into_iter().filter(|other| *other != width) {
-            add(with_batches, seen(Seen::Other(width, other)));
+            add(&with_batches, seen(Seen::Other(width, other)));
         }
         for number in 0..width.segments() {
             add(&WITH_A_SEGMENT, format!("Segment({width:?}, {number})"));
@@ -39,10 +32,10 @@ pub fn due() -> Vec<String> {
         add(&WITH_A_SEGMENT, format!("NoSegment({:?}, {number})", Width::Eight));
     }
     for sight in [Seen::OtherMadeFrom, Seen::OtherForged] {
-        add(not_in_batches, seen(sight));
+        add(&VALIDATING, seen(sight));
     }
     for place in FIRST_PLACE {
-        add(&WITH_A_HANDLE, place.to_string());
+        add(&with_weakening, place.to_string());
     }
     add(&WITH_A_PLACE, no_length_before(NO_SUCH_PLACE));
     add(&WITH_A_FIELD, no_length_before(FIELD));
