@@ -29,8 +29,7 @@ impl Batch {
     /// The handles that are whole; none where the width is none.
     fn whole(&self) -> Vec<&[u8]> {
         let width = Width::of_segments(self.width);
-        let chunks = width.map(|width| self.handles.chunks_exact(width.handle_bytes()));
-        chunks.into_iter().flatten().collect()
+        width.map(|width| self.handles.chunks_exact(width.handle_bytes())).into_iter().flatten().collect()
     }
 
     /// As many as there are whole handles and places for.

@@ -40,8 +40,7 @@ pub fn by_model(held: &mut Held, question: &Question) -> Answer {
 
 /// What is looked at before the store, and so whatever there is in its place.
 fn before_the_store(call: &Call) -> Option<u8> {
-    let found = Found { store: &Store::starting(), memory_bytes: 0, buffer_bytes: 0 };
-    refusal_above(UNSOUND, call, &found)
+    refusal_above(UNSOUND, call, &Found { store: &Store::starting(), memory_bytes: 0, buffer_bytes: 0 })
 }
 
 /// Whether the model holds the store for sound; a damaged image has no sound store.
@@ -107,8 +106,7 @@ pub fn same_bytes(what: &str, expected: &[u8], found: &[u8]) -> Result<(), Strin
     if expected == found {
         return Ok(());
     }
-    let mut pairs = expected.iter().zip(found);
-    match pairs.position(|(expected, found)| expected != found) {
+    match expected.iter().zip(found).position(|(expected, found)| expected != found) {
         Some(at) => Err(format!("{what} differ at byte {at}: {} and {}", expected[at], found[at])),
         None => Err(format!("{what} differ in length: {} and {}", expected.len(), found.len())),
     }

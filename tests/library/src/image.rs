@@ -53,8 +53,7 @@ pub fn password_at(node: usize, local: usize, mode: Mode) -> Range<usize> {
 /// same, and comes out as an absent segment with a base.
 pub fn encode(store: &Store) -> Image {
     let mut image = [0; IMAGE_BYTES];
-    let clusters = store.clusters.as_flattened();
-    for (record, cluster) in image.chunks_exact_mut(RECORD_BYTES).zip(clusters) {
+    for (record, cluster) in image.chunks_exact_mut(RECORD_BYTES).zip(store.clusters.as_flattened()) {
         encode_cluster(cluster, record);
     }
     image
@@ -65,8 +64,7 @@ fn encode_cluster(cluster: &Cluster, record: &mut [u8]) {
     record[WIDTH_AT] = cluster.width;
     record[READ_AT..WRITE_AT].copy_from_slice(&cluster.read);
     record[WRITE_AT..SEGMENTS_AT].copy_from_slice(&cluster.write);
-    let places = record[SEGMENTS_AT..].chunks_exact_mut(SEGMENT_BYTES);
-    for (place, segment) in places.zip(&cluster.segments) {
+    for (place, segment) in record[SEGMENTS_AT..].chunks_exact_mut(SEGMENT_BYTES).zip(&cluster.segments) {
         place.copy_from_slice(&encode_segment(segment));
     }
 }
@@ -85,8 +83,7 @@ fn encode_segment(segment: &Segment) -> [u8; SEGMENT_BYTES] {
 /// matter of soundness.
 pub fn decode(image: &Image) -> Option<Store> {
     let mut store = Store::starting();
-    let clusters = store.clusters.as_flattened_mut();
-    for (record, cluster) in image.chunks_exact(RECORD_BYTES).zip(clusters) {
+    for (record, cluster) in image.chunks_exact(RECORD_BYTES).zip(store.clusters.as_flattened_mut()) {
         *cluster = decode_cluster(record)?;
     }
     Some(store)
@@ -100,8 +97,7 @@ fn decode_cluster(record: &[u8]) -> Option<Cluster> {
     };
     let password = |at: usize| Password::try_from(&record[at..at + PASSWORD_BYTES]).ok();
     let mut segments = [Segment::ABSENT; SEGMENTS];
-    let places = record[SEGMENTS_AT..].chunks_exact(SEGMENT_BYTES);
-    for (segment, place) in segments.iter_mut().zip(places) {
+    for (segment, place) in segments.iter_mut().zip(record[SEGMENTS_AT..].chunks_exact(SEGMENT_BYTES)) {
         *segment = decode_segment(place)?;
     }
     Some(Cluster { active, width: record[WIDTH_AT], read: password(READ_AT)?, write: password(WRITE_AT)?, segments })

@@ -19,8 +19,7 @@ fn one(guard: Guard, random: &mut Random) -> Result<bool, String> {
     let fill = Fill::by_chance(random);
     let store = stores::store(random, fill);
     let held = stores::held(random, &store);
-    let maker = &mut Maker { random, store: &store, given: &[] };
-    let question = maker.question(&[JOIN]);
+    let question = Maker { random, store: &store, given: &[] }.question(&[JOIN]);
     let Call::Join { mode, handle, other } = question.call.clone() else {
         return Err("another call was made".to_string());
     };
@@ -42,9 +41,7 @@ struct Join<'a> {
 impl Join<'_> {
     /// What the library replies to a call with the numbers of this one; it works on its own copy.
     fn call(&self, call: Call) -> Answer {
-        let mut question = self.question.clone();
-        question.call = call;
-        (self.guard)(&mut self.held.clone(), &question)
+        (self.guard)(&mut self.held.clone(), &Question { call, ..self.question.clone() })
     }
 
     fn asked(&self, handle: &HandleBytes, other: &HandleBytes) -> Answer {
@@ -52,14 +49,12 @@ impl Join<'_> {
     }
 
     fn reduced(&self, handle: &HandleBytes) -> Reply {
-        let (mode, handle) = (self.mode, handle.clone());
-        self.call(Call::Reduce { mode, handle }).reply
+        self.call(Call::reduce(self.mode, handle.clone())).reply
     }
 
     fn holds(&self, answer: &Answer, one: &HandleBytes, other: &HandleBytes) -> Result<(), String> {
         let told = |holds: bool, what: &str| if holds { Ok(()) } else { Err(what.to_string()) };
-        let exchanged = self.asked(other, one);
-        told(exchanged == *answer, "a join hangs on which handle comes first")?;
+        told(self.asked(other, one) == *answer, "a join hangs on which handle comes first")?;
         let read = [one, other].map(|bytes| Handle::from_bytes(bytes));
         for (bytes, handle) in [one, other].into_iter().zip(&read) {
             let itself = self.asked(bytes, bytes).reply;
@@ -72,8 +67,7 @@ impl Join<'_> {
         }
         let given = &answer.reply.first;
         let [Some(first), Some(second)] = read else { return told(false, "bytes are joined that are no handle") };
-        let is_as_wide = given.len() == one.len() && given.len() == other.len();
-        told(is_as_wide, "what is given has another width")?;
+        told(given.len() == one.len() && given.len() == other.len(), "what is given has another width")?;
         let again = Reply { first: given.clone(), ..Reply::DONE };
         told(self.reduced(given) == again, "what is given is not valid, or not in the form of a reduced handle")?;
         for handle in [one, other] {
@@ -86,10 +80,7 @@ impl Join<'_> {
 
     /// Whether weakening tells so many segments, and takes none of these away. It gives no handle to nothing.
     fn counts(&self, handle: &HandleBytes, segments: u16) -> bool {
-        let count = |mask| {
-            let handle = handle.clone();
-            self.call(Call::Weaken { mask, handle }).reply.count
-        };
+        let count = |mask| self.call(Call::weaken(mask, handle.clone())).reply.count;
         count(u16::MAX) == segments.count_ones() && count(segments) == segments.count_ones()
     }
 }

@@ -25,8 +25,7 @@ impl Pair {
 
     /// Whether some handle of the question does.
     pub fn names_apart(&self, question: &Question) -> bool {
-        let mut presented = question.call.presented();
-        presented.any(|handle| self.is_apart(&handle))
+        question.call.presented().any(|handle| self.is_apart(&handle))
     }
 }
 
@@ -43,15 +42,13 @@ pub fn set_apart(random: &mut Random, store: &Store) -> (usize, usize) {
 
 /// The parts of the memory that are the segments of a cluster.
 pub fn parts_of(store: &Store, (node, local): (usize, usize)) -> Vec<Range<usize>> {
-    let segments = store.clusters[node][local].segments.iter();
-    let extents = segments.filter_map(Segment::extent);
+    let extents = store.clusters[node][local].segments.iter().filter_map(Segment::extent);
     extents.map(|extent| extent.in_memory(node)).collect()
 }
 
 /// Whether the store does the call, as the model judges; it has a buffer of so many bytes.
 pub fn does(store: &Store, call: &Call, buffer_bytes: usize) -> bool {
-    let found = Found::whole(store, buffer_bytes);
-    refusal(call, &found).is_none()
+    refusal(call, &Found::whole(store, buffer_bytes)).is_none()
 }
 
 /// Whether the handle validates in one of the modes in one of the stores, as the model judges. One of another width
@@ -61,8 +58,7 @@ pub fn validates(stores: &[Store; 2], handle: &Handle, modes: &[Mode]) -> bool {
         let handle = handle.to_bytes();
         does(store, &Call::Validate { mode, handle }, 0)
     };
-    let mut stores = stores.iter();
-    stores.any(|store| modes.iter().any(|mode| validates(store, mode.number())))
+    stores.iter().any(|store| modes.iter().any(|mode| validates(store, mode.number())))
 }
 
 /// Puts the question to both copies. Gives the answer that both get, or tells in what they differ: in the answer, in

@@ -37,8 +37,7 @@ impl<'a> Line<'a> {
     fn holds(&self) -> Option<bool> {
         Some(match self.kind {
             "conversion" => {
-                let converted = guard::convert(&self.password("password")?, self.bits("parameter")?);
-                converted == self.password("outcome")?
+                guard::convert(&self.password("password")?, self.bits("parameter")?) == self.password("outcome")?
             }
             "primary" => self.is_made()? && self.counts("handle")? && self.validates("handle")?,
             "weakened" => {
@@ -88,8 +87,7 @@ impl<'a> Line<'a> {
     /// Whether joining the two is replied to in this way, in either order.
     fn joining(&self, reply: Reply) -> Option<bool> {
         let join = |handle: &str, other: &str| {
-            let call = Call::join(self.mode()?, self.handle(handle)?, self.handle(other)?);
-            self.asked(&["one", "two"], call)
+            self.asked(&["one", "two"], Call::join(self.mode()?, self.handle(handle)?, self.handle(other)?))
         };
         Some(join("one", "two")? == reply && join("two", "one")? == reply)
     }
@@ -104,8 +102,7 @@ impl<'a> Line<'a> {
 
     /// The number that validating in the line's mode gives.
     fn validation(&self, key: &str) -> Option<u8> {
-        let reply = self.asked(&[key], Call::validate(self.mode()?, self.handle(key)?))?;
-        Some(reply.number)
+        Some(self.asked(&[key], Call::validate(self.mode()?, self.handle(key)?))?.number)
     }
 
     /// Whether the handle references as many segments as the line says: a mask that excludes

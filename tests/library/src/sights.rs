@@ -34,8 +34,7 @@ pub fn due() -> impl Iterator<Item = String> {
     let shown = ["OneByte", "WholeNode", "LastOfANode", "LastOfAll"].map(|what| format!("look, {what}"));
     let marked = (0..SEGMENTS).map(|segment| format!("freeze, Marked({segment})"));
     let nodes = ["look", "freeze"].into_iter().flat_map(|call| {
-        let done = (0..NODES).map(in_node);
-        done.chain(WRONG_NODES.map(String::from)).map(move |what| format!("{call}, {what}"))
+        (0..NODES).map(in_node).chain(WRONG_NODES.map(String::from)).map(move |what| format!("{call}, {what}"))
     });
     let both = neighbours().map(|(code, given, next)| format!("{}, Both({given}, {next})", name(code)));
     shown.into_iter().chain(marked).chain(nodes).chain(both)
@@ -63,8 +62,7 @@ fn done(held: &Held, call: &Call, reply: &Reply) -> Vec<String> {
             let store = decode(&held.image);
             let cluster = store.map(|store| store.clusters[node][usize::from(handle.local)]);
             let was_frozen = cluster.is_some_and(|own| own.segments[segment as usize].frozen);
-            let marked = (!was_frozen).then(|| format!("Marked({segment})"));
-            marked.into_iter().chain([in_node(node)]).collect()
+            (!was_frozen).then(|| format!("Marked({segment})")).into_iter().chain([in_node(node)]).collect()
         }
         _ => Vec::new(),
     }
@@ -89,8 +87,7 @@ fn refused(held: &Held, question: &Question, number: u8) -> Vec<String> {
     else {
         return both(held, question, number).into_iter().collect();
     };
-    let is_wrong = is_done_at_home(held, question, &handle);
-    let wrong = wrong_node(*node, &handle).filter(|_| is_wrong).map(String::from);
+    let wrong = wrong_node(*node, &handle).filter(|_| is_done_at_home(held, question, &handle)).map(String::from);
     both(held, question, number).into_iter().chain(wrong).collect()
 }
 

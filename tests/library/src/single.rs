@@ -17,8 +17,7 @@ fn one(guard: Guard, random: &mut Random, tally: &mut Tally) -> Result<(), Strin
     tally.note_fill(fill);
     let store = stores::store(random, fill);
     let mut held = stores::held(random, &store);
-    let maker = &mut Maker { random, store: &store, given: &[] };
-    let question = maker.question(&EVENLY);
+    let question = Maker { random, store: &store, given: &[] }.question(&EVENLY);
     let damaged = random.one_in(4);
     if damaged {
         let (damage, place) = damage(random, &mut held, &question);
@@ -29,8 +28,7 @@ fn one(guard: Guard, random: &mut Random, tally: &mut Tally) -> Result<(), Strin
     }
     same_soundness(&mut held)?;
     same_conversion(random)?;
-    let mut sides = Sides::both(held.clone());
-    let answer = ask(guard, &mut sides, &question)?;
+    let answer = ask(guard, &mut Sides::both(held.clone()), &question)?;
     tally.note(&question, &answer);
     tally.note_held(&held, &question, &answer);
     if damaged {
@@ -69,21 +67,12 @@ fn same_soundness(held: &mut Held) -> Result<(), String> {
     if found != expected {
         return Err(format!("sound is {expected} in the model, {found} in the library"));
     }
-    match held.image == before {
-        true => Ok(()),
-        false => Err("asking for soundness changes the image".to_string()),
-    }
+    same_bytes("images before and after asking for soundness", &before, &held.image)
 }
 
 fn same_conversion(random: &mut Random) -> Result<(), String> {
     let parameter = if random.one_in(2) { random.byte().into() } else { random.number() as u16 };
     let password = password(random);
-    let expected = convert(&password, parameter);
-    let found = guard::convert(&password, parameter);
-    match found == expected {
-        true => Ok(()),
-        false => Err(format!(
-            "{password:?} converts with {parameter} to {expected:?} in the model, to {found:?} in the library"
-        )),
-    }
+    same_bytes("conversions", &convert(&password, parameter), &guard::convert(&password, parameter))
+        .map_err(|what| format!("{password:?} with {parameter}: {what}"))
 }

@@ -24,8 +24,7 @@ fn of_width(width: Width) -> String {
 
 pub fn met() -> Met {
     let modes = Mode::ALL.into_iter().flat_map(|mode| [guessed(mode), equal(mode)]);
-    let due = modes.chain(Width::ALL.map(of_width)).chain([OLD.to_string()]);
-    Met::new("new passwords in two images", due)
+    Met::new("new passwords in two images", modes.chain(Width::ALL.map(of_width)).chain([OLD.to_string()]))
 }
 
 /// Two images, and a cluster whose password for the other mode than this one is all that they differ in.
@@ -115,8 +114,7 @@ impl Pair {
     /// The number that both images get.
     fn asked(&self, guard: Guard, question: &Question) -> Result<u8, String> {
         let mut after = self.images.clone();
-        let answer = ask_both(guard, &mut after, question, |after| self.agree(after))?;
-        Ok(answer.reply.number)
+        Ok(ask_both(guard, &mut after, question, |after| self.agree(after))?.reply.number)
     }
 
     /// Each image has the other mode's password that it had, and but for that the two are equal.

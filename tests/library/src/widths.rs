@@ -39,8 +39,7 @@ pub fn due() -> Vec<String> {
     }
     add(&WITH_A_PLACE, no_length_before(NO_SUCH_PLACE));
     add(&WITH_A_FIELD, no_length_before(FIELD));
-    let lengths = (0..=MOST_BYTES).filter(|length| Width::of_handle_bytes(*length).is_none());
-    due.extend(lengths.map(of_bytes));
+    due.extend((0..=MOST_BYTES).filter(|length| Width::of_handle_bytes(*length).is_none()).map(of_bytes));
     // Widths that are none, up to a little above the greatest.
     let widths = (0..=20).filter(|width| Width::of_segments(*width).is_none());
     due.extend(widths.map(|width| of_width(NEW_CLUSTER, width)));
@@ -82,8 +81,7 @@ pub fn asked(code: u8, width: usize) -> impl Iterator<Item = String> {
         let low = width & ((1 << (8 * bytes)) - 1);
         low != width && Width::of_segments(low).is_some()
     };
-    let cuts = CUTS.into_iter().filter(is_cut).map(move |bytes| cut(code, bytes));
-    cuts.chain([of_width(code, width)])
+    CUTS.into_iter().filter(is_cut).map(move |bytes| cut(code, bytes)).chain([of_width(code, width)])
 }
 
 /// What a call with this code has met, or a handle of a batch. `held` is what it was put to.
@@ -120,8 +118,7 @@ fn sights(held: &Held, question: &Question, number: u8) -> Vec<String> {
 fn first_place(call: &Call, found: &Found) -> Vec<String> {
     let put_to = FIRST_PLACE[usize::from(!found.store.is_sound(found.memory_bytes))].to_string();
     let next = refusal_below(LENGTH, call, found).filter(|next| *next != UNSOUND);
-    let next = next.map(no_length_before);
-    next.into_iter().chain([put_to]).collect()
+    next.map(no_length_before).into_iter().chain([put_to]).collect()
 }
 
 /// Done about a segment, and 3 for it.

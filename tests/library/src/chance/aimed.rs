@@ -62,8 +62,7 @@ impl Maker<'_> {
 
 /// The segments of a cluster that `fits` is true of.
 fn segments(cluster: &Cluster, fits: impl Fn(&Segment) -> bool) -> Vec<usize> {
-    let fitting = segments_of(cluster).filter(|&at| fits(&cluster.segments[at]));
-    fitting.collect()
+    segments_of(cluster).filter(|&at| fits(&cluster.segments[at])).collect()
 }
 
 /// What the call is done with, if any segment is present.
@@ -107,12 +106,10 @@ impl Aimed {
         match fault {
             Fault::Absent => {
                 let absent = segments(own, |segment| !segment.is_present());
-                let chosen = random.pick(&absent).map(|&segment| segment as u32);
-                self.segment = chosen.unwrap_or(self.segment);
+                self.segment = random.pick(&absent).map(|&segment| segment as u32).unwrap_or(self.segment);
             }
             Fault::NotReferenced => {
-                let weaker = self.handle.weaken(!(1 << self.segment));
-                self.handle = weaker.unwrap_or(self.handle);
+                self.handle = self.handle.weaken(!(1 << self.segment)).unwrap_or(self.handle);
             }
             // Where the two passwords are equal, the other mode's is no fault.
             Fault::NotValid if random.one_in(2) && self.handle.selector.is_primary() && !own.has_equal_passwords() => {
@@ -127,8 +124,7 @@ impl Aimed {
             }
             Fault::Gapped => self.handle.selector = gapped(random, self.handle.width()),
             Fault::NoSegment => {
-                let bound = self.handle.width().segments();
-                self.segment = above(random, self.segment, bound);
+                self.segment = above(random, self.segment, self.handle.width().segments());
             }
             Fault::NoNode => self.node = above(random, self.node, NODES),
             Fault::NoLength => self.has_length = false,

@@ -116,8 +116,7 @@ fn present_somewhere(random: &mut Random, store: &mut Store, place: (usize, usiz
 
 /// Takes away every segment of the node that has a byte of the extent.
 fn make_room(store: &mut Store, node: usize, extent: Extent) {
-    let clusters = store.clusters[node].iter_mut();
-    for segment in clusters.flat_map(|cluster| &mut cluster.segments) {
+    for segment in store.clusters[node].iter_mut().flat_map(|cluster| &mut cluster.segments) {
         let taken = segment.extent();
         if taken.is_some_and(|taken| taken.base < extent.end() && extent.base < taken.end()) {
             *segment = Segment::ABSENT;

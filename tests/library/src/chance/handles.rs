@@ -81,8 +81,7 @@ pub fn place(random: &mut Random, store: &Store, fits: impl Fn(&Cluster) -> bool
 /// The primary handle of an active cluster.
 pub fn primary(store: &Store, (node, local): (usize, usize), mode: Mode) -> Handle {
     let cluster = &store.clusters[node][local];
-    let width = cluster.known_width().expect("it is active");
-    Handle::primary(width, node as u16, local as u8, *cluster.primary(mode))
+    Handle::primary(cluster.known_width().expect("it is active"), node as u16, local as u8, *cluster.primary(mode))
 }
 
 /// A handle that validates, mostly in the mode that is wished for, if any cluster is active.
@@ -202,8 +201,7 @@ pub fn of_another_width(random: &mut Random, store: &Store, handle: Handle) -> H
     let mut other = at_width(&handle, others[below(random, others.len())]);
     let cluster = store.cluster(handle.node.into(), handle.local.into());
     let primaries = cluster.map(|cluster| [cluster.read, cluster.write]);
-    let mut primaries = primaries.into_iter().flatten();
-    let made_from = primaries.find(|primary| handle.is_made_from(primary));
+    let made_from = primaries.into_iter().flatten().find(|primary| handle.is_made_from(primary));
     if let Some(primary) = made_from.filter(|_| !random.one_in(4)) {
         other.password = derive(&primary, &other.selector);
     }

@@ -29,8 +29,7 @@ pub struct Maker<'a> {
 
 impl Maker<'_> {
     pub fn question(&mut self, codes: &[u8]) -> Question {
-        let code = *self.random.pick(codes).expect("there are codes");
-        let call = match code {
+        let call = match *self.random.pick(codes).expect("there are codes") {
             call::NEW_CLUSTER => self.new_cluster(),
             call::DELETE_CLUSTER => self.delete_cluster(),
             call::NEW_SEGMENT => self.new_segment(),
@@ -93,8 +92,7 @@ impl Maker<'_> {
     }
 
     pub(super) fn handle(&mut self, mode: Mode, primary: bool, segments: bool) -> Handle {
-        let wish = Wish { mode, primary, segments, width: None };
-        handles::handle(self.random, self.store, self.given, wish)
+        handles::handle(self.random, self.store, self.given, Wish { mode, primary, segments, width: None })
     }
 
     /// The bytes that are presented for a handle, sometimes such as no handle has.
@@ -134,8 +132,7 @@ impl Maker<'_> {
 
     /// Often just what a gap of the node has room for, or one byte more.
     fn size(&mut self, handle: &Handle) -> u32 {
-        let node = usize::from(handle.node) % NODES;
-        let gap = self.random.pick(&gaps(self.store, node)).map(|gap| gap.length);
+        let gap = self.random.pick(&gaps(self.store, usize::from(handle.node) % NODES)).map(|gap| gap.length);
         let likely = match (self.random.below(8), gap) {
             (0, Some(gap)) => gap,
             (1, Some(gap)) => gap + 1,

@@ -72,6 +72,5 @@ pub fn one_inside(random: &mut Random) -> [Extent; 2] {
 
 /// The whole node, and another.
 pub fn with_the_node(random: &mut Random) -> [Extent; 2] {
-    let node = Extent { base: 0, length: NODE_BYTES };
-    [node, extent(random)]
+    [Extent { base: 0, length: NODE_BYTES }, extent(random)]
 }

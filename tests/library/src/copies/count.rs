@@ -86,29 +86,23 @@ fn note_widths(met: &mut Met, pair: &Pair, [store, _]: &[Store; 2], question: &Q
     let (node, local) = pair.apart;
     let cluster = &store.clusters[node][local];
     let made_from = |handle: &Handle| {
-        let mut primaries = Mode::ALL.iter().map(|mode| cluster.primary(*mode));
-        primaries.any(|primary| handle.is_made_from(primary))
+        Mode::ALL.iter().map(|mode| cluster.primary(*mode)).any(|primary| handle.is_made_from(primary))
     };
-    let other = |handle: Handle| {
-        let differs = pair.is_apart(&handle) && !cluster.has_width(handle.width());
-        differs && made_from(&handle)
-    };
+    let other = |handle: Handle| pair.is_apart(&handle) && !cluster.has_width(handle.width()) && made_from(&handle);
     let refused = answer.reply.number == LENGTH && question.call.presented().any(other);
     met.note_all(cluster.known_width().filter(|_| refused).map(other_width));
     for handle in question.call.presented() {
         met.note_if(answer.reply.is_done(), by_width(handle.width()));
     }
     let mut lengths = question.call.presented_bytes().map(<[u8]>::len);
-    let no_length = lengths.any(|length| Width::of_handle_bytes(length).is_none());
-    met.note_if(no_length, "a length that no handle has");
+    met.note_if(lengths.any(|length| Width::of_handle_bytes(length).is_none()), "a length that no handle has");
 }
 
 /// What is met in the two copies differs where the cluster set apart is concerned, and there alone.
 fn note_passwords(met: &mut Met, stores: &[Store; 2], question: &Question, answer: &Answer) {
-    let [first, second] = stores.each_ref().map(|store| {
-        let found = Found::whole(store, question.buffer.len());
-        Renewal::of(&found, &question.call, answer.reply.number)
-    });
+    let [first, second] = stores
+        .each_ref()
+        .map(|store| Renewal::of(&Found::whole(store, question.buffer.len()), &question.call, answer.reply.number));
     met.note_if(first != second, "a new password that the cluster set apart has in one copy alone");
     match first {
         Some(Renewal::MadeEqual(_)) => met.note("a new password that makes two equal"),

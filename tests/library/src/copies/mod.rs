@@ -58,8 +58,7 @@ impl Pair {
     fn question(&self, random: &mut Random, stores: &[Store; 2], given: &[Handle]) -> Question {
         loop {
             let store = &stores[below(random, stores.len())];
-            let maker = &mut Maker { random, store, given };
-            let mut question = maker.question(&FILLING);
+            let mut question = Maker { random, store, given }.question(&FILLING);
             if random.one_in(4) {
                 self.aim(random, store, &mut question);
             }
@@ -105,8 +104,7 @@ impl Pair {
         };
         let choices = [password(random), near(cluster.read), near(cluster.write), cluster.read];
         if !cluster.has_width(handle.width()) {
-            let primary = [cluster.read, cluster.write][below(random, 2)];
-            handle.password = derive(&primary, &handle.selector);
+            handle.password = derive(&[cluster.read, cluster.write][below(random, 2)], &handle.selector);
         } else if random.one_in(2) {
             handle.password = choices[below(random, choices.len())];
         }
@@ -146,8 +144,7 @@ impl Pair {
             let (image, memory) = (&before.image, &before.memory);
             same_bytes("records set apart", &image[record.clone()], &after.image[record.clone()])?;
             for part in own {
-                let now = &after.memory[part.clone()];
-                same_bytes("segments set apart", &memory[part.clone()], now)?;
+                same_bytes("segments set apart", &memory[part.clone()], &after.memory[part.clone()])?;
             }
         }
         Ok(())

@@ -53,8 +53,7 @@ fn count(asked: &mut Asked, is_right: bool) {
 
 /// Puts one question to both, and counts it.
 fn put(guard: Guard, sides: &mut Sides, question: &Question, asked: &mut Asked) -> Result<(), String> {
-    let answer = ask(guard, sides, question)?;
-    count(asked, answer.reply.is_done());
+    count(asked, ask(guard, sides, question)?.reply.is_done());
     Ok(())
 }
 

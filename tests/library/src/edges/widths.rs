@@ -141,8 +141,7 @@ pub fn masks(guard: Guard, seed: u64) -> Result<Asked, String> {
             let selector = Selector::new(width, parts);
             let handle = Handle::converted(NODE as u16, LOCAL as u8, &[0x11; PASSWORD_BYTES], selector);
             for mask in 0..=u16::MAX {
-                let question = Question::of(Call::weaken(mask, handle));
-                put(guard, &mut Sides::both(known.held.clone()), &question, asked)?;
+                put(guard, &mut Sides::both(known.held.clone()), &Question::of(Call::weaken(mask, handle)), asked)?;
             }
         }
         Ok(())

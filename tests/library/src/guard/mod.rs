@@ -83,8 +83,7 @@ pub fn validate_all(held: &mut Held, mode: usize, width: usize, handles: &[u8], 
 pub fn ask(held: &mut Held, question: &Question) -> Answer {
     let mut buffer = question.buffer.clone();
     let lent = Lent { image: &mut held.image, memory: &mut held.memory, buffer: &mut buffer };
-    let presented = Presented::of(&question.call, &question.behind);
-    let reply = lent.run(&question.call, &presented, question.beyond);
+    let reply = lent.run(&question.call, &Presented::of(&question.call, &question.behind), question.beyond);
     Answer { reply, buffer }
 }
 

@@ -100,11 +100,7 @@ impl Made<'_> {
                 let beside = self.beside();
                 self.likely(beside, &BESIDE)
             }
-            _ => {
-                let (random, store, given) = (self.random, self.store, self.given);
-                let maker = &mut Maker { random, store, given };
-                maker.question(&FILLING)
-            }
+            _ => Maker { random: self.random, store: self.store, given: self.given }.question(&FILLING),
         }
     }
 
@@ -112,13 +108,8 @@ impl Made<'_> {
     fn anew(&mut self) -> Question {
         let (node, local) = self.pair.apart;
         let (read, write) = passwords(self.random);
-        Question::of(Call::NewCluster {
-            node: node as u32,
-            local: local as u32,
-            width: width(self.random).segments(),
-            read,
-            write,
-        })
+        let width = width(self.random).segments();
+        Question::of(Call::NewCluster { node: node as u32, local: local as u32, width, read, write })
     }
 
     /// A question of those who know one cluster alone; one that is done, if a few tries come to it.
@@ -137,9 +128,8 @@ impl Made<'_> {
     fn of(&mut self, place: (usize, usize), codes: &[u8]) -> Question {
         let mut known = Store::starting();
         known.clusters[place.0][place.1] = self.store.clusters[place.0][place.1];
-        let given = self.given.iter().filter(|handle| names(handle, place));
-        let maker = &mut Maker { random: self.random, store: &known, given: &given.copied().collect::<Vec<Handle>>() };
-        let mut question = maker.question(codes);
+        let given: Vec<Handle> = self.given.iter().filter(|handle| names(handle, place)).copied().collect();
+        let mut question = Maker { random: self.random, store: &known, given: &given }.question(codes);
         if let (Call::NewSegment { size, .. }, true) = (&mut question.call, self.random.one_in(2)) {
             let gap = self.random.pick(&gaps(self.store, place.0)).copied();
             *size = gap.map_or(*size, |gap| gap.length as u32);
@@ -182,17 +172,14 @@ impl Made<'_> {
         let (node, local) = self.pair.apart;
         let active = |other: &usize| *other != local && self.store.clusters[node][*other].active;
         let others: Vec<usize> = (0..CLUSTERS).filter(active).collect();
-        let next = (local + 1) % CLUSTERS;
-        (node, self.random.pick(&others).copied().unwrap_or(next))
+        (node, self.random.pick(&others).copied().unwrap_or((local + 1) % CLUSTERS))
     }
 }
 
 /// The part of the memory that a write to a segment of the cluster is about.
 pub(super) fn written_part(store: &Store, pair: &Pair, question: &Question) -> Option<Range<usize>> {
     let Call::Write { segment, handle } = &question.call else { return None };
-    let handle = Handle::from_bytes(handle)?;
-    let (node, local) = Some(pair.apart).filter(|_| pair.is_apart(&handle))?;
-    let segments = &store.clusters[node][local].segments;
-    let extent = segments.get(*segment as usize)?.extent()?;
-    Some(extent.in_memory(node))
+    let handle = Handle::from_bytes(handle).filter(|handle| pair.is_apart(handle))?;
+    let segments = &store.cluster_of(&handle)?.segments;
+    Some(segments.get(*segment as usize)?.extent()?.in_memory(handle.node.into()))
 }

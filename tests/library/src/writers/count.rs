@@ -44,8 +44,7 @@ fn written_at(width: Width) -> String {
 }
 
 pub fn met() -> Met {
-    let due = DEEDS.into_iter().chain([DIFFERING]).map(String::from).chain(Width::ALL.map(written_at));
-    Met::new("writers", due)
+    Met::new("writers", DEEDS.into_iter().chain([DIFFERING]).map(String::from).chain(Width::ALL.map(written_at)))
 }
 
 /// One list, and what it has come to so far.
@@ -93,8 +92,7 @@ impl Watch<'_> {
             Call::Read { .. } => answer.buffer.get(..answer.reply.length as usize),
             _ => answer.shown(&pair.copies[0]),
         };
-        let stores = [&before[0], &after[0]];
-        if let Some(deed) = self.freed.note(stores, call, shown.unwrap_or_default()) {
+        if let Some(deed) = self.freed.note([&before[0], &after[0]], call, shown.unwrap_or_default()) {
             self.met.note(deed);
         }
     }
@@ -155,10 +153,7 @@ fn of_cluster(pair: &Pair, stores: &[Store; 2], call: &Call, number: u8) -> Opti
     if !known || !call.presented().all(|handle| pair.is_apart(&handle)) {
         return None;
     }
-    let open = |mode: Mode| {
-        let opens = |handle: Handle| validates(stores, &handle, &[mode]);
-        call.presented().all(opens)
-    };
+    let open = |mode: Mode| call.presented().all(|handle: Handle| validates(stores, &handle, &[mode]));
     match (call, number) {
         (Call::Weaken { .. }, DONE) => open(Mode::Read).then_some("ReaderWeakened"),
         (Call::Weaken { .. }, _) => None,
@@ -166,8 +161,7 @@ fn of_cluster(pair: &Pair, stores: &[Store; 2], call: &Call, number: u8) -> Opti
         (_, INACTIVE) => Some("WhileDeleted"),
         (_, LENGTH) if call.needed_mode() == Some(Mode::Read) => {
             let [read, _] = stores.each_ref().map(|store| cluster_of(pair, store).read);
-            let made_from = |handle: Handle| handle.is_made_from(&read);
-            call.presented().any(made_from).then_some("ReaderOfAnotherWidth")
+            call.presented().any(|handle: Handle| handle.is_made_from(&read)).then_some("ReaderOfAnotherWidth")
         }
         (Call::Write { .. }, FROZEN) => Some("FrozenNotWritten"),
         (Call::DeleteCluster { .. }, FROZEN) => Some("FrozenNotDeleted"),

@@ -67,8 +67,7 @@ fn by_chance(random: &mut Random, asking: Asking) -> Pair {
     }
     let mut second = first.with(&store);
     for part in [parts_of(&store, apart), free(&store)].concat() {
-        let parts = [&mut first, &mut second].map(|held| &mut held.memory[part.clone()]);
-        differ(random, parts);
+        differ(random, [&mut first, &mut second].map(|held| &mut held.memory[part.clone()]));
     }
     Pair { copies: [first, second], apart }
 }
@@ -107,8 +106,7 @@ fn agree(copies: &[Held; 2], apart: (usize, usize)) -> Result<(), String> {
     let sound = copies.iter().all(is_sound);
     let store = decode(&first).filter(|_| sound);
     let store = store.ok_or("a copy is not sound")?;
-    let others = everywhere().filter(|place| *place != apart);
-    for part in others.flat_map(|place| parts_of(&store, place)) {
+    for part in everywhere().filter(|place| *place != apart).flat_map(|place| parts_of(&store, place)) {
         let [first, second] = copies.each_ref().map(|copy| &copy.memory[part.clone()]);
         same_bytes("segments of other clusters", first, second)?;
     }

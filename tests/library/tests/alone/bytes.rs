@@ -74,8 +74,7 @@ fn the_record_of_a_new_cluster() {
 #[test]
 fn widths_of_records() {
     let before = held();
-    let reader = primary(Width::Eight, READ).to_bytes();
-    let validate = Call::validate(READ_MODE, reader);
+    let validate = Call::validate(READ_MODE, primary(Width::Eight, READ).to_bytes());
     for (node, place) in [(1, 3), (1, 6), (3, 7)] {
         let active = (node, place) == (1, 3);
         for width in 0..=u8::MAX {
@@ -136,8 +135,7 @@ fn equal_passwords_are_sound_where_the_cluster_is_active() {
             image[record.start] = 1;
             for width in 0..=u8::MAX {
                 image[record.start + 1] = width;
-                let sound = [4, 8, 16].contains(&width);
-                assert_eq!(guard::is_sound(&mut image), sound);
+                assert_eq!(guard::is_sound(&mut image), [4, 8, 16].contains(&width));
             }
         }
     }
@@ -189,8 +187,7 @@ fn lengths_that_no_handle_has() {
         let right = right.to_bytes();
         let mode = WRITE_MODE;
         let second = Call::join(mode, right.clone(), wrong.clone());
-        let calls = every(&wrong, &right, REST).into_iter().chain([second]);
-        for (at, call) in calls.enumerate() {
+        for (at, call) in every(&wrong, &right, REST).into_iter().chain([second]).enumerate() {
             refused(&sound, &call, 25);
             refused(&damaged[(length + at) % damaged.len()], &call, 25);
         }

@@ -43,8 +43,7 @@ fn stores_are_sound_and_as_full_as_they_say() {
             let active = store.clusters.as_flattened().iter();
             for cluster in active.filter(|cluster| cluster.active) {
                 equal[usize::from(cluster.has_equal_passwords())] += 1;
-                let width = cluster.known_width().expect("it is active");
-                widths[width as usize] += 1;
+                widths[cluster.known_width().expect("it is active") as usize] += 1;
             }
             for node in 0..NODES {
                 let taken: usize = extents(&store, node).iter().map(|part| part.length).sum();
@@ -56,8 +55,7 @@ fn stores_are_sound_and_as_full_as_they_say() {
                     Fill::AtWords => assert!(borders(&store, node).all(about_a_word)),
                     Fill::NoByteFree => assert_eq!(free, 0),
                     Fill::NoSegmentAbsent => {
-                        let clusters = store.clusters[node].iter();
-                        let all: usize = clusters.map(|own| usize::from(own.width)).sum();
+                        let all: usize = store.clusters[node].iter().map(|own| usize::from(own.width)).sum();
                         assert_eq!(extents(&store, node).len(), all);
                     }
                 }
@@ -72,8 +70,7 @@ fn stores_are_sound_and_as_full_as_they_say() {
 /// Counts stores with segments none of which is frozen, with some that are, and with all of them frozen.
 fn note_marks(store: &Store, marks: &mut [usize; 3]) {
     let segments = store.clusters.as_flattened().iter();
-    let segments = segments.flat_map(|cluster| cluster.segments);
-    let present = segments.filter(|segment| segment.is_present());
+    let present = segments.flat_map(|cluster| cluster.segments).filter(|segment| segment.is_present());
     let (frozen, free): (Vec<_>, Vec<_>) = present.partition(|segment| segment.frozen);
     match (frozen.len(), free.len()) {
         (0, 0) => {}
@@ -85,8 +82,7 @@ fn note_marks(store: &Store, marks: &mut [usize; 3]) {
 
 /// Where the segments of a node begin and end.
 fn borders(store: &Store, node: usize) -> impl Iterator<Item = usize> {
-    let extents = extents(store, node).into_iter();
-    extents.flat_map(|extent| [extent.base, extent.end()])
+    extents(store, node).into_iter().flat_map(|extent| [extent.base, extent.end()])
 }
 
 fn about_a_word(byte: usize) -> bool {

@@ -52,8 +52,7 @@ fn where_nothing_else_is() {
     let joined = joint::all().next().expect("the first is done");
     let renewed = renewed::all().filter(|new| new.faults.iter().all(|fault| *fault == 12));
     let renewed = renewed.map(|renewed| (renewed.store, renewed.call));
-    let all = right.into_iter().chain([(joined.store, joined.call)]);
-    for asked in all.chain(renewed) {
+    for asked in right.into_iter().chain([(joined.store, joined.call)]).chain(renewed) {
         for damage in Damage::ALL {
             for place in PLACES {
                 beside(random, &asked, damage, place);

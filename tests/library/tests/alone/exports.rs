@@ -9,12 +9,10 @@ const ARCHIVE: &str = concat!(env!("CARGO_MANIFEST_DIR"), "/../../target/staticl
 /// The names of the prototypes: what stands before the first parenthesis of a declaration, outside of comments, macros
 /// and functions that the header has whole.
 fn prototypes() -> BTreeSet<&'static str> {
-    let lines = HEADER.lines();
-    let declared = lines.filter(|line| line.starts_with(|c: char| c.is_ascii_alphabetic()));
+    let declared = HEADER.lines().filter(|line| line.starts_with(|c: char| c.is_ascii_alphabetic()));
     let declared = declared.filter(|line| !line.starts_with("static "));
     let before = declared.filter_map(|line| Some(line.split_once('(')?.0));
-    let names = before.filter_map(|line| line.rsplit([' ', '*']).next());
-    names.collect()
+    before.filter_map(|line| line.rsplit([' ', '*']).next()).collect()
 }
 
 /// What a linker finds in the archive.
@@ -51,8 +49,7 @@ fn the_library_has_the_header_s_version() {
         number.parse::<u32>().expect("it is a number")
     });
     let [major, minor, patch] = macros;
-    let text = format!("#define GELMUSZTA_VERSION \"{major}.{minor}.{patch}\"\n");
-    assert!(HEADER.contains(&text));
+    assert!(HEADER.contains(&format!("#define GELMUSZTA_VERSION \"{major}.{minor}.{patch}\"\n")));
     assert_eq!(guard::version(), major * 10000 + minor * 100 + patch);
     assert_eq!(guard::version(), 900);
 }

@@ -72,8 +72,7 @@ fn segments(image: &mut Image, mend: impl Fn(&mut Segment, &[Extent])) {
         let all = clusters.iter().flat_map(|cluster| cluster.segments);
         let extents: Vec<Extent> = all.filter_map(|segment| segment.extent()).collect();
         for cluster in clusters {
-            let own = cluster.segments.iter_mut();
-            own.for_each(|segment| mend(segment, &extents));
+            cluster.segments.iter_mut().for_each(|segment| mend(segment, &extents));
         }
     }
     *image = encode(&store);
@@ -122,8 +121,7 @@ table! {
         mended(|image| inactive(image).for_each(|record| record[SEGMENTS_AT..].fill(0)));
     the_base_of_an_absent_segment: mended(|image| absent(image).for_each(|place| place[..LENGTH_AT].fill(0)));
     one_byte_behind_the_node: mended(|image| {
-        let behind = places(image).filter(|place| place[..MARK_AT] == [0x0f, 0xff, 0, 2]);
-        behind.for_each(|place| place[3] = 1);
+        places(image).filter(|place| place[..MARK_AT] == [0x0f, 0xff, 0, 2]).for_each(|place| place[3] = 1);
     });
     a_mark_on_an_absent_segment: mended(|image| mark(absent(image), |mark| mark - u8::from(mark == 1)));
     a_mark_in_an_inactive_cluster: mended(|image| for record in inactive(image) {

@@ -126,8 +126,7 @@ impl Complaint {
             }
         }
         for by in &self.not_found {
-            let compared = by.compare(wrong, one_of);
-            compared.map_err(|told| format!("found out by {by:?}: {told}"))?;
+            by.compare(wrong, one_of).map_err(|told| format!("found out by {by:?}: {told}"))?;
         }
         Ok(())
     }
@@ -170,8 +169,7 @@ pub fn run(name: &str, (wrong, complaint): Row) {
 fn nothing_wrong_is_no_row() {
     let long = [By::EveryByte, By::AtWords, By::Masks];
     for finder in By::ALL.into_iter().filter(|by| !long.contains(by)) {
-        let told = by(finder, []).judge(&right(), 20);
-        assert_eq!(told, Err(format!("not found out by {finder:?}")));
+        assert_eq!(by(finder, []).judge(&right(), 20), Err(format!("not found out by {finder:?}")));
     }
 }
 

@@ -67,8 +67,7 @@ table! {
 }
 
 fn too_short(seen: &Seen) -> bool {
-    let own = seen.own().and_then(|segment| segment.extent());
-    own.is_some_and(|extent| seen.question.buffer.len() < extent.length)
+    seen.own().and_then(|segment| segment.extent()).is_some_and(|extent| seen.question.buffer.len() < extent.length)
 }
 
 fn has_frozen_in_its_node(seen: &Seen) -> bool {
@@ -151,8 +150,7 @@ fn blind(code: u8, segments: fn(usize) -> bool) -> Wrong {
         marks.iter().for_each(|&mark| held.image[mark] = 0);
         let answer = guard::ask(held, question);
         for mark in marks {
-            let length = mark - MARK_AT + LENGTH_AT..mark;
-            if held.image[length] != [0, 0] {
+            if held.image[mark - MARK_AT + LENGTH_AT..mark] != [0, 0] {
                 held.image[mark] = before[mark];
             }
         }
@@ -167,8 +165,7 @@ fn on_frozen_bytes() -> Wrong {
         let marks = marks_of(held, question).into_iter();
         let (frozen, others): (Vec<usize>, Vec<usize>) = marks.partition(|&mark| before[mark] == 1);
         if question.code() == NEW_SEGMENT && !others.is_empty() {
-            let places = frozen.iter().map(|mark| mark - MARK_AT..=*mark);
-            places.for_each(|place| held.image[place].fill(0));
+            frozen.iter().map(|mark| mark - MARK_AT..=*mark).for_each(|place| held.image[place].fill(0));
         }
         let answer = guard::ask(held, question);
         for place in frozen.into_iter().map(|mark| mark - MARK_AT..=mark) {

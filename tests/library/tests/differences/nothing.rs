@@ -77,7 +77,6 @@ table! {
     a_reduction_refused: refused_to_nothing(REDUCE);
     a_validation_refused: refused_to_nothing(VALIDATION);
     a_refusal_that_gives_the_old_handle: weakening(|it| {
-        let given = Reply::with_handle(&it.handle);
-        (it.reply.number == 21).then_some(Reply { number: 21, ..given })
+        (it.reply.number == 21).then_some(Reply { number: 21, ..Reply::with_handle(&it.handle) })
     }) => by(By::Single, [MORE]);
 }

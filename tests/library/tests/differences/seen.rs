@@ -45,22 +45,19 @@ impl Seen {
 
     /// The segment of that cluster.
     pub fn own(&self) -> Option<Segment> {
-        let segments = self.cluster()?.segments;
-        segments.get(self.segment as usize).copied()
+        self.cluster()?.segments.get(self.segment as usize).copied()
     }
 
     /// The bytes of that segment, where it is present.
     pub fn there(&self) -> Option<&[u8]> {
-        let part = self.own()?.extent()?.in_memory(self.handle.node.into());
-        self.held.memory.get(part)
+        self.held.memory.get(self.own()?.extent()?.in_memory(self.handle.node.into()))
     }
 
     /// Those of all segments of that cluster.
     pub fn in_the_cluster(&self) -> Vec<&[u8]> {
         let store = self.store.as_ref().filter(|_| self.cluster().is_some());
         let parts = store.map(|store| parts_of(store, self.place()));
-        let parts = parts.into_iter().flatten();
-        parts.map(|part| &self.held.memory[part]).collect()
+        parts.into_iter().flatten().map(|part| &self.held.memory[part]).collect()
     }
 
     pub fn is_nowhere(&self) -> bool {
@@ -128,8 +125,7 @@ impl Seen {
     }
 
     pub fn has_another_width(&self) -> bool {
-        let active = self.active();
-        active.is_some_and(|cluster| !cluster.has_width(self.handle.width()))
+        self.active().is_some_and(|cluster| !cluster.has_width(self.handle.width()))
     }
 
     /// What the library replies to the same call in the node of its handle.

@@ -22,8 +22,7 @@ fn is_zero(bytes: &[u8]) -> bool {
 }
 
 fn is_odd(seen: &Seen) -> bool {
-    let first = seen.there().and_then(|there| there.first());
-    first.is_some_and(|byte| byte % 2 == 1)
+    seen.there().and_then(|there| there.first()).is_some_and(|byte| byte % 2 == 1)
 }
 
 /// Refuses with 22, for what lies there, what would be done.
@@ -92,8 +91,7 @@ table! {
 /// The new segment of a call 3 that was done, in its node.
 fn new_segment(it: &After) -> (usize, Extent) {
     let after = Seen::of(it.held, it.question);
-    let own = after.and_then(|seen| Some((seen.handle.node.into(), seen.own()?.extent()?)));
-    own.expect("it is done")
+    after.and_then(|seen| Some((seen.handle.node.into(), seen.own()?.extent()?))).expect("it is done")
 }
 
 /// Leaves some bytes of a new segment as they had been: those at these places, of so many.
@@ -113,8 +111,7 @@ fn not_cleared(kept: fn(usize, usize) -> bool) -> Row {
 fn clean(held: &Held, store: &Store, node: usize, size: usize) -> Option<usize> {
     gaps(store, node).into_iter().find_map(|gap| {
         let mut zeros = 0;
-        let bytes = held.memory[gap.in_memory(node)].iter();
-        let last = bytes.enumerate().find(|(_, byte)| {
+        let last = held.memory[gap.in_memory(node)].iter().enumerate().find(|(_, byte)| {
             zeros = if **byte == 0 { zeros + 1 } else { 0 };
             zeros == size
         });
@@ -256,8 +253,7 @@ table! {
 #[test]
 fn what_tells_nothing_is_not_found_out() {
     let clearing = after(|it| it.buffer.fill(0));
-    let validating = either_mode(VALIDATION, Mode::Read);
-    for wrong in [right(), asked(refuse), clearing, validating] {
+    for wrong in [right(), asked(refuse), clearing, either_mode(VALIDATION, Mode::Read)] {
         run("nothing told", (wrong, not_by([By::Writers])));
     }
 }

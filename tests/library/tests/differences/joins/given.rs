@@ -32,8 +32,7 @@ fn converted(it: &Asked, parameter: u16) -> HandleBytes {
 
 /// The right handle, changed.
 fn changed(it: &Asked, change: impl Fn(Handle) -> Handle) -> HandleBytes {
-    let right = Handle::from_bytes(&RIGHTLY(it)).expect("it is one");
-    change(right).to_bytes()
+    change(Handle::from_bytes(&RIGHTLY(it)).expect("it is one")).to_bytes()
 }
 
 /// One of the two comes back where this is so.

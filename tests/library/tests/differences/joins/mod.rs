@@ -41,8 +41,7 @@ impl Asked {
 
     /// A primary password of that cluster; of the other mode, too.
     fn password(&self, at: usize, mode: Mode) -> Password {
-        let cluster = self.cluster(at).unwrap_or(&Cluster::INACTIVE);
-        *cluster.primary(mode)
+        *self.cluster(at).unwrap_or(&Cluster::INACTIVE).primary(mode)
     }
 
     fn primary(&self, at: usize) -> Password {
@@ -139,8 +138,7 @@ fn noting(handle: Handle, password: &Password, segments: u16) -> HandleBytes {
     let mut selector = Selector::primary(handle.width());
     selector.subselectors[0] = segments;
     let password = guard::convert(password, segments);
-    let noting = Handle { password, selector, ..handle };
-    noting.to_bytes()
+    Handle { password, selector, ..handle }.to_bytes()
 }
 
 /// What a join that is done gives.
@@ -151,8 +149,7 @@ const RIGHTLY: Given = |it| noting(it.handles[0], &it.primary(0), it.union());
 /// What joining by these rows comes to, the first that applies.
 fn by_rows(held: &mut Held, question: &Question, rows: &[JoinRow], given: Given) -> Answer {
     let Some(asked) = Asked::of(held, question) else { return guard::ask(held, question) };
-    let refusal = rows.iter().find(|(_, applies)| applies(&asked));
-    let reply = match refusal {
+    let reply = match rows.iter().find(|(_, applies)| applies(&asked)) {
         Some((number, _)) => Reply::refused(*number),
         None => Reply { first: given(&asked), ..Reply::DONE },
     };
@@ -166,9 +163,7 @@ fn joined(rows: Vec<JoinRow>, given: Given) -> Wrong {
 
 /// The right rows but these.
 fn without(left_out: &[usize]) -> Vec<JoinRow> {
-    let rows = RIGHT.iter().enumerate();
-    let kept = rows.filter(|(at, _)| !left_out.contains(at));
-    kept.map(|(_, row)| *row).collect()
+    RIGHT.iter().enumerate().filter(|(at, _)| !left_out.contains(at)).map(|(_, row)| *row).collect()
 }
 
 /// By a join to which the model gives this.
@@ -187,6 +182,5 @@ fn the_right_rows_are_not_found_out() {
 
 #[test]
 fn rows_stand_where_they_are_cut() {
-    let numbers = [25, 25, 1, 2, 2, 3, 4, 4, 24, 8, 8, 25, 25, 9, 9, 23];
-    assert_eq!(RIGHT.map(|(number, _)| number), numbers);
+    assert_eq!(RIGHT.map(|(number, _)| number), [25, 25, 1, 2, 2, 3, 4, 4, 24, 8, 8, 25, 25, 9, 9, 23]);
 }

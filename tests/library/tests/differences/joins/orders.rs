@@ -11,8 +11,7 @@ fn moved(right: u8, wrong: u8, applies: fn(&Asked) -> bool) -> Wrong {
             let first = RIGHT.iter().find(|(_, applies)| applies(&asked))?;
             (first.0 == right && applies(&asked)).then_some((wrong, applies))
         });
-        let rows = [given.as_slice(), &RIGHT].concat();
-        by_rows(held, question, &rows, RIGHTLY)
+        by_rows(held, question, &[given.as_slice(), &RIGHT].concat(), RIGHTLY)
     })
 }
 

@@ -67,8 +67,7 @@ fn compared_with_one_another() -> Wrong {
 }
 
 fn validates_in_no_mode(it: &Asked) -> bool {
-    let mut modes = Mode::ALL.into_iter();
-    modes.all(|mode| !it.handles[1].is_made_from(&it.password(1, mode)))
+    Mode::ALL.into_iter().all(|mode| !it.handles[1].is_made_from(&it.password(1, mode)))
 }
 
 // Other rows, and rows too many.

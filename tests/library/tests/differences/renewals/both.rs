@@ -3,8 +3,7 @@
 use crate::words::*;
 
 fn opens_both(handle: &Handle, cluster: &Cluster) -> bool {
-    let mut modes = Mode::ALL.iter();
-    modes.all(|mode| handle.validates(cluster, *mode))
+    Mode::ALL.iter().all(|mode| handle.validates(cluster, *mode))
 }
 
 /// 9 for calls with this code in this mode by a handle that opens both.
@@ -21,8 +20,7 @@ fn batch_kept(kept_from: Mode) -> Row {
         let count = validate_all(held, (mode, width), handles, numbers);
         let store = decode(&held.image).filter(|_| mode == kept_from.number() as usize);
         let (Some(width), Some(store)) = (Width::of_segments(width), store) else { return count };
-        let handles = handles.chunks_exact(width.handle_bytes());
-        for (number, bytes) in numbers.iter_mut().zip(handles).take(count) {
+        for (number, bytes) in numbers.iter_mut().zip(handles.chunks_exact(width.handle_bytes())).take(count) {
             let handle = Handle::from_bytes(bytes).expect("it is a whole one");
             if *number == 0 && store.cluster_of(&handle).is_some_and(|cluster| opens_both(&handle, cluster)) {
                 *number = 9;

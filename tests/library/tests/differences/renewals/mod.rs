@@ -145,8 +145,7 @@ fn twins_made() -> Wrong {
         let Call::NewCluster { width, read, write, .. } = it.question.call else { return };
         let (node, local) = it.cluster().expect("2 comes before 7");
         let width = Width::of_segments(width).expect("3 comes before 7");
-        let cluster = Cluster::new(width, read, write);
-        *it.held = with(it.held, (node, local), cluster);
+        *it.held = with(it.held, (node, local), Cluster::new(width, read, write));
         let handle = |password| Handle::primary(width, node as u16, local as u8, password).to_bytes();
         (it.reply, it.reply.first, it.reply.second) = (Reply::DONE, handle(read), handle(write));
     })

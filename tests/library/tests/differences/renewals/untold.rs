@@ -17,8 +17,7 @@ fn noting(note: fn(&mut Held, u8)) -> Wrong {
         let asked = Asked::of(held, question);
         let answer = guard::ask(held, question);
         if let Some(asked) = asked {
-            let other = asked.other().into_iter();
-            let sum = other.fold(0, |sum: u8, byte| sum.wrapping_mul(31).wrapping_add(byte));
+            let sum = asked.other().into_iter().fold(0, |sum: u8, byte| sum.wrapping_mul(31).wrapping_add(byte));
             note(held, sum);
         }
         answer

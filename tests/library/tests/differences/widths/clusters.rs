@@ -12,8 +12,7 @@ fn opened(opens: impl Fn(usize, usize) -> bool + 'static) -> Wrong {
         let Some((name, primary, own)) = own else { return guard::ask(held, question) };
         let fitting = question.with_handles(|handle| {
             let (width, wide) = (handle.width().segments(), own.segments());
-            let meant = handle.name() == name && width != wide && opens(width, wide);
-            if meant && handle.is_made_from(&primary) {
+            if handle.name() == name && width != wide && opens(width, wide) && handle.is_made_from(&primary) {
                 *handle = at_width(handle, own);
                 handle.password = derive(&primary, &handle.selector);
             }
@@ -89,17 +88,14 @@ fn eight(code: u8) -> Row {
 fn room_for_more(number: u8, width: Width, room: u32) -> Row {
     refused(READ, 3, number, move |seen| {
         let meant = seen.handle.width() == width && seen.segment < room;
-        let opens = !seen.has_another_width() && !seen.is_forged() && !seen.is_gapped();
-        meant && seen.active().is_some() && opens
+        meant && seen.active().is_some() && !seen.has_another_width() && !seen.is_forged() && !seen.is_gapped()
     })
 }
 
 /// Gapped as it would be with another flat number.
 fn is_gapped_by_255(seen: &Seen) -> bool {
-    let parts = seen.handle.selector.subselectors;
-    let mut pairs = parts.windows(2);
-    let gapped = pairs.any(|pair| pair[0] == 0x00ff && pair[1] != 0x00ff);
-    gapped && seen.handle.width() == Width::Sixteen
+    let mut pairs = seen.handle.selector.subselectors.windows(2);
+    pairs.any(|pair| pair[0] == 0x00ff && pair[1] != 0x00ff) && seen.handle.width() == Width::Sixteen
 }
 
 table! {

@@ -99,10 +99,8 @@ fn validates(other: fn(u16) -> u16) -> Wrong {
         let seen = it.seen().expect("it is done by a handle");
         let (mut handle, primary) = (seen.handle, seen.primary().expect("it is done"));
         let flat = handle.width().flat();
-        let parts = handle.selector.subselectors.iter_mut();
-        parts.filter(|part| **part != flat).for_each(|part| *part = other(*part));
-        let is_wide = handle.width() == Width::Sixteen;
-        if is_wide && derive(&primary, &handle.selector) != handle.password {
+        handle.selector.subselectors.iter_mut().filter(|part| **part != flat).for_each(|part| *part = other(*part));
+        if handle.width() == Width::Sixteen && derive(&primary, &handle.selector) != handle.password {
             it.reply = Reply::refused(9);
         }
     })

@@ -50,8 +50,7 @@ table! {
 
 /// Takes everything for a handle of eight in calls with this code that is none.
 fn unknown(code: u8) -> Wrong {
-    let meant = move |question: &Question| question.code() == code && !is_known(&question.call);
-    taken_for(meant, |_| 23)
+    taken_for(move |question: &Question| question.code() == code && !is_known(&question.call), |_| 23)
 }
 
 in_one_call! {

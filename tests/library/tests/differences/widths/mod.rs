@@ -14,8 +14,7 @@ fn widths(right: u8) -> Complaint {
 
 /// Whether every handle has one of the three lengths.
 fn is_known(call: &Call) -> bool {
-    let mut lengths = call.presented_bytes().map(<[u8]>::len);
-    lengths.all(|length| Width::of_handle_bytes(length).is_some())
+    call.presented_bytes().map(<[u8]>::len).all(|length| Width::of_handle_bytes(length).is_some())
 }
 
 fn is_none(width: usize) -> bool {
@@ -54,8 +53,7 @@ fn at_first(other: impl Fn(&Held, &Question) -> Option<u8> + 'static) -> Wrong {
 /// Refuses with this number in the place of 25 at its second place, where this applies.
 fn at_second(number: u8, applies: impl Fn(&Seen) -> bool + 'static) -> Wrong {
     after(move |it| {
-        let second = it.reply.number == 25 && is_known(&it.question.call);
-        if second && it.seen().is_some_and(|seen| applies(&seen)) {
+        if it.reply.number == 25 && is_known(&it.question.call) && it.seen().is_some_and(|seen| applies(&seen)) {
             it.reply = Reply::refused(number);
         }
     })
