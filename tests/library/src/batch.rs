@@ -1,11 +1,7 @@
 //! Many validations by one call, against one call each and against the model.
 
-use crate::chance::damage::{inflict, Damage, LAST_PLACE};
-use crate::chance::handles::{at_width, handle, Wish};
-use crate::chance::stores::{self, Fill};
 use crate::damages::Where;
-use crate::guard;
-use crate::tally::Tally;
+use crate::edges::{around, count, each};
 use crate::words::*;
 
 /// Something that validates many handles, given the mode and the width; [`guard::validate_all`] is the one to be
@@ -58,38 +54,26 @@ pub fn compare(guard: BatchGuard, seed: u64, batches: u64, tally: &mut Tally) ->
 /// Batches of every width up to a little above the greatest, and of some that are right in their low bytes alone; and
 /// bytes of every length up to that of two handles. Gives how many batches there were.
 pub fn every_width(guard: BatchGuard, seed: u64) -> Result<u64, String> {
-    let mut batches = 0;
-    let mut widths = Width::ALL.into_iter();
-    cases(seed, Width::ALL.len() as u64, |random| {
-        let own = widths.next().expect("there are as many cases");
+    let compared = each(seed, Width::ALL, |random, own, asked| {
         let tally = &mut Tally::default();
         let batch = by_chance(random, None, tally);
-        let right = own.segments();
-        let high = [8, 16, 32, 48, 63].map(|bit| right + (1 << bit));
-        for width in (0..2 * SEGMENTS).chain(high).chain([usize::MAX]) {
-            let mut batch = batch.clone();
-            batch.width = width;
-            one(guard, &batch, tally)?;
-            batches += 1;
+        for width in around(own.segments(), 2 * SEGMENTS - 2) {
+            one(guard, &Batch { width, ..batch.clone() }, tally)?;
+            count(asked, true);
         }
         for length in 0..=2 * own.handle_bytes() {
-            let mut batch = batch.clone();
-            batch.width = right;
-            batch.handles = bytes(random, length);
-            batch.numbers = bytes(random, 3);
-            one(guard, &batch, tally)?;
-            batches += 1;
+            let (handles, numbers) = (bytes(random, length), bytes(random, 3));
+            one(guard, &Batch { width: own.segments(), handles, numbers, ..batch.clone() }, tally)?;
+            count(asked, true);
         }
         Ok(())
-    })?;
-    Ok(batches)
+    });
+    compared.map(|(batches, _)| batches)
 }
 
 fn one(guard: BatchGuard, batch: &Batch, tally: &mut Tally) -> Result<(), String> {
-    let mut held = batch.held.clone();
-    let mut found = batch.numbers.clone();
-    let (mode, width) = (batch.mode, batch.width);
-    let count = guard(&mut held, mode, width, &batch.handles, &mut found);
+    let (mut held, mut found, width) = (batch.held.clone(), batch.numbers.clone(), batch.width);
+    let count = guard(&mut held, batch.mode, width, &batch.handles, &mut found);
     let expected_count = batch.expected_count();
     if count != expected_count {
         return Err(format!("{count} numbers are told for width {width}, {expected_count} are due"));
@@ -173,8 +157,7 @@ fn handles(random: &mut Random, store: &Store, width: Width, count: usize) -> Ve
             width: Some(width).filter(|_| !random.one_in(8)),
         };
         let handle = handle(random, store, &[], wish);
-        let handle = if handle.width() == width { handle } else { at_width(&handle, width) };
-        joined.extend(handle.to_bytes());
+        joined.extend(if handle.width() == width { handle } else { at_width(&handle, width) }.to_bytes());
     }
     let more = below(random, width.handle_bytes());
     joined.extend(bytes(random, more));

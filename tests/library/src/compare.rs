@@ -1,8 +1,7 @@
 //! One question put to the library and to the model, and everything that has to be equal then.
 
-use crate::image::{decode, encode};
-use crate::question::{Answer, Held, Question};
-use model::{model::run, words::*};
+use crate::words::*;
+use model::model::run;
 
 /// Something that answers questions; [`crate::guard::ask`] is the one to be compared.
 pub type Guard<'a> = &'a dyn Fn(&mut Held, &Question) -> Answer;

@@ -1,8 +1,6 @@
 //! Which kinds of damage were met, in which calls and at which places.
 
-use crate::chance::damage::{Damage, LAST_PLACE};
-use crate::question::{name, BATCH, CODES};
-use model::listed;
+use crate::words::*;
 use std::collections::BTreeSet;
 
 listed! {

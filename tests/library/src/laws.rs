@@ -1,7 +1,5 @@
 //! What holds of joins whatever they join, judged by the library's side alone.
 
-use crate::chance::questions::Maker;
-use crate::chance::stores::{self, Fill};
 use crate::words::*;
 
 /// Gives how many joins were done.

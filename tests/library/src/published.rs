@@ -1,6 +1,6 @@
 //! The published handles, each line confirmed through the library on a store made for it.
 
-use crate::{guard, words::*};
+use crate::words::*;
 use model::hexadecimal::decode;
 use std::collections::HashMap;
 

@@ -93,12 +93,7 @@ impl Question {
 
     /// The bytes of the handle that the call presents; of the first, where it presents two.
     pub fn handle_mut(&mut self) -> Option<&mut HandleBytes> {
-        self.presented_mut().into_iter().next()
-    }
-
-    /// The bytes of every handle that the call presents.
-    pub fn presented_mut(&mut self) -> Vec<&mut HandleBytes> {
-        self.call.presented_mut()
+        self.call.presented_mut().into_iter().next()
     }
 
     /// Current node, segment and mode of a call by handles, those of them that it has.
@@ -121,9 +116,7 @@ impl Question {
     /// The same with every handle changed that the call presents.
     pub fn with_handles(&self, mut change: impl FnMut(&mut Handle)) -> Question {
         let mut changed = self.clone();
-        for bytes in changed.presented_mut() {
-            change_handle(bytes, &mut change);
-        }
+        changed.call.presented_mut().into_iter().for_each(|bytes| change_handle(bytes, &mut change));
         changed
     }
 }
@@ -138,14 +131,9 @@ pub fn change_handle(bytes: &mut HandleBytes, change: impl FnOnce(&mut Handle)) 
 
 impl fmt::Display for Question {
     fn fmt(&self, to: &mut fmt::Formatter) -> fmt::Result {
-        write!(
-            to,
-            "{:?}, {BEYOND} standing for {}, buffer of {} bytes, {:02x?} behind the length",
-            self.call,
-            self.beyond,
-            self.buffer.len(),
-            self.behind
-        )
+        let Question { call, beyond, buffer, behind } = self;
+        let bytes = buffer.len();
+        write!(to, "{call:?}, {BEYOND} standing for {beyond}, buffer of {bytes} bytes, {behind:02x?} behind the length")
     }
 }
 
@@ -178,12 +166,9 @@ impl Answer {
 
 impl fmt::Display for Answer {
     fn fmt(&self, to: &mut fmt::Formatter) -> fmt::Result {
-        let Reply { number, first, second, count, length, shown } = &self.reply;
+        let Reply { number, first, second, count, length, shown: Part { from, length: shown } } = &self.reply;
         let [first, second] = [first, second].map(|handle| model::hexadecimal::encode(handle));
-        write!(
-            to,
-            "number {number}, handles {first} {second}, count {count}, length {length}, shown {} from {}",
-            shown.length, shown.from
-        )
+        write!(to, "number {number}, handles {first} {second}, count {count}, length {length}, ")?;
+        write!(to, "shown {shown} from {from}")
     }
 }

@@ -1,10 +1,7 @@
 //! Long rows of calls from the starting store: handles that were given are weakened, reduced,
 //! revoked and presented again, and each call works on what the last one left. What was frozen on the way stays.
 
-use crate::chance::questions::{Maker, FILLING};
-use crate::guard;
 use crate::stays::seen;
-use crate::tally::Tally;
 use crate::words::*;
 use model::frozen::Watch;
 

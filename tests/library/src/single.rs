@@ -1,11 +1,6 @@
 //! Single calls on sound and on damaged stores, with soundness and conversion beside them.
 
-use crate::chance::damage::{inflict, Damage, LAST_PLACE};
-use crate::chance::questions::{Maker, EVENLY};
-use crate::chance::stores::{self, Fill};
 use crate::damages::Where;
-use crate::guard;
-use crate::tally::Tally;
 use crate::words::*;
 
 pub fn compare(guard: Guard, seed: u64, calls: u64, tally: &mut Tally) -> Result<(), String> {

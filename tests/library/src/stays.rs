@@ -1,10 +1,8 @@
 //! What is frozen stays, judged by the library's side alone: rows of calls on stores with frozen segments, most of
 //! them by handles that open the cluster they name.
 
-use crate::chance::questions::Maker;
-use crate::chance::stores::{self, Fill};
 use crate::words::*;
-use model::{frozen::Watch, met::Met};
+use model::frozen::Watch;
 
 /// Calls of one row.
 pub const ROW_CALLS: u64 = 100;

@@ -1,12 +1,9 @@
 //! What calls have to come to and what they came to: the numbers of each, fills, damages, selectors, modes, and what
 //! [`damages`], [`sights`], [`widths`] and the model list.
 
-use crate::chance::damage::Damage;
-use crate::chance::stores::Fill;
 use crate::damages::{self, Where};
-use crate::words::*;
-use crate::{sights, widths};
-use model::met::{self, Met};
+use crate::{sights, widths, words::*};
+use model::met;
 use std::{collections::BTreeMap, fmt};
 
 /// What a call that validates handles may come to in any case, 0 for done among it.

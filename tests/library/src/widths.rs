@@ -1,7 +1,7 @@
 //! Which widths were met: handles and clusters of each in every call, lengths that no handle has, handles of another
 //! width than their cluster's, segments about the width, and bits of masks that do not matter.
 
-use crate::{chance::handles::MOST_BYTES, words::*};
+use crate::words::*;
 use model::widths::Sight as Seen;
 
 /// What takes a segment, and what takes a current node or a second handle, which can be nowhere.

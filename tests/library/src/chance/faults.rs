@@ -1,10 +1,7 @@
 //! What is wrong in the records of a damaged store.
 
-use super::damage::Damage;
-use super::stores::{active, extents, gaps, present};
 use super::words::{self, Beside};
-use super::{below, width};
-use model::words::*;
+use crate::words::*;
 
 /// The numbers that two bytes can hold.
 const TWO_BYTES: usize = 1 << 16;

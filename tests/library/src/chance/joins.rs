@@ -1,7 +1,6 @@
 //! Joins by chance: most are made as in lists, with handles of every width and of lengths that none has, and with modes
 //! that a list cannot name besides.
 
-use super::questions::Maker;
 use crate::words::*;
 use model::generate::joins;
 
@@ -9,8 +8,7 @@ impl Maker<'_> {
     pub(super) fn join(&mut self) -> Call {
         let aimed = if self.random.one_in(4) { None } else { joins::join_of_widths(self.random, self.store) };
         let Some(join) = aimed else { return self.as_other_calls() };
-        let [handle, other] = join.handles;
-        let right = join.mode.number();
+        let ([handle, other], right) = (join.handles, join.mode.number());
         let mode = if join.is_a_mode { right } else { no_mode(self.random, right) };
         Call::join(mode, handle, other)
     }
@@ -19,12 +17,9 @@ impl Maker<'_> {
     fn as_other_calls(&mut self) -> Call {
         let (mode, number) = self.mode();
         let handle = self.handle(mode, false, true);
-        let given = self.given.iter().copied();
-        let same: Vec<Handle> = given.filter(|given| given.name() == handle.name()).collect();
-        let other = match self.random.pick(&same) {
-            Some(other) => *other,
-            None => self.handle(mode, false, true),
-        };
+        let same: Vec<Handle> = self.given.iter().filter(|given| given.name() == handle.name()).copied().collect();
+        let chosen = self.random.pick(&same).copied();
+        let other = chosen.unwrap_or_else(|| self.handle(mode, false, true));
         Call::join(number, self.presented(&handle), self.presented(&other))
     }
 }

@@ -1,7 +1,6 @@
 //! Calls 1 and 7 by chance, in which widths and masks matter.
 
-use super::{below, bit, bits, handles, password, questions::Maker, width};
-use model::words::*;
+use crate::words::*;
 
 impl Maker<'_> {
     pub(super) fn new_cluster(&mut self) -> Call {
@@ -13,13 +12,8 @@ impl Maker<'_> {
         let (node, local) = inactive.unwrap_or(any);
         let read = password(self.random);
         let write = if self.random.one_in(6) { read } else { password(self.random) };
-        Call::NewCluster {
-            node: self.near(node, NODES),
-            local: self.near(local, CLUSTERS),
-            width: self.width(),
-            read,
-            write,
-        }
+        let (node, local) = (self.near(node, NODES), self.near(local, CLUSTERS));
+        Call::NewCluster { node, local, width: self.width(), read, write }
     }
 
     /// Mostly one of the three; else a number about them, or one that is right in its lowest bytes alone.

@@ -1,8 +1,7 @@
 //! Sound stores by chance, from empty ones to ones in which nothing is left, with clusters of every width.
 
-use super::{below, fill, passwords, width, words::WORD};
+use super::words::WORD;
 use crate::words::*;
-use model::listed;
 use std::{collections::BTreeSet, ops::Range};
 
 /// How many of so many segments are frozen is chosen for a store.

@@ -3,13 +3,9 @@
 
 mod count;
 
-use crate::chance::handles::at_width;
-use crate::chance::questions::{Maker, FILLING};
-use crate::chance::stores::{self, Fill};
 use crate::pairs::{ask_both, parts_of, set_apart, validates, Pair};
 use crate::words::*;
 pub use count::met;
-use model::met::Met;
 use std::ops::Range;
 
 /// Calls of one list.
@@ -23,8 +19,9 @@ pub fn compare(guard: Guard, seed: u64, pairs: u64) -> Result<Met, String> {
 
 fn one(guard: Guard, random: &mut Random, met: &mut Met) -> Result<(), String> {
     let mut pair = by_chance(random);
-    count::note_pair(met, &pair);
-    let own = parts_of(&pair.stores()?[0], pair.apart);
+    let stores = pair.stores()?;
+    count::note_pair(met, &pair, &stores);
+    let own = parts_of(&stores[0], pair.apart);
     let start = pair.copies.clone();
     let mut given = Vec::new();
     for at in 1..=LIST_CALLS {
@@ -73,8 +70,8 @@ impl Pair {
     /// Makes the question name the cluster set apart, mostly with a password that does not open it, sometimes with one
     /// that does and at another width. Of two handles mostly both name it, and else one of them.
     fn aim(&self, random: &mut Random, store: &Store, question: &mut Question) {
-        let cluster = &store.clusters[self.apart.0][self.apart.1];
-        let mut aimed = question.presented_mut();
+        let cluster = self.cluster(store);
+        let mut aimed = question.call.presented_mut();
         if aimed.len() > 1 && random.one_in(3) {
             aimed.remove(below(random, 2));
         }
@@ -98,10 +95,7 @@ impl Pair {
 
     /// Often gives the handle another password; one that opens the cluster where it is of another width.
     fn guess(&self, random: &mut Random, cluster: &Cluster, handle: &mut Handle) {
-        let near = |mut password: Password| {
-            password[0] ^= 1;
-            password
-        };
+        let near = |password: Password| std::array::from_fn(|at| password[at] ^ u8::from(at == 0));
         let choices = [password(random), near(cluster.read), near(cluster.write), cluster.read];
         if !cluster.has_width(handle.width()) {
             handle.password = derive(&[cluster.read, cluster.write][below(random, 2)], &handle.selector);
@@ -115,11 +109,9 @@ impl Pair {
     fn kept_by_the_passwords(&self, question: &Question, answer: &Answer) -> bool {
         let [copy, _] = &self.copies;
         let (Some(store), VIOLATED_PROTECTION) = (decode(&copy.image), answer.reply.number) else { return false };
-        let Some(mode) = question.call.needed_mode().filter(|_| self.names_apart(question)) else { return false };
-        let primary = *store.clusters[self.apart.0][self.apart.1].primary(mode);
-        let opening = question.with_handles(|handle| {
-            handle.password = derive(&primary, &handle.selector);
-        });
+        let Some(mode) = question.call.needed_mode().filter(|_| self.names_apart(&question.call)) else { return false };
+        let primary = self.cluster(&store).primary(mode);
+        let opening = question.with_handles(|handle| handle.password = derive(primary, &handle.selector));
         by_model(&mut copy.clone(), &opening).reply.is_done()
     }
 

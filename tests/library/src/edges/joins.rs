@@ -1,7 +1,6 @@
 //! Joins where an argument comes to an end: modes, and the node and the local number of either handle.
 
 use super::{around, each, put, Asked};
-use crate::chance::stores::{self, segments_of, Fill};
 use crate::words::*;
 
 /// Modes are numbered from 1.

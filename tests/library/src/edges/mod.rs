@@ -7,8 +7,6 @@ mod handles;
 mod joins;
 mod widths;
 
-use crate::chance::handles::primary;
-use crate::chance::stores::{self, active_of, present, Fill};
 use crate::chance::words::{Beside, LENGTHS};
 use crate::words::*;
 pub use handles::{handles, Maker};
@@ -35,7 +33,7 @@ const STRETCHES: [(usize, usize); 9] = [
 const HIGH: [usize; 5] = [1 << 8, 1 << 16, 1 << 32, 1 << 48, 1 << 63];
 
 /// Tries a case with each of these, and gives what all of them counted.
-fn each<T>(
+pub(crate) fn each<T>(
     seed: u64,
     all: impl IntoIterator<Item = T>,
     mut case: impl FnMut(&mut Random, T, &mut Asked) -> Result<(), String>,
@@ -46,7 +44,7 @@ fn each<T>(
     Ok(asked)
 }
 
-fn count(asked: &mut Asked, is_right: bool) {
+pub(crate) fn count(asked: &mut Asked, is_right: bool) {
     asked.0 += 1;
     asked.1 += u64::from(is_right);
 }
@@ -180,6 +178,6 @@ fn around_segments(
 }
 
 /// Everything up to a little above `bound`, what is equal to `right` in its low bytes alone, and the greatest.
-fn around(right: usize, bound: usize) -> impl Iterator<Item = usize> {
+pub(crate) fn around(right: usize, bound: usize) -> impl Iterator<Item = usize> {
     (0..bound + 2).chain(HIGH.map(|more| right + more)).chain([usize::MAX])
 }

@@ -2,8 +2,6 @@
 //! about it, masks of all sixteen bits, and the widths of new clusters.
 
 use super::{around, each, put, Asked, HIGH};
-use crate::chance::handles::at_width;
-use crate::chance::stores::{self, active_of, present};
 use crate::words::*;
 
 /// Widths are tried from 0 up to so many: one more byte is begun.
@@ -86,7 +84,7 @@ pub fn lengths(guard: Guard, seed: u64) -> Result<Asked, String> {
                     let more = bytes(random, length);
                     let mut question = question.clone();
                     fill(random, &mut question.behind);
-                    let presented = question.presented_mut().into_iter().enumerate();
+                    let presented = question.call.presented_mut().into_iter().enumerate();
                     for (_, handle) in presented.filter(|(at, _)| chosen >> at & 1 == 1) {
                         handle.extend(&more);
                         handle.truncate(length);

@@ -1,8 +1,5 @@
 //! Calls by chance for a list: half of them by those who write to the cluster, many about others of its node.
 
-use crate::chance::handles::of_another_width;
-use crate::chance::questions::{Maker, FILLING};
-use crate::chance::stores::gaps;
 use crate::pairs::{does, names, validates, Pair};
 use crate::words::*;
 use std::ops::Range;
@@ -83,13 +80,12 @@ impl Asking {
 
 impl Made<'_> {
     fn question(mut self, writing: &[u8]) -> Question {
-        let (node, local) = self.pair.apart;
-        let active = self.store.clusters[node][local].active;
+        let active = self.pair.cluster(self.store).active;
         match self.random.below(16) {
             0 => self.anew(),
             1 | 2 if !active => self.anew(),
             1..=7 => {
-                let mut question = self.likely((node, local), writing);
+                let mut question = self.likely(self.pair.apart, writing);
                 if self.random.one_in(4) {
                     self.guess(&mut question);
                 }
@@ -148,9 +144,8 @@ impl Made<'_> {
     /// One that may ask for reading by handles that write, by passwords that are one bit off, or by handles that would
     /// read if they were as wide as the cluster.
     fn as_if_to_read(&mut self) -> Question {
-        let (node, local) = self.pair.apart;
-        let cluster = self.store.clusters[node][local];
-        let question = self.of((node, local), &READING);
+        let cluster = self.pair.cluster(self.store);
+        let question = self.of(self.pair.apart, &READING);
         let (random, store) = (&mut *self.random, self.store);
         let other_width = random.one_in(4);
         question.with_handles(|handle| {

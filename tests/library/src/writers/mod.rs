@@ -6,14 +6,11 @@ mod calls;
 mod count;
 mod freed;
 
-use crate::chance::handles::everywhere;
-use crate::chance::stores::{self, gaps, Fill};
 use crate::pairs::{ask_both, parts_of, set_apart, Pair};
 use crate::words::*;
 use calls::Asking;
 pub use count::met;
 use count::Watch;
-use model::met::Met;
 use std::ops::Range;
 
 /// Calls of one list.
@@ -53,11 +50,8 @@ fn by_chance(random: &mut Random, asking: Asking) -> Pair {
     let fill = FILLS[below(random, FILLS.len())];
     let mut store = stores::store(random, fill);
     let apart = set_apart(random, &store);
-    let cluster = &mut store.clusters[apart.0][apart.1];
     if asking.begins_unfrozen() {
-        for segment in &mut cluster.segments {
-            segment.frozen = false;
-        }
+        store.clusters[apart.0][apart.1].segments.iter_mut().for_each(|segment| segment.frozen = false);
     }
     let mut first = stores::held(random, &store);
     let cluster = &mut store.clusters[apart.0][apart.1];

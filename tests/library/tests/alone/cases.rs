@@ -1,13 +1,9 @@
 //! What is made by chance is what it says it is, and images read back as the stores they are of.
 
-use library::chance::damage::{inflict, Damage, LAST_PLACE};
-use library::chance::stores::{extents, gaps, held, store, Fill};
 use library::chance::words::WORD;
 use library::ffi::{gelmuszta_handle, HANDLE_MAX};
-use library::tally::Tally;
 use library::words::*;
 use library::{copies, stays, untold, writers};
-use model::met::Met;
 
 const HEADER: &str = include_str!("../../../../include/gelmuszta.h");
 const TIMES: usize = 200;

@@ -4,7 +4,6 @@
 use crate::support::faults::{self, Kind, LOCAL, NODE};
 use crate::support::{joint, renewed};
 use crate::wide::{asked, held, primary, refused, READ};
-use library::chance::damage::{inflict, Damage, LAST_PLACE};
 use library::words::*;
 
 #[rustfmt::skip]

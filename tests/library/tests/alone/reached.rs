@@ -29,8 +29,7 @@ fn widths_at_the_edges() {
     let (calls, done) = edges::segments(&guard::ask, 5).expect("no difference");
     assert_eq!(calls, 3 * 3 * 2 * (6 * 24 + 6));
     assert!(done > 50, "{done}");
-    let (calls, done) = edges::new_clusters(&guard::ask, 5).expect("no difference");
-    assert_eq!((calls, done), (3 * 4 * 306, 3 * 3));
+    assert_eq!(edges::new_clusters(&guard::ask, 5), Ok((3 * 4 * 306, 3 * 3)));
     assert_eq!(batch::every_width(&guard::validate_all, 5).expect("no difference"), 3 * 38 + (43 + 47 + 55));
 }
 

@@ -1,9 +1,8 @@
 //! Who finds a wrong library out, in which words, and the driver that sees to it.
 
 use crate::wrong::{on, right, Wrong};
+use library::words::*;
 use library::{batch, copies, edges, laws, runs, single, stays, untold, writers};
-use library::{tally::Tally, words::*};
-use model::listed;
 
 const SEED: u64 = 7;
 

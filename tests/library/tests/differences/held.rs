@@ -7,7 +7,7 @@ use library::{edges, ffi::gelmuszta_handle, ffi::HANDLE_MAX};
 fn taking(change: fn(&Question, &mut HandleBytes)) -> Wrong {
     asked(move |held, question| {
         let mut changed = question.clone();
-        for handle in changed.presented_mut() {
+        for handle in changed.call.presented_mut() {
             change(question, handle);
         }
         guard::ask(held, &changed)

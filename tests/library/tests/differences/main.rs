@@ -51,8 +51,7 @@ mod words {
     pub use crate::driver::*;
     pub use crate::seen::Seen;
     pub use crate::wrong::*;
-    pub use library::chance::handles::at_width;
-    pub use library::{guard, words::*};
+    pub use library::words::*;
     pub use std::{ops::Range, rc::Rc};
 }
 

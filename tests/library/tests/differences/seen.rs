@@ -1,7 +1,7 @@
 //! A question as a wrong library sees it.
 
 use crate::wrong::in_one_byte;
-use library::{guard, pairs::parts_of, words::*};
+use library::{pairs::parts_of, words::*};
 use std::ops::Range;
 
 /// A question by a handle of one of the three lengths, and what it is put to.

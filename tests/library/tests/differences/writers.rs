@@ -3,7 +3,6 @@
 
 use crate::renewals::{compared, giving, is_either, Asked};
 use crate::words::*;
-use library::chance::stores::{gaps, present};
 
 /// By a call with this code and in this word.
 fn told_by(code: u8, word: Word) -> Complaint {

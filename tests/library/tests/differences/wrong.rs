@@ -2,8 +2,7 @@
 
 use crate::driver::{numbers, Row};
 use crate::seen::Seen;
-use library::ffi::gelmuszta_handle;
-use library::{guard, words::*};
+use library::{ffi::gelmuszta_handle, words::*};
 use std::{ops::Range, rc::Rc};
 
 pub type Ask = dyn Fn(&mut Held, &Question) -> Answer;

@@ -4,7 +4,7 @@ use crate::stores::{
     falling, full, full_but_a_cluster, full_but_a_segment, full_length, lone, one_large, typical, FREE_PLACE, PLACE,
     SEGMENT, TYPICAL_CLUSTERS,
 };
-use library::{chance::handles::primary, words::*};
+use library::words::*;
 
 /// The segment that is made where the cluster has two.
 const THIRD: usize = 2;

@@ -6,7 +6,7 @@ mod repeated;
 mod stores;
 
 use calls::{groups, many_handles, weakening, Row};
-use library::{guard, words::*};
+use library::words::*;
 use repeated::{OnImage, OnRecords};
 use std::{hint::black_box, time::Instant};
 use stores::{full, held, typical};

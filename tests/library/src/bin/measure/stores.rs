@@ -1,6 +1,5 @@
 //! The stores that calls are measured on.
 
-use library::chance::{handles::everywhere, stores::present};
 use library::words::*;
 
 /// The cluster that calls are about, and one that a call can make.

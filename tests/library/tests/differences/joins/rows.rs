@@ -101,7 +101,7 @@ table! {
 fn cut(at: usize, cut: fn(&mut Handle)) -> Wrong {
     asking(move |question| {
         if question.code() == JOIN {
-            change_handle(question.presented_mut()[at], cut);
+            change_handle(question.call.presented_mut()[at], cut);
         }
     })
 }

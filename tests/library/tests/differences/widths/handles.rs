@@ -16,7 +16,7 @@ fn coded(width: Width, code: fn(&mut [u8])) -> Wrong {
     };
     asked(move |held, question| {
         let mut seen = question.clone();
-        seen.presented_mut().into_iter().for_each(coded);
+        seen.call.presented_mut().into_iter().for_each(coded);
         let mut answer = guard::ask(held, &seen);
         coded(&mut answer.reply.first);
         coded(&mut answer.reply.second);

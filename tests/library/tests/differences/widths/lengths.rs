@@ -8,7 +8,7 @@ use crate::words::*;
 fn taken_for(meant: impl Fn(&Question) -> bool + 'static, lengths: fn(usize) -> usize) -> Wrong {
     asking(move |question| {
         if meant(question) {
-            for handle in question.presented_mut() {
+            for handle in question.call.presented_mut() {
                 handle.resize(lengths(handle.len()), 0xff);
             }
         }
