@@ -1,8 +1,8 @@
 //! Many validations by one call, against one call each and against the model.
 
-use crate::damages::Where;
+use crate::damages::{self, Where};
 use crate::edges::{around, count, each};
-use crate::words::*;
+use crate::{widths, words::*};
 
 /// Something that validates many handles, given the mode and the width; [`guard::validate_all`] is the one to be
 /// compared.
@@ -92,7 +92,7 @@ fn validated_alone(batch: &Batch, bytes: &[u8], tally: &mut Tally) -> Result<u8,
     let call = Call::validate(narrow(batch.mode), bytes.to_vec());
     let question = Question { beyond: batch.mode, ..Question::of(call) };
     let answer = ask(&guard::ask, &mut Sides::both(batch.held.clone()), &question)?;
-    tally.note_widths(BATCH, &batch.held, &question, &answer);
+    tally.met.note_all(widths::met(BATCH, &batch.held, &question, &answer));
     Ok(answer.reply.number)
 }
 
@@ -103,7 +103,7 @@ fn by_chance(random: &mut Random, damage: Option<Damage>, tally: &mut Tally) -> 
     if let Some(damage) = damage {
         let place = if random.one_in(2) { LAST_PLACE } else { (below(random, NODES), below(random, CLUSTERS)) };
         inflict(random, &mut held, damage, place);
-        tally.note_damage(BATCH, damage, Where::seen_from(None, place));
+        tally.met.note_all(damages::met(BATCH, damage, Where::seen_from(None, place)));
     }
     let count = below(random, MOST_HANDLES + 1);
     let places = match random.below(4) {

@@ -91,6 +91,14 @@ impl Question {
         }
     }
 
+    /// Node and local number of the cluster that the call is about; there may be no such place.
+    pub fn place(&self) -> Option<(usize, usize)> {
+        match self.call {
+            Call::NewCluster { node, local, .. } => Some((node as usize, local as usize)),
+            _ => self.call.handle().map(|handle| (handle.node.into(), handle.local.into())),
+        }
+    }
+
     /// The bytes of the handle that the call presents; of the first, where it presents two.
     pub fn handle_mut(&mut self) -> Option<&mut HandleBytes> {
         self.call.presented_mut().into_iter().next()

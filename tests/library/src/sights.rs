@@ -42,11 +42,11 @@ pub fn due() -> impl Iterator<Item = String> {
 
 /// What a call has met; `held` is what it was put to.
 pub fn met(held: &Held, question: &Question, answer: &Answer) -> impl Iterator<Item = String> {
-    let call = name(question.code());
-    let sights = match answer.reply.is_done() {
-        true => done(held, &question.call, &answer.reply),
-        false => refused(held, question, answer.reply.number),
+    let sights = match answer.reply.number {
+        DONE => done(held, &question.call, &answer.reply),
+        number => refused(held, question, number),
     };
+    let call = name(question.code());
     sights.into_iter().map(move |sight| format!("{call}, {sight}"))
 }
 

@@ -1,6 +1,6 @@
 //! Single calls on sound and on damaged stores, with soundness and conversion beside them.
 
-use crate::damages::Where;
+use crate::damages::{self, Where};
 use crate::words::*;
 
 pub fn compare(guard: Guard, seed: u64, calls: u64, tally: &mut Tally) -> Result<(), String> {
@@ -9,14 +9,14 @@ pub fn compare(guard: Guard, seed: u64, calls: u64, tally: &mut Tally) -> Result
 
 fn one(guard: Guard, random: &mut Random, tally: &mut Tally) -> Result<(), String> {
     let fill = Fill::by_chance(random);
-    tally.note_fill(fill);
+    tally.met.note(format_args!("store {fill:?}"));
     let store = stores::store(random, fill);
     let mut held = stores::held(random, &store);
     let question = Maker { random, store: &store, given: &[] }.question(&EVENLY);
     let damaged = random.one_in(4);
     if damaged {
         let (damage, place) = damage(random, &mut held, &question);
-        tally.note_damage(question.code(), damage, place);
+        tally.met.note_all(damages::met(question.code(), damage, place));
         if is_sound(&held) {
             return Err(format!("{damage:?} does no damage"));
         }
@@ -35,7 +35,7 @@ fn one(guard: Guard, random: &mut Random, tally: &mut Tally) -> Result<(), Strin
 /// Damages the store in any way: in the call's record or node, in the last record, or anywhere.
 fn damage(random: &mut Random, held: &mut Held, question: &Question) -> (Damage, Where) {
     let damage = Damage::ALL[below(random, Damage::ALL.len())];
-    let own = place_of(&question.call);
+    let own = question.place().filter(|&(node, local)| node < NODES && local < CLUSTERS);
     let place = match (random.below(4), own) {
         (0, Some(own)) => own,
         (1, Some((node, _))) => (node, below(random, CLUSTERS)),
@@ -44,15 +44,6 @@ fn damage(random: &mut Random, held: &mut Held, question: &Question) -> (Damage,
     };
     inflict(random, held, damage, place);
     (damage, Where::seen_from(own, place))
-}
-
-/// The node and the local number of the cluster that a call is about, if there is such a place.
-fn place_of(call: &Call) -> Option<(usize, usize)> {
-    let (node, local) = match *call {
-        Call::NewCluster { node, local, .. } => (node as usize, local as usize),
-        _ => call.handle().map(|handle| (handle.node.into(), handle.local.into()))?,
-    };
-    (node < NODES && local < CLUSTERS).then_some((node, local))
 }
 
 fn same_soundness(held: &mut Held) -> Result<(), String> {

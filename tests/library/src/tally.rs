@@ -1,8 +1,7 @@
 //! What calls have to come to and what they came to: the numbers of each, fills, damages, selectors, modes, and what
 //! [`damages`], [`sights`], [`widths`] and the model list.
 
-use crate::damages::{self, Where};
-use crate::{sights, widths, words::*};
+use crate::{damages, sights, widths, words::*};
 use model::met;
 use std::{collections::BTreeMap, fmt};
 
@@ -73,30 +72,17 @@ impl Tally {
     /// What a question came to that hangs on what it was put to, which is `held`.
     pub fn note_held(&mut self, held: &Held, question: &Question, answer: &Answer) {
         self.met.note_all(sights::met(held, question, answer));
-        self.note_widths(question.code(), held, question, answer);
+        self.met.note_all(widths::met(question.code(), held, question, answer));
         if let Some(store) = decode(&held.image) {
             let found = Found::whole(&store, question.buffer.len());
             self.met.note_all(met::situations(&found, &question.call, answer.reply.number));
         }
     }
 
-    /// The same of widths, for calls with this code or for the handles of a batch.
-    pub fn note_widths(&mut self, code: u8, held: &Held, question: &Question, answer: &Answer) {
-        self.met.note_all(widths::met(code, held, question, answer));
-    }
-
     /// A mode and a width that a batch was asked with.
     pub fn note_batch(&mut self, mode: u32, width: usize) {
         self.met.note(with_mode(BATCH, mode));
         self.met.note_all(widths::asked(BATCH, width));
-    }
-
-    pub fn note_fill(&mut self, fill: Fill) {
-        self.met.note(format_args!("store {fill:?}"));
-    }
-
-    pub fn note_damage(&mut self, code: u8, damage: Damage, place: Where) {
-        self.met.note_all(damages::met(code, damage, place));
     }
 
     /// A call on a store that was damaged before.

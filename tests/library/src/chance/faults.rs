@@ -189,7 +189,7 @@ fn sharing_words(random: &mut Random, damage: Damage) -> Option<[Extent; 2]> {
         Damage::OverlapBeforeAWord => Some(words::sharing_a_byte(random, Beside::Before)),
         Damage::OverlapAfterAWord => Some(words::sharing_a_byte(random, Beside::After)),
         Damage::OverlapInsideWords => Some(words::one_inside(random)),
-        Damage::OverlapOfTheNode => Some(words::with_the_node(random)),
+        Damage::OverlapOfTheNode => Some([Extent { base: 0, length: NODE_BYTES }, words::extent(random)]),
         _ => None,
     }
 }

@@ -4,7 +4,6 @@ mod aimed;
 pub mod damage;
 mod faults;
 pub mod handles;
-mod joins;
 mod made;
 pub mod questions;
 pub mod stores;

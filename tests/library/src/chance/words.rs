@@ -63,8 +63,3 @@ pub fn one_inside(random: &mut Random) -> [Extent; 2] {
     };
     [outer, inner]
 }
-
-/// The whole node, and another.
-pub fn with_the_node(random: &mut Random) -> [Extent; 2] {
-    [Extent { base: 0, length: NODE_BYTES }, extent(random)]
-}

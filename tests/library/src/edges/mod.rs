@@ -3,15 +3,13 @@
 //! to an end: the first and the last byte of a node, the whole of it, and numbers just out of range. Joins with
 //! modes and names just out of range. Handles of every length, made of bytes and presented, and what goes by the width.
 
-mod handles;
 mod joins;
 mod widths;
 
 use crate::chance::words::{Beside, LENGTHS};
 use crate::words::*;
-pub use handles::{handles, Maker};
 pub use joins::joins;
-pub use widths::{lengths, masks, new_clusters, segments};
+pub use widths::{handles, lengths, masks, new_clusters, segments};
 
 /// Something that tells whether an image holds a sound store; [`crate::guard::is_sound`] is the one
 /// to be compared.

@@ -40,11 +40,6 @@ impl Asking {
         }
     }
 
-    /// Whether nothing of the cluster is frozen at the start.
-    pub fn begins_unfrozen(self) -> bool {
-        self != Asking::Freezing
-    }
-
     /// The codes of what writers do in the list's call of this number.
     fn codes(self, at: u64) -> Vec<u8> {
         let more: &[u8] = match self {

@@ -50,7 +50,7 @@ fn by_chance(random: &mut Random, asking: Asking) -> Pair {
     let fill = FILLS[below(random, FILLS.len())];
     let mut store = stores::store(random, fill);
     let apart = set_apart(random, &store);
-    if asking.begins_unfrozen() {
+    if asking != Asking::Freezing {
         store.clusters[apart.0][apart.1].segments.iter_mut().for_each(|segment| segment.frozen = false);
     }
     let mut first = stores::held(random, &store);

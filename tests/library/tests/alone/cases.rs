@@ -87,16 +87,13 @@ fn about_a_word(byte: usize) -> bool {
 
 #[test]
 fn damage_is_damage_whatever_it_is_done_to() {
-    let mut random = Random::from_seed(3);
+    let random = &mut Random::from_seed(3);
     for _ in 0..TIMES {
         for (fill, damage) in Fill::ALL.iter().flat_map(|fill| Damage::ALL.map(|damage| (fill, damage))) {
-            let store = store(&mut random, *fill);
-            let mut held = held(&mut random, &store);
-            let place = match random.one_in(4) {
-                true => LAST_PLACE,
-                false => (below(&mut random, NODES), below(&mut random, CLUSTERS)),
-            };
-            inflict(&mut random, &mut held, damage, place);
+            let store = store(random, *fill);
+            let mut held = held(random, &store);
+            let place = if random.one_in(4) { LAST_PLACE } else { (below(random, NODES), below(random, CLUSTERS)) };
+            inflict(random, &mut held, damage, place);
             assert!(!is_sound(&held), "{damage:?} of {fill:?} at {place:?}");
         }
     }

@@ -117,7 +117,7 @@ table! {
     gapped_before_field: refused(FREEZE, 3, 4, Seen::is_gapped);
     elsewhere_before_gapped: refused(FREEZE, 4, 5, Seen::is_elsewhere);
     inactive_before_elsewhere: refused(FREEZE, 5, 8, Seen::is_inactive);
-    violated_before_elsewhere: refused(FREEZE, 5, 9, Seen::is_violated_at_home);
+    violated_before_elsewhere: refused(FREEZE, 5, 9, |it| it.at_home().number == 9);
     violated_before_inactive: refused(FREEZE, 8, 9, |it| !it.handle.is_made_from(&Cluster::INACTIVE.write));
     not_primary_before_violated: refused(FREEZE, 9, 10, Seen::is_not_primary);
     absent_before_violated: refused(FREEZE, 9, 14, Seen::is_absent);

@@ -86,7 +86,7 @@ table! {
     gapped_before_field: refused(LOOK, 3, 4, Seen::is_gapped);
     elsewhere_before_gapped: refused(LOOK, 4, 5, Seen::is_elsewhere);
     inactive_before_elsewhere: refused(LOOK, 5, 8, Seen::is_inactive);
-    violated_before_elsewhere: refused(LOOK, 5, 9, Seen::is_violated_at_home);
+    violated_before_elsewhere: refused(LOOK, 5, 9, |it| it.at_home().number == 9);
     violated_before_inactive: refused(LOOK, 8, 9, |it| !it.handle.is_made_from(&Cluster::INACTIVE.read));
     not_referenced_before_violated: refused(LOOK, 9, 11, Seen::is_not_referenced);
     absent_before_violated: refused(LOOK, 9, 14, Seen::is_absent);

@@ -137,10 +137,6 @@ impl Seen {
         })
     }
 
-    pub fn is_violated_at_home(&self) -> bool {
-        self.at_home().number == 9
-    }
-
     pub fn done_at_home(&self) -> Option<Reply> {
         Some(self.at_home()).filter(Reply::is_done)
     }

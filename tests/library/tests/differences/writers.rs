@@ -55,13 +55,6 @@ fn in_either_mode(held: &mut Held, question: &Question, code: u8, meant: Mode) -
     guard::ask(held, &other)
 }
 
-/// The number is right, and what is there is in the buffer all the same.
-fn reading_and_refusing(held: &mut Held, question: &Question) -> Answer {
-    let reading = in_either_mode(held, question, READ, Mode::Read);
-    let reply = guard::ask(held, question).reply;
-    Answer { reply, ..reading }
-}
-
 // What hangs on the bytes of the segment, or of the cluster's segments.
 table! {
     a_refusal_for_the_byte_that_is_there_write: kept_by(WRITE, is_odd);
@@ -84,7 +77,11 @@ table! {
         => writers(FREEZE, RECORDS);
     a_write_handle_that_reads_copying: either_mode(READ, Mode::Read) => writers(READ, BUFFERS);
     a_write_handle_that_reads_looking: either_mode(LOOK, Mode::Read) => writers(LOOK, SHOWN);
-    a_refusal_that_reads_by_a_write_handle: asked(reading_and_refusing) => writers(READ, BUFFERS);
+    /// The number is right, and what is there is in the buffer all the same.
+    a_refusal_that_reads_by_a_write_handle: asked(|held, question| {
+        let reading = in_either_mode(held, question, READ, Mode::Read);
+        Answer { reply: guard::ask(held, question).reply, ..reading }
+    }) => writers(READ, BUFFERS);
 }
 
 /// The new segment of a call 3 that was done, in its node.
@@ -140,7 +137,7 @@ fn no_room(seen: &Seen) -> Option<Reply> {
 
 /// A new cluster has a segment already, which is cleared and as long as the first byte said that lay there.
 fn taken_over(it: &mut After) {
-    let (node, local) = it.cluster().expect("it is done");
+    let (node, local) = it.cluster();
     let mut store = decode(&it.held.image).expect("it was sound");
     if let Some(gap) = gaps(&store, node).first() {
         let memory = &mut it.held.memory[gap.in_memory(node)];
@@ -179,10 +176,6 @@ fn from_the_read_password(seen: &Seen, made: impl FnOnce(&Password) -> Handle) -
     Some(Reply::with_handle(&made(&cluster.read)))
 }
 
-fn reduced(seen: &Seen) -> Option<Reply> {
-    from_the_read_password(seen, |read| seen.handle.reduce(read))
-}
-
 fn joined(seen: &Seen) -> Option<Reply> {
     let other = seen.question.call.presented().nth(1)?;
     from_the_read_password(seen, |read| seen.handle.join(&other, read))
@@ -193,7 +186,9 @@ table! {
     /// So that 12 tells a guess at it.
     a_new_password_compared_with_both: compared(is_either) => writers(NEW_PASSWORD, REPLIES);
     a_new_password_that_is_answered_with_the_other: giving(Asked::other) => writers(NEW_PASSWORD, REPLIES);
-    a_handle_in_mode_2_made_from_the_read_password_reduced: instead(REDUCE, 0, reduced) => writers(REDUCE, REPLIES);
+    a_handle_in_mode_2_made_from_the_read_password_reduced:
+        instead(REDUCE, 0, |seen| from_the_read_password(seen, |read| seen.handle.reduce(read)))
+        => writers(REDUCE, REPLIES);
     a_handle_in_mode_2_made_from_the_read_password_joined: instead(JOIN, 0, joined) => writers(JOIN, REPLIES);
     a_write_handle_that_gets_a_read_handle_reduced: either_mode(REDUCE, Mode::Read) => writers(REDUCE, REPLIES);
     a_write_handle_that_gets_a_read_handle_joined: either_mode(JOIN, Mode::Read) => writers(JOIN, REPLIES);
@@ -234,10 +229,6 @@ fn telling(mode: Mode, has_to_open: bool) -> Wrong {
     })
 }
 
-fn refuse(_: &mut Held, question: &Question) -> Answer {
-    Answer { reply: Reply::refused(9), buffer: question.buffer.clone() }
-}
-
 // What is told to those who read is not found out: no list has a call that asks for reading by a handle that reads.
 // What is told to others who ask for it is, and that is what the other copies find out, too.
 table! {
@@ -251,8 +242,9 @@ table! {
 /// These are wrong and tell nothing. The last one validates a write handle for reading, in both copies.
 #[test]
 fn what_tells_nothing_is_not_found_out() {
+    let refusing = asked(|_, question| Answer { reply: Reply::refused(9), buffer: question.buffer.clone() });
     let clearing = after(|it| it.buffer.fill(0));
-    for wrong in [right(), asked(refuse), clearing, either_mode(VALIDATION, Mode::Read)] {
+    for wrong in [right(), refusing, clearing, either_mode(VALIDATION, Mode::Read)] {
         run("nothing told", (wrong, not_by([By::Writers])));
     }
 }

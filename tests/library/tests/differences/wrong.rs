@@ -103,28 +103,20 @@ impl After<'_> {
         self.question.code() == code && !self.reply.is_done()
     }
 
-    /// Node and local number of the cluster that it is about, if it names one.
-    pub fn cluster(&self) -> Option<(usize, usize)> {
-        match self.question.call {
-            Call::NewCluster { node, local, .. } => Some((node as usize, local as usize)),
-            _ => {
-                let handle = self.question.call.handle()?;
-                Some((handle.node.into(), handle.local.into()))
-            }
-        }
+    /// Node and local number of the cluster that it is about.
+    pub fn cluster(&self) -> (usize, usize) {
+        self.question.place().expect("it names one")
     }
 
     /// Where the record of a call that is done lies.
     pub fn record(&self) -> Range<usize> {
-        let (node, local) = self.cluster().expect("it is done to one");
-        record_at(node, local)
+        record_at(self.cluster().0, self.cluster().1)
     }
 
     /// Where its segment's place and mark lie; of segment 0 where it names none.
     pub fn place(&self) -> Range<usize> {
-        let (node, local) = self.cluster().expect("it is done to one");
-        let segment = self.question.call.segment().unwrap_or(0);
-        segment_at(node, local, segment as usize)
+        let (node, local) = self.cluster();
+        segment_at(node, local, self.question.call.segment().unwrap_or(0) as usize)
     }
 
     /// The bytes of its record, and of its segment's place and mark.

@@ -7,7 +7,7 @@ mod stores;
 
 use calls::{groups, many_handles, weakening, Row};
 use library::words::*;
-use repeated::{OnImage, OnRecords};
+use repeated::Repeated;
 use std::{hint::black_box, time::Instant};
 use stores::{full, held, typical};
 
@@ -91,19 +91,18 @@ fn soundness(name: &str, store: &Store) {
 /// how long it is; where the memories are the same too, so are the bytes shown.
 fn one_call(row: &Row) {
     let Row { name, call, .. } = row;
-    let [mut first, mut second] = [(); 2].map(|()| OnImage::new(&row.store, row.place, call));
-    let mut third = OnRecords::new(&row.store, row.place);
+    let [mut first, mut second, mut third] = [(); 3].map(|()| Repeated::new(row));
     let times = beside(
         ROUNDS,
         CALLS,
         || first.by_library(black_box(call)),
-        || second.by_model(black_box(call)),
-        || third.by_model(black_box(call)),
+        || second.on_image(black_box(call)),
+        || third.on_records(black_box(call)),
     );
     assert_eq!(first.reply.number, DONE, "{name} is done");
     assert!(first.reply == second.reply && second.reply == third.reply, "all reply the same");
     assert!(first.buffer == second.buffer && second.buffer == third.buffer);
-    assert!(first.held.memory == second.held.memory && second.held.memory == third.memory);
+    assert!(first.held.memory == second.held.memory && second.held.memory == third.held.memory);
     report(name, times);
 }
 

@@ -153,8 +153,7 @@ fn by_rows(held: &mut Held, question: &Question, rows: &[JoinRow], given: Given)
         Some((number, _)) => Reply::refused(*number),
         None => Reply { first: given(&asked), ..Reply::DONE },
     };
-    let buffer = question.buffer.clone();
-    Answer { reply, buffer }
+    Answer { reply, buffer: question.buffer.clone() }
 }
 
 fn joined(rows: Vec<JoinRow>, given: Given) -> Wrong {

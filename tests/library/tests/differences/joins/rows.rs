@@ -66,10 +66,6 @@ fn compared_with_one_another() -> Wrong {
     joined(rows, RIGHTLY)
 }
 
-fn validates_in_no_mode(it: &Asked) -> bool {
-    Mode::ALL.into_iter().all(|mode| !it.handles[1].is_made_from(&it.password(1, mode)))
-}
-
 // Other rows, and rows too many.
 table! {
     apart_by_the_node_alone: other(APART, |it| it.handles[0].node != it.handles[1].node);
@@ -90,7 +86,8 @@ table! {
     all_of_eight_alone: other(WHOLE, |it| it.is_whole() && it.flat() == 0x00ff);
     the_first_of_two_widths_alone: other(SECOND_WIDTH, |it| it.has_another_width(0) && it.has_another_width(1));
     compared_with_one_another_alone: compared_with_one_another() => joins(25);
-    validated_in_the_other_mode_too: other(SECOND_VIOLATED, validates_in_no_mode);
+    validated_in_the_other_mode_too:
+        other(SECOND_VIOLATED, |it| Mode::ALL.iter().all(|mode| !it.handles[1].is_made_from(&it.password(1, *mode))));
     nothing_refused: one_more(21, |it| it.union() == 0);
     itself_refused: one_more(3, |it| it.handles[0] == it.handles[1]);
     what_shares_nothing_refused: one_more(11, |it| it.referenced()[0] & it.referenced()[1] == 0);

@@ -17,7 +17,7 @@ pub struct Asked {
 impl Asked {
     /// Whether this new password comes as far as 12 is seen by another one, which the cluster has in neither mode.
     fn of(held: &Held, question: &Question) -> Option<Asked> {
-        let Call::NewPassword { mode, password, .. } = question.call else { return None };
+        let Call::NewPassword { password, .. } = question.call else { return None };
         let seen = Seen::of(held, question)?;
         let (cluster, handle) = (seen.cluster()?, seen.handle);
         let strange =
@@ -27,8 +27,7 @@ impl Asked {
                 *password = strange;
             }
         })?;
-        let mode = Mode::from_number(mode)?;
-        Some(Asked { cluster, mode, handle, password })
+        Some(Asked { cluster, mode: seen.mode()?, handle, password })
     }
 
     /// The current passwords of the mode and of the other one.
@@ -68,8 +67,7 @@ fn renewed(outcome: impl Fn(&Asked) -> Outcome + 'static) -> Wrong {
                 Reply::with_handle(&Handle { password, ..asked.handle })
             }
         };
-        let buffer = question.buffer.clone();
-        Answer { reply, buffer }
+        Answer { reply, buffer: question.buffer.clone() }
     })
 }
 
@@ -143,7 +141,7 @@ fn old_before(number: u8) -> Wrong {
 fn twins_made() -> Wrong {
     on(NEW_CLUSTER, 7, |it| {
         let Call::NewCluster { width, read, write, .. } = it.question.call else { return };
-        let (node, local) = it.cluster().expect("2 comes before 7");
+        let (node, local) = it.cluster();
         let width = Width::of_segments(width).expect("3 comes before 7");
         *it.held = with(it.held, (node, local), Cluster::new(width, read, write));
         let handle = |password| Handle::primary(width, node as u16, local as u8, password).to_bytes();
@@ -217,14 +215,6 @@ fn one_replaced_where_equal(cluster: &mut Cluster, it: &Asked, first: Mode) {
     *cluster.primary_mut(mode) = it.password;
 }
 
-fn read_replaced_where_equal(cluster: &mut Cluster, it: &Asked) {
-    one_replaced_where_equal(cluster, it, Mode::Read);
-}
-
-fn write_replaced_where_equal(cluster: &mut Cluster, it: &Asked) {
-    one_replaced_where_equal(cluster, it, Mode::Write);
-}
-
 fn the_other_replaced(cluster: &mut Cluster, it: &Asked) {
     *cluster.primary_mut(it.mode.other()) = it.password;
 }
@@ -240,8 +230,8 @@ table! {
     all => told([Asks(NEW_PASSWORD), IMAGES]);
     both_replaced: leaving(super::both_replaced);
     both_replaced_where_equal: leaving(super::both_replaced_where_equal);
-    read_replaced_where_equal: leaving(super::read_replaced_where_equal);
-    write_replaced_where_equal: leaving(super::write_replaced_where_equal);
+    read_replaced_where_equal: leaving(|cluster, it| one_replaced_where_equal(cluster, it, Mode::Read));
+    write_replaced_where_equal: leaving(|cluster, it| one_replaced_where_equal(cluster, it, Mode::Write));
     the_other_replaced: leaving(super::the_other_replaced);
     passed_on: leaving(super::passed_on);
     nothing_replaced: leaving(|_, _| {});

@@ -51,8 +51,8 @@ table! {
     all => untold(Says("the other mode's passwords differ"));
     by_what_is_left_of_it_both: leaving(both_replaced);
     by_what_is_left_of_it_both_where_equal: leaving(both_replaced_where_equal);
-    by_what_is_left_of_it_read: leaving(read_replaced_where_equal);
-    by_what_is_left_of_it_write: leaving(write_replaced_where_equal);
+    by_what_is_left_of_it_read: leaving(|cluster, it| one_replaced_where_equal(cluster, it, Mode::Read));
+    by_what_is_left_of_it_write: leaving(|cluster, it| one_replaced_where_equal(cluster, it, Mode::Write));
     by_what_is_left_of_it_the_other: leaving(the_other_replaced);
     by_what_is_left_of_it_passed_on: leaving(passed_on);
 }

@@ -135,7 +135,7 @@ fn made(taken: fn(usize) -> usize) -> Wrong {
 fn call_1(right: u8, wrong: u8) -> Row {
     let library = on(NEW_CLUSTER, right, move |it| {
         let Call::NewCluster { width, read, write, .. } = it.question.call else { return };
-        let (node, local) = it.cluster().expect("call 1 names one");
+        let (node, local) = it.cluster();
         let applies = match wrong {
             3 => is_none(width),
             7 => read == write,
@@ -200,7 +200,7 @@ fn telling(mode: Mode) -> Wrong {
 /// The width of a new cluster hangs on what lies in its node.
 fn hanging() -> Wrong {
     on(NEW_CLUSTER, 0, |it| {
-        let (node, _) = it.cluster().expect("it is done");
+        let (node, _) = it.cluster();
         let memory = &it.held.memory[NODE_BYTES * node..][..NODE_BYTES];
         if memory.iter().fold(0, |sum, byte| sum ^ byte) % 2 == 1 {
             it.held.image[it.record().start + WIDTH_AT] = 16;

@@ -59,23 +59,13 @@ table! {
 
 // Another parameter, where it has two bytes.
 
-fn low_alone(parameter: u16) -> u16 {
-    parameter & 0x00ff
-}
-
-fn high_alone(parameter: u16) -> u16 {
-    parameter >> 8
-}
-
 /// What is given, if its last conversion of this password was by another parameter.
 fn converted(reply: &Reply, password: &Password, other: fn(u16) -> u16) -> Option<Reply> {
     let mut given = Handle::from_bytes(&reply.first)?;
     let (is_wide, flat) = (given.width() == Width::Sixteen, given.width().flat());
-    let mut noted = given.selector.subselectors.into_iter().rev();
-    let noted = noted.find(|part| *part != flat && is_wide)?;
+    let noted = given.selector.subselectors.into_iter().rev().find(|part| *part != flat && is_wide)?;
     given.password = guard::convert(password, other(noted));
-    let first = given.to_bytes();
-    Some(Reply { first, ..reply.clone() })
+    Some(Reply { first: given.to_bytes(), ..reply.clone() })
 }
 
 /// Weakens by another parameter.
@@ -109,14 +99,14 @@ fn validates(other: fn(u16) -> u16) -> Wrong {
 table! {
     all => widths(0);
     converted_by_another_parameter_weakening_exchanged: weakens(u16::swap_bytes);
-    converted_by_another_parameter_weakening_low: weakens(low_alone);
-    converted_by_another_parameter_weakening_high: weakens(high_alone);
+    converted_by_another_parameter_weakening_low: weakens(|parameter| parameter & 0x00ff);
+    converted_by_another_parameter_weakening_high: weakens(|parameter| parameter >> 8);
     converted_by_another_parameter_reduction_exchanged: reduces(u16::swap_bytes);
-    converted_by_another_parameter_reduction_low: reduces(low_alone);
-    converted_by_another_parameter_reduction_high: reduces(high_alone);
+    converted_by_another_parameter_reduction_low: reduces(|parameter| parameter & 0x00ff);
+    converted_by_another_parameter_reduction_high: reduces(|parameter| parameter >> 8);
     validated_by_another_parameter_exchanged: validates(u16::swap_bytes);
-    validated_by_another_parameter_low: validates(low_alone);
-    validated_by_another_parameter_high: validates(high_alone);
+    validated_by_another_parameter_low: validates(|parameter| parameter & 0x00ff);
+    validated_by_another_parameter_high: validates(|parameter| parameter >> 8);
 }
 
 // Masks.

@@ -88,16 +88,6 @@ in_one_call! {
     weaken: first_in(WEAKEN);
 }
 
-fn no_node(_: &Held, question: &Question) -> Option<u8> {
-    let node = question.call.current_node();
-    node.is_some_and(|node| node as usize >= NODES).then_some(2)
-}
-
-fn no_mode(_: &Held, question: &Question) -> Option<u8> {
-    let mode = question.call.named_mode();
-    mode.is_some_and(|mode| mode != 1 && mode != 2).then_some(3)
-}
-
 fn no_size(_: &Held, question: &Question) -> Option<u8> {
     match question.call {
         Call::NewSegment { size, .. } if size == 0 || size as usize > NODE_BYTES => Some(3),
@@ -107,8 +97,10 @@ fn no_size(_: &Held, question: &Question) -> Option<u8> {
 
 table! {
     all => widths(25);
-    after_2_and_after_3_node: at_first(no_node);
-    after_2_and_after_3_mode: at_first(no_mode);
+    after_2_and_after_3_node:
+        at_first(|_, question| question.call.current_node().filter(|node| *node as usize >= NODES).map(|_| 2));
+    after_2_and_after_3_mode:
+        at_first(|_, question| question.call.named_mode().filter(|mode| ![1, 2].contains(mode)).map(|_| 3));
     after_2_and_after_3_size: at_first(no_size);
     another_number_3: at_first(|_, _| Some(3));
     another_number_2: at_first(|_, _| Some(2));
