@@ -165,15 +165,9 @@ fn parts(random: &mut Random, count: usize, cut: fn(&mut Random) -> usize) -> Ve
     while ends.len() + 1 < count {
         ends.insert(cut(random));
     }
-    ends.insert(NODE_BYTES);
-    let mut base = 0;
-    let part = |end| {
-        let length = end - base;
-        let part = Extent { base, length };
-        base = end;
-        part
-    };
-    ends.into_iter().map(part).collect()
+    ends.extend([0, NODE_BYTES]);
+    let ends: Vec<usize> = ends.into_iter().collect();
+    ends.windows(2).map(|two| Extent { base: two[0], length: two[1] - two[0] }).collect()
 }
 
 pub fn present(base: usize, length: usize) -> Segment {
@@ -200,8 +194,7 @@ pub fn gaps(store: &Store, node: usize) -> Vec<Extent> {
     let end = Extent { base: NODE_BYTES, length: 0 };
     for taken in extents(store, node).into_iter().chain([end]) {
         if base < taken.base {
-            let length = taken.base - base;
-            gaps.push(Extent { base, length });
+            gaps.push(Extent { base, length: taken.base - base });
         }
         base = taken.end();
     }

@@ -120,9 +120,7 @@ impl Pair {
         let [first, second] = self.copies.each_ref().map(|copy| {
             let mut others = copy.clone();
             others.image[passwords_at(self.apart.0, self.apart.1)].fill(0);
-            for part in own {
-                others.memory[part.clone()].fill(0);
-            }
+            own.iter().for_each(|part| others.memory[part.clone()].fill(0));
             others
         });
         same_bytes("images of the copies", &first.image, &second.image)?;
@@ -133,10 +131,9 @@ impl Pair {
     fn kept_apart(&self, own: &[Range<usize>], start: &[Held; 2]) -> Result<(), String> {
         let record = record_at(self.apart.0, self.apart.1);
         for (before, after) in start.iter().zip(&self.copies) {
-            let (image, memory) = (&before.image, &before.memory);
-            same_bytes("records set apart", &image[record.clone()], &after.image[record.clone()])?;
+            same_bytes("records set apart", &before.image[record.clone()], &after.image[record.clone()])?;
             for part in own {
-                same_bytes("segments set apart", &memory[part.clone()], &after.memory[part.clone()])?;
+                same_bytes("segments set apart", &before.memory[part.clone()], &after.memory[part.clone()])?;
             }
         }
         Ok(())

@@ -1,5 +1,5 @@
-//! Handles where their length changes, made of bytes and presented, and what goes by the width: handles of another than their cluster's, segments
-//! about it, masks of all sixteen bits, and the widths of new clusters.
+//! Handles where their length changes, made of bytes and presented, and what goes by the width: handles of another than
+//! their cluster's, segments about it, masks of all sixteen bits, and the widths of new clusters.
 
 use super::{around, count, each, put, Asked, HIGH};
 use crate::ffi::{gelmuszta_handle, HANDLE_MAX};

@@ -28,10 +28,8 @@ fn beside(random: &mut Random, (store, call): &(Store, Call), damage: Damage, pl
 #[test]
 fn whatever_else_is_wrong() {
     let random = &mut Random::from_seed(1);
-    let faulty = KINDS.into_iter().flat_map(faults::all);
-    let faulty = faulty.map(|faulty| (faulty.faults, (faulty.store, faulty.call)));
-    let joints = joint::all().step_by(EVERY);
-    let joints = joints.map(|joint| (joint.faults, (joint.store, joint.call)));
+    let faulty = KINDS.into_iter().flat_map(faults::all).map(|faulty| (faulty.faults, (faulty.store, faulty.call)));
+    let joints = joint::all().step_by(EVERY).map(|joint| (joint.faults, (joint.store, joint.call)));
     let renewed = renewed::all().map(|renewed| (renewed.faults, (renewed.store, renewed.call)));
     for (faults, asked) in faulty.chain(joints).chain(renewed) {
         if !faults.contains(&1) {

@@ -1,5 +1,6 @@
 //! Damage that is overlooked: libraries that see one kind of it as if it were mended.
 
+use crate::widths::up_to_the_next;
 use crate::words::*;
 
 const LAST_RECORD: usize = IMAGE_BYTES - RECORD_BYTES;
@@ -148,12 +149,7 @@ table! {
     });
     any_width_taken_for_eight: mended(|image| widths(image, |width| if [4, 16].contains(&width) { width } else { 8 }));
     width_0_taken_for_eight: mended(|image| widths(image, |width| width + 8 * u8::from(width == 0)));
-    widths_up_to_the_next: mended(|image| widths(image, |width| match width {
-        1..=4 => 4,
-        5..=8 => 8,
-        9..=16 => 16,
-        _ => width,
-    }));
+    widths_up_to_the_next: mended(|image| widths(image, |width| up_to_the_next(width.into()) as u8));
     widths_of_whole_fours: mended(|image| widths(image, |width| match width {
         4 | 8 | 16 => width,
         _ if width % 4 == 0 => 16,

@@ -115,10 +115,8 @@ impl Complaint {
     /// `Err` tells who did not find the library out, or in other words, or who did and should not.
     fn judge(&self, wrong: &Wrong, one_of: u64) -> Result<(), String> {
         for (by, words) in &self.found {
-            let told = by.compare(wrong, one_of).err();
-            let told = told.ok_or(format!("not found out by {by:?}"))?;
-            let plain: Vec<&str> = told.split_whitespace().collect();
-            let plain = plain.join(" ");
+            let told = by.compare(wrong, one_of).err().ok_or(format!("not found out by {by:?}"))?;
+            let plain = told.split_whitespace().collect::<Vec<_>>().join(" ");
             let in_cases = !matches!(by, By::Single | By::Runs) || plain.starts_with("case ");
             if !in_cases || !words.iter().all(|word| word.is_in(&plain)) {
                 return Err(format!("found out by {by:?} in other words: {told}"));

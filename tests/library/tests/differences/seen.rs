@@ -60,11 +60,6 @@ impl Seen {
         parts.into_iter().flatten().map(|part| &self.held.memory[part]).collect()
     }
 
-    pub fn is_nowhere(&self) -> bool {
-        let (node, local) = self.place();
-        node >= NODES || local >= CLUSTERS
-    }
-
     pub fn is_no_segment(&self) -> bool {
         self.segment as usize >= self.handle.width().segments()
     }
@@ -79,7 +74,8 @@ impl Seen {
 
     /// The handle's place is one, and the current node is none.
     pub fn is_in_no_node(&self) -> bool {
-        !self.is_nowhere() && self.node as usize >= NODES
+        let (node, local) = self.place();
+        node < NODES && local < CLUSTERS && self.node as usize >= NODES
     }
 
     pub fn is_not_primary(&self) -> bool {
@@ -107,8 +103,7 @@ impl Seen {
     }
 
     pub fn has_equal_passwords(&self) -> bool {
-        let cluster = self.cluster();
-        cluster.is_some_and(|cluster| cluster.has_equal_passwords())
+        self.cluster().is_some_and(|cluster| cluster.has_equal_passwords())
     }
 
     pub fn mode(&self) -> Option<Mode> {

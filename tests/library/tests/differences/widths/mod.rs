@@ -30,7 +30,7 @@ fn one<const FROM: usize, const TO: usize>(number: usize) -> usize {
 }
 
 /// Up to the next width that there is.
-fn up_to_the_next(width: usize) -> usize {
+pub fn up_to_the_next(width: usize) -> usize {
     match width {
         1..=4 => 4,
         5..=8 => 8,
@@ -41,20 +41,17 @@ fn up_to_the_next(width: usize) -> usize {
 
 /// Gives what `other` has for 25 at its first place; nothing changes then.
 fn at_first(other: impl Fn(&Held, &Question) -> Option<u8> + 'static) -> Wrong {
-    after(move |it| {
-        if it.reply.number == 25 && !is_known(&it.question.call) {
-            if let Some(number) = other(it.before, it.question) {
-                it.reply = Reply::refused(number);
-            }
-        }
+    at(25, move |it| {
+        let number = other(it.before, it.question).filter(|_| !is_known(&it.question.call));
+        it.reply.number = number.unwrap_or(25);
     })
 }
 
 /// Refuses with this number in the place of 25 at its second place, where this applies.
 fn at_second(number: u8, applies: impl Fn(&Seen) -> bool + 'static) -> Wrong {
-    after(move |it| {
-        if it.reply.number == 25 && is_known(&it.question.call) && it.seen().is_some_and(|seen| applies(&seen)) {
-            it.reply = Reply::refused(number);
+    at(25, move |it| {
+        if is_known(&it.question.call) && it.seen().is_some_and(|seen| applies(&seen)) {
+            it.reply.number = number;
         }
     })
 }
