@@ -27,7 +27,10 @@ pub fn by_model(held: &mut Held, question: &Question) -> Answer {
     let needs_no_store = matches!(question.call, Call::Weaken { .. });
     let reply = match decode(image) {
         None if needs_no_store => run(&mut Store::starting(), memory, &mut buffer, &question.call),
-        None => Reply::refused(before_the_store(&question.call).unwrap_or(UNSOUND)),
+        None => {
+            let found = Found { store: &Store::starting(), memory_bytes: 0, buffer_bytes: 0 };
+            Reply::refused(refusal_above(UNSOUND, &question.call, &found).unwrap_or(UNSOUND))
+        }
         Some(mut store) => {
             let reply = run(&mut store, memory, &mut buffer, &question.call);
             *image = encode(&store);
@@ -35,11 +38,6 @@ pub fn by_model(held: &mut Held, question: &Question) -> Answer {
         }
     };
     Answer { reply, buffer }
-}
-
-/// What is looked at before the store, and so whatever there is in its place.
-fn before_the_store(call: &Call) -> Option<u8> {
-    refusal_above(UNSOUND, call, &Found { store: &Store::starting(), memory_bytes: 0, buffer_bytes: 0 })
 }
 
 /// Whether the model holds the store for sound; a damaged image has no sound store.

@@ -208,13 +208,8 @@ fn put_both(random: &mut Random, store: &mut Store, both: [Extent; 2], place: (u
 }
 
 /// An inactive cluster with one thing left in it, or with nothing.
-fn inactive_with(
-    random: &mut Random,
-    store: &mut Store,
-    damage: Damage,
-    (node, local): (usize, usize),
-    segment: usize,
-) {
+fn inactive_with(random: &mut Random, store: &mut Store, damage: Damage, place: (usize, usize), segment: usize) {
+    let (node, local) = place;
     let mut cluster = Cluster::INACTIVE;
     store.clusters[node][local] = cluster;
     let at = below(random, PASSWORD_BYTES);

@@ -19,13 +19,6 @@ pub struct Wish {
     pub width: Option<Width>,
 }
 
-impl Wish {
-    fn fits(&self, cluster: &Cluster) -> bool {
-        let is_wide = self.width.is_none_or(|width| cluster.has_width(width));
-        cluster.active && is_wide && cluster.has_segments() == self.segments
-    }
-}
-
 /// A handle for a call that would like `wish`; `given` are handles that calls gave before.
 pub fn handle(random: &mut Random, store: &Store, given: &[Handle], wish: Wish) -> Handle {
     let chosen = if random.below(10) < 3 { random.pick(given).copied() } else { None };
@@ -81,11 +74,13 @@ pub fn primary(store: &Store, (node, local): (usize, usize), mode: Mode) -> Hand
 
 /// A handle that validates, mostly in the mode that is wished for, if any cluster is active.
 fn right(random: &mut Random, store: &Store, wish: Wish) -> Handle {
-    // Sometimes one that a single handle opens in both modes.
-    let chosen = match random.one_in(12) {
-        true => place(random, store, Cluster::has_equal_passwords),
-        false => place(random, store, |cluster| wish.fits(cluster)),
+    let fits = |cluster: &Cluster| {
+        let is_wide = wish.width.is_none_or(|width| cluster.has_width(width));
+        cluster.active && is_wide && cluster.has_segments() == wish.segments
     };
+    // Sometimes one that a single handle opens in both modes.
+    let both = random.one_in(12);
+    let chosen = place(random, store, |cluster| if both { cluster.has_equal_passwords() } else { fits(cluster) });
     let Some(place) = chosen.or_else(|| place(random, store, |cluster| cluster.active)) else {
         return nowhere_active(random);
     };

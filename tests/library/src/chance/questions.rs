@@ -96,10 +96,6 @@ impl Maker<'_> {
         handles::presented(self.random, handle)
     }
 
-    fn cluster(&self, handle: &Handle) -> Option<&Cluster> {
-        self.store.cluster_of(handle)
-    }
-
     pub(super) fn current_node(&mut self, handle: &Handle) -> u32 {
         match self.random.one_in(16) {
             true => below(self.random, NODES) as u32,
@@ -112,7 +108,7 @@ impl Maker<'_> {
     pub(super) fn segment(&mut self, handle: &Handle, present: bool) -> u32 {
         let referenced_only = !self.random.one_in(4);
         let bound = handle.width().segments();
-        let cluster = self.cluster(handle);
+        let cluster = self.store.cluster_of(handle);
         let fits = |&segment: &usize| {
             let is_present = cluster.is_some_and(|cluster| cluster.segments[segment].is_present());
             is_present == present && (!referenced_only || handle.selector.references(segment))
@@ -144,7 +140,7 @@ impl Maker<'_> {
     /// a buffer.
     fn buffer_bytes(&mut self, call: &Call) -> usize {
         let (true, Some(segment)) = (call.moves_bytes(), call.segment()) else { return 0 };
-        let cluster = call.handle().and_then(|handle| self.cluster(&handle));
+        let cluster = call.handle().and_then(|handle| self.store.cluster_of(&handle));
         let found = cluster.and_then(|cluster| cluster.segments.get(segment as usize));
         match (found.and_then(Segment::extent), self.random.below(8)) {
             (_, 0) => 0,
@@ -195,7 +191,7 @@ impl Maker<'_> {
         let (mode, number) = self.mode();
         let handle = self.handle(mode, true, true);
         // Often one of those that the handle's cluster has already, or one bit off.
-        let password = match (self.cluster(&handle).copied(), self.random.below(12)) {
+        let password = match (self.store.cluster_of(&handle).copied(), self.random.below(12)) {
             (Some(cluster), 0 | 1) => cluster.read,
             (Some(cluster), 2 | 3) => cluster.write,
             (Some(cluster), 4) => near(self.random, cluster.read),

@@ -22,16 +22,12 @@ const DUE: [&str; 11] = [
 ];
 
 /// Where the handle has the password that one with these subselectors needs.
-fn other_width(width: Width) -> String {
-    format!("right but for its width, a handle of a cluster set apart of {}", width.segments())
-}
+const OTHER: &str = "right but for its width, a handle of a cluster set apart of";
+const APART_OF: &str = "a cluster set apart of width";
+const BY: &str = "a call done by a handle of width";
 
-fn apart_of(width: Width) -> String {
-    format!("a cluster set apart of width {}", width.segments())
-}
-
-fn by_width(width: Width) -> String {
-    format!("a call done by a handle of width {}", width.segments())
+fn with(what: &str, width: Width) -> String {
+    format!("{what} {}", width.segments())
 }
 
 fn kept(what: &str) -> String {
@@ -40,14 +36,14 @@ fn kept(what: &str) -> String {
 
 pub fn met() -> Met {
     let calls = KEPT.into_iter().flat_map(|what| [format!("a {what} done"), kept(what)]);
-    let widths = Width::ALL.into_iter().flat_map(|width| [apart_of(width), other_width(width), by_width(width)]);
+    let widths = Width::ALL.into_iter().flat_map(|width| [APART_OF, OTHER, BY].map(|what| with(what, width)));
     Met::new("two copies", DUE.map(String::from).into_iter().chain(calls).chain(widths))
 }
 
 pub(super) fn note_pair(met: &mut Met, pair: &Pair, stores: &[Store; 2]) {
     let apart = pair.cluster(&stores[0]);
     met.note_if(apart.has_frozen(), "a cluster set apart with a frozen segment");
-    met.note_all(apart.known_width().map(apart_of));
+    met.note_all(apart.known_width().map(|width| with(APART_OF, width)));
     let in_one = pair.in_one(stores, Cluster::has_equal_passwords);
     met.note_if(in_one, "a cluster set apart with equal passwords in one copy alone");
 }
@@ -82,9 +78,9 @@ fn note_widths(met: &mut Met, pair: &Pair, [store, _]: &[Store; 2], question: &Q
     let made_from = |handle: &Handle| Mode::ALL.iter().any(|mode| handle.is_made_from(cluster.primary(*mode)));
     let other = |handle: Handle| pair.is_apart(&handle) && !cluster.has_width(handle.width()) && made_from(&handle);
     let refused = answer.reply.number == LENGTH && question.call.presented().any(other);
-    met.note_all(cluster.known_width().filter(|_| refused).map(other_width));
+    met.note_all(cluster.known_width().filter(|_| refused).map(|width| with(OTHER, width)));
     let done = question.call.presented().filter(|_| answer.reply.is_done());
-    met.note_all(done.map(|handle| by_width(handle.width())));
+    met.note_all(done.map(|handle| with(BY, handle.width())));
     let mut lengths = question.call.presented_bytes().map(<[u8]>::len);
     met.note_if(lengths.any(|length| Width::of_handle_bytes(length).is_none()), "a length that no handle has");
 }

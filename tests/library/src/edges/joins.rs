@@ -27,14 +27,9 @@ pub fn joins(guard: Guard, seed: u64) -> Result<Asked, String> {
 }
 
 /// Two valid handles of one cluster.
-fn by_chance(
-    random: &mut Random,
-    (node, mode): (usize, Mode),
-    width: Width,
-    segments: [u16; 2],
-) -> (Held, [Handle; 2]) {
+fn by_chance(random: &mut Random, place: (usize, Mode), width: Width, segments: [u16; 2]) -> (Held, [Handle; 2]) {
     let mut store = stores::store(random, Fill::Partial);
-    let local = below(random, CLUSTERS);
+    let ((node, mode), local) = (place, below(random, CLUSTERS));
     let cluster = &mut store.clusters[node][local];
     // Passwords that no other cluster has.
     (cluster.active, cluster.read, cluster.write) = (true, random.bytes(), random.bytes());

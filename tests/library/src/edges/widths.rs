@@ -62,21 +62,11 @@ impl Known {
     }
 }
 
-/// Each case with a cluster of each width.
-fn with_each(
-    seed: u64,
-    mut case: impl FnMut(&mut Random, Width, &Known, &mut Asked) -> Result<(), String>,
-) -> Result<Asked, String> {
-    each(seed, Width::ALL, |random, width, asked| {
-        let known = Known::by_chance(random, width);
-        case(random, width, &known, asked)
-    })
-}
-
 /// Every call with every length byte in every handle that it takes, alone and, of two, in both; what a handle of 28
 /// bytes has behind its length is anything.
 pub fn lengths(guard: Guard, seed: u64) -> Result<Asked, String> {
-    with_each(seed, |random, _, known, asked| {
+    each(seed, Width::ALL, |random, width, asked| {
+        let known = Known::by_chance(random, width);
         for question in &known.questions {
             let handles = question.call.presented_bytes().count();
             let both = known.each().into_iter().flat_map(|held| (1..1 << handles).map(move |at| (held.clone(), at)));
@@ -101,7 +91,8 @@ pub fn lengths(guard: Guard, seed: u64) -> Result<Asked, String> {
 /// Every call by handles of each width, with the password that goes with it and with another; where it is about a
 /// segment, with each that there can be and with others.
 pub fn segments(guard: Guard, seed: u64) -> Result<Asked, String> {
-    with_each(seed, |_, own, known, asked| {
+    each(seed, Width::ALL, |random, own, asked| {
+        let known = Known::by_chance(random, own);
         let cluster = &known.store.clusters[NODE][LOCAL];
         for (question, width) in known.questions.iter().flat_map(|question| Width::ALL.map(|width| (question, width))) {
             let mode = question.call.needed_mode().unwrap_or(Mode::Read);
@@ -134,7 +125,8 @@ fn about_each_segment(question: &Question) -> Vec<Question> {
 
 /// Weakening by every mask: of handles of each width with one subselector that is not flat, and with four.
 pub fn masks(guard: Guard, seed: u64) -> Result<Asked, String> {
-    with_each(seed, |_, width, known, asked| {
+    each(seed, Width::ALL, |random, width, asked| {
+        let known = Known::by_chance(random, width);
         let flat = width.flat();
         for parts in [[flat & 0x7bda, flat, flat, flat], [flat - 1, flat - 2, flat - 1, flat - 2]] {
             let selector = Selector::new(width, parts);
@@ -150,7 +142,8 @@ pub fn masks(guard: Guard, seed: u64) -> Result<Asked, String> {
 /// Call 1 with widths from 0 on and with those that are right in their low bytes alone; where nothing else is wrong,
 /// and where the place is none, is in use, or the passwords are equal.
 pub fn new_clusters(guard: Guard, seed: u64) -> Result<Asked, String> {
-    with_each(seed, |random, own, known, asked| {
+    each(seed, Width::ALL, |random, own, asked| {
+        let known = Known::by_chance(random, own);
         let high = HIGH.map(|more| own.segments() + more);
         let [read, other] = [random.bytes(), random.bytes()];
         let next = LOCAL + 1;

@@ -8,11 +8,11 @@ const ARCHIVE: &str = concat!(env!("CARGO_MANIFEST_DIR"), "/../../target/staticl
 
 /// The names of the prototypes: what stands before the first parenthesis of a declaration, outside of comments, macros
 /// and functions that the header has whole.
-fn prototypes() -> BTreeSet<&'static str> {
+fn prototypes() -> BTreeSet<String> {
     let declared = HEADER.lines().filter(|line| line.starts_with(|c: char| c.is_ascii_alphabetic()));
     let declared = declared.filter(|line| !line.starts_with("static "));
     let before = declared.filter_map(|line| Some(line.split_once('(')?.0));
-    before.filter_map(|line| line.rsplit([' ', '*']).next()).collect()
+    before.filter_map(|line| line.rsplit([' ', '*']).next().map(String::from)).collect()
 }
 
 /// What a linker finds in the archive.
@@ -34,9 +34,7 @@ fn exported() -> BTreeSet<String> {
 #[test]
 fn the_archive_exports_the_header_s_functions() {
     let prototypes = prototypes();
-    let exported = exported();
-    let exported: BTreeSet<&str> = exported.iter().map(String::as_str).collect();
-    assert_eq!(exported, prototypes);
+    assert_eq!(exported(), prototypes);
     assert_eq!(prototypes.len(), 19);
 }
 

@@ -1,5 +1,6 @@
 //! Document 01: wrong answers, wrong bytes left, arguments that are cut, batches, two copies, published handles.
 
+use crate::damage::{absent, records};
 use crate::words::*;
 use library::published;
 
@@ -41,26 +42,13 @@ fn imaging(change: fn(&mut Image)) -> Wrong {
     })
 }
 
-fn active_bytes_mended(image: &mut Image) {
-    for record in image.chunks_exact_mut(RECORD_BYTES) {
-        record[0] = record[0].min(1);
-    }
-}
-
-fn bases_of_absent_segments_cleared(image: &mut Image) {
-    for record in image.chunks_exact_mut(RECORD_BYTES) {
-        for place in record[SEGMENTS_AT..].chunks_exact_mut(SEGMENT_BYTES) {
-            if place[LENGTH_AT..MARK_AT] == [0, 0] {
-                place[..LENGTH_AT].fill(0);
-            }
-        }
-    }
-}
-
 // Damage that is overlooked, and arguments that are cut.
 table! {
-    any_active_byte_taken_for_active: imaging(active_bytes_mended) => by(By::Single, [Says("differ")]);
-    bases_of_absent_segments_overlooked: imaging(bases_of_absent_segments_cleared) => by(By::Single, [Says("differ")]);
+    any_active_byte_taken_for_active:
+        imaging(|image| records(image).for_each(|record| record[0] = record[0].min(1)))
+        => by(By::Single, [Says("differ")]);
+    bases_of_absent_segments_overlooked: imaging(|image| absent(image).for_each(|place| place[..LENGTH_AT].fill(0)))
+        => by(By::Single, [Says("differ")]);
     numbers_cut_to_four_bytes: cut_to(4) => told([REPLIES]);
     numbers_cut_to_six_bytes: cut_to(6) => told([REPLIES]);
     segments_cut_to_one_byte: asking(|question| {

@@ -30,7 +30,7 @@ fn overlooked() -> Complaint {
     by(By::Single, [Right(1)]).and(By::Batches, [BATCHED, Says(": 1 and")])
 }
 
-fn records(image: &mut Image) -> impl Iterator<Item = &mut [u8]> {
+pub fn records(image: &mut Image) -> impl Iterator<Item = &mut [u8]> {
     image.chunks_exact_mut(RECORD_BYTES)
 }
 
@@ -42,7 +42,7 @@ fn places(image: &mut Image) -> impl Iterator<Item = &mut [u8]> {
     records(image).flat_map(|record| record[SEGMENTS_AT..].chunks_exact_mut(SEGMENT_BYTES))
 }
 
-fn absent(image: &mut Image) -> impl Iterator<Item = &mut [u8]> {
+pub fn absent(image: &mut Image) -> impl Iterator<Item = &mut [u8]> {
     places(image).filter(|place| place[LENGTH_AT..MARK_AT] == [0, 0])
 }
 

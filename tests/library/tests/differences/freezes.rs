@@ -66,10 +66,6 @@ table! {
     a_new_cluster_with_a_mark: leaving(NEW_CLUSTER, |it| it.held.image[it.record().end - 1] = 1);
 }
 
-fn too_short(seen: &Seen) -> bool {
-    seen.own().and_then(|segment| segment.extent()).is_some_and(|extent| seen.question.buffer.len() < extent.length)
-}
-
 fn has_frozen_in_its_node(seen: &Seen) -> bool {
     let node = seen.store.as_ref().map(|store| store.clusters[seen.node as usize]);
     node.is_some_and(|node| node.iter().any(Cluster::has_frozen))
@@ -84,7 +80,8 @@ table! {
     before_9_for_call_4: refused(DELETE_SEGMENT, 9, 22, Seen::is_frozen);
     before_11_for_call_6: refused(WRITE, 11, 22, Seen::is_frozen);
     before_9_for_call_6: refused(WRITE, 9, 22, Seen::is_frozen);
-    after_15_for_call_6: refused(WRITE, 22, 15, too_short);
+    after_15_for_call_6:
+        refused(WRITE, 22, 15, |it| it.there().is_some_and(|there| it.question.buffer.len() < there.len()));
     for_a_second_freeze: refused(FREEZE, 0, 22, Seen::is_frozen);
     for_a_freeze_beside_another: refused(FREEZE, 0, 22, Seen::has_frozen);
     for_a_read: refused(READ, 0, 22, Seen::is_frozen);

@@ -5,19 +5,14 @@ use crate::seen::Seen;
 use library::{ffi::gelmuszta_handle, words::*};
 use std::{ops::Range, rc::Rc};
 
-pub type Ask = dyn Fn(&mut Held, &Question) -> Answer;
-/// Mode and width are one argument.
-pub type Batch = dyn Fn(&mut Held, (usize, usize), &[u8], &mut [u8]) -> usize;
-pub type Judge = dyn Fn(&mut Image) -> bool;
-pub type Make = dyn Fn(&[u8]) -> (u8, gelmuszta_handle);
-
 /// A library: what it answers, how it judges many handles, which images it holds for sound, and what it makes of bytes.
+/// Mode and width of many handles are one argument.
 #[derive(Clone)]
 pub struct Wrong {
-    pub ask: Rc<Ask>,
-    pub batch: Rc<Batch>,
-    pub judge: Rc<Judge>,
-    pub make: Rc<Make>,
+    pub ask: Rc<dyn Fn(&mut Held, &Question) -> Answer>,
+    pub batch: Rc<dyn Fn(&mut Held, (usize, usize), &[u8], &mut [u8]) -> usize>,
+    pub judge: Rc<dyn Fn(&mut Image) -> bool>,
+    pub make: Rc<dyn Fn(&[u8]) -> (u8, gelmuszta_handle)>,
 }
 
 /// The library as it is.

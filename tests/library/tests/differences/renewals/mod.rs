@@ -46,10 +46,6 @@ impl Asked {
     fn is_other(&self) -> bool {
         self.password == self.other()
     }
-
-    fn has_equal(&self) -> bool {
-        self.own() == self.other()
-    }
 }
 
 /// What becomes of a new password: the cluster and the password of the handle that is given, or a number.
@@ -175,8 +171,8 @@ table! {
     with_nothing: compared(|_| false) => renewals(12, 0);
     in_mode_1_alone: compared(|it| it.mode == Mode::Read && it.is_own()) => renewals(12, 0);
     in_mode_2_alone: compared(|it| it.mode == Mode::Write && it.is_own()) => renewals(12, 0);
-    not_where_the_two_are_equal: compared(|it| it.is_own() && !it.has_equal()) => renewals(12, 0);
-    where_the_two_are_equal_alone: compared(|it| it.is_own() && it.has_equal()) => renewals(12, 0);
+    not_where_the_two_are_equal: compared(|it| it.is_own() && !it.is_other()) => renewals(12, 0);
+    where_the_two_are_equal_alone: compared(|it| it.is_own() && it.is_other()) => renewals(12, 0);
     in_the_first_half: compared(|it| it.password[..8] == it.own()[..8]) => renewals(0, 12);
     in_the_second_half: compared(|it| it.password[8..] == it.own()[8..]) => renewals(0, 12);
     before_9_and_before_10_nine: old_before(9) => renewals(9, 12);

@@ -75,8 +75,7 @@ fn is_named(seen: &Seen) -> bool {
 }
 
 fn is_the_cluster_s(seen: &Seen) -> bool {
-    let cluster = seen.active();
-    cluster.is_some_and(|cluster| seen.segment < u32::from(cluster.width))
+    seen.active().is_some_and(|cluster| seen.segment < u32::from(cluster.width))
 }
 
 /// There are eight segments at every width.

@@ -21,13 +21,11 @@ fn lengths(lengths: fn(usize) -> usize) -> Wrong {
 
 /// Not told from the next one that a handle has.
 fn up(length: usize) -> usize {
-    let mut known = [21, 23, 27].into_iter();
-    known.find(|known| length <= *known).unwrap_or(length)
+    [21, 23, 27].into_iter().find(|known| length <= *known).unwrap_or(length)
 }
 
 fn down(length: usize) -> usize {
-    let mut known = [27, 23, 21].into_iter();
-    known.find(|known| length >= *known).unwrap_or(length)
+    [27, 23, 21].into_iter().find(|known| length >= *known).unwrap_or(length)
 }
 
 table! {
