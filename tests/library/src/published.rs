@@ -46,8 +46,7 @@ impl<'a> Line<'a> {
             }
             "reduced" => {
                 let call = Call::reduce(self.mode()?, self.handle("old")?);
-                let given = self.asked(&["old"], call)? == self.giving("new")?;
-                given && self.counts("new")? && self.validates("new")?
+                self.asked(&["old"], call)? == self.giving("new")? && self.counts("new")? && self.validates("new")?
             }
             "joined" => {
                 let given = self.joining(self.giving("new")?)? && self.both_validate()?;

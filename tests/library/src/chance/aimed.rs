@@ -101,8 +101,7 @@ impl Aimed {
                 }
             }
             Fault::Elsewhere => {
-                let further = 1 + below(random, NODES - 1);
-                self.node = ((self.node as usize + further) % NODES) as u32;
+                self.node = ((self.node as usize + 1 + below(random, NODES - 1)) % NODES) as u32;
             }
             Fault::Gapped => self.handle.selector = gapped(random, self.handle.width()),
             Fault::NoSegment => {

@@ -44,8 +44,7 @@ pub fn fault(random: &mut Random, store: &mut Store, damage: Damage, place: (usi
 }
 
 fn other_cluster(random: &mut Random, (node, local): (usize, usize)) -> (usize, usize) {
-    let further = 1 + below(random, CLUSTERS - 1);
-    (node, (local + further) % CLUSTERS)
+    (node, (local + 1 + below(random, CLUSTERS - 1)) % CLUSTERS)
 }
 
 /// The cluster, which is made active if it was not.

@@ -197,7 +197,6 @@ pub fn of_another_width(random: &mut Random, store: &Store, handle: Handle) -> H
 /// The handle with its subselectors at this width: those that are flat stay so, and of the others there is left what
 /// has room, but for segment 0, so that none becomes flat.
 pub fn at_width(handle: &Handle, width: Width) -> Handle {
-    let own = handle.width();
-    let at = |part: u16| if part == own.flat() { width.flat() } else { part & width.flat() & !1 };
+    let at = |part: u16| if part == handle.width().flat() { width.flat() } else { part & width.flat() & !1 };
     Handle { selector: Selector::new(width, handle.selector.subselectors.map(at)), ..*handle }
 }

@@ -105,8 +105,7 @@ fn with_both(random: &mut Random, first: Extent, second: Extent) -> Store {
     let mut store = Store::starting();
     let clusters = &mut store.clusters[below(random, NODES)];
     let at = below(random, CLUSTERS * SEGMENTS);
-    let further = 1 + below(random, CLUSTERS * SEGMENTS - 1);
-    let other = (at + further) % (CLUSTERS * SEGMENTS);
+    let other = (at + 1 + below(random, CLUSTERS * SEGMENTS - 1)) % (CLUSTERS * SEGMENTS);
     for (place, extent) in [(at, first), (other, second)] {
         let cluster = &mut clusters[place / SEGMENTS];
         if !cluster.active {

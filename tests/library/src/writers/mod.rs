@@ -35,8 +35,7 @@ fn one(guard: Guard, random: &mut Random, met: &mut Met) -> Result<(), String> {
     for at in 1..=LIST_CALLS {
         let question = asking.question(random, &pair, &stores, &given, at);
         watch.expect(&pair, &stores, &question);
-        let agree = |copies: &[Held; 2]| agree(copies, apart);
-        let answer = ask_both(guard, &mut pair.copies, &question, agree)
+        let answer = ask_both(guard, &mut pair.copies, &question, |copies| agree(copies, apart))
             .map_err(|what| format!("call {at} of the list: {what}"))?;
         let before = std::mem::replace(&mut stores, pair.stores()?);
         watch.note(&pair, [&before, &stores], &question, &answer);

@@ -7,12 +7,6 @@ use library::ffi::gelmuszta_handle;
 use library::words::*;
 use model::hexadecimal;
 
-fn given(held: &Held, call: Call) -> HandleBytes {
-    let (reply, _) = asked(held, &call);
-    assert_eq!(reply.number, 0, "{call:?}");
-    reply.first
-}
-
 /// What becomes of a primary handle that is weakened three times, byte by byte: four different subselectors at each
 /// width.
 #[test]
@@ -26,7 +20,9 @@ fn bytes_of_each_width() {
     for (width, masks, selector) in cases {
         let mut handle = primary(width, READ).to_bytes();
         for mask in masks {
-            handle = given(&held, Call::Weaken { mask, handle });
+            let (reply, _) = asked(&held, &Call::Weaken { mask, handle });
+            assert_eq!(reply.number, 0, "{width:?} {mask}");
+            handle = reply.first;
             assert_eq!(asked(&held, &Call::validate(READ_MODE, handle.clone())).0, Reply::DONE);
         }
         let bytes = hexadecimal::decode(selector).expect("it is hexadecimal");
@@ -82,8 +78,7 @@ fn widths_of_records() {
     for width in Width::ALL {
         for segment in 0..16 {
             let mut held = before.clone();
-            let place = segment_at(1, local(width), segment);
-            held.image[place].copy_from_slice(&[0x0f, 0xff, 0, 1, segment as u8 % 2]);
+            held.image[segment_at(1, local(width), segment)].copy_from_slice(&[0x0f, 0xff, 0, 1, segment as u8 % 2]);
             let sound = segment < width.segments();
             assert_eq!(guard::is_sound(&mut held.image), sound);
             assert_eq!(asked(&held, &validate).0.number, u8::from(!sound));
@@ -95,9 +90,8 @@ fn widths_of_records() {
 #[test]
 fn marks_are_0_or_1() {
     let right = faults::of(Kind::Freeze, Width::Eight).next().expect("the empty set is the first");
-    let clusters = [(NODE, LOCAL), (NODE, LOCAL - 1), LAST_PLACE];
     let before = stores::held(&mut Random::from_seed(4), &right.store);
-    for (node, local) in clusters {
+    for (node, local) in [(NODE, LOCAL), (NODE, LOCAL - 1), LAST_PLACE] {
         for segment in 0..SEGMENTS {
             let present = right.store.clusters[node][local].segments[segment].is_present();
             for mark in 0..=u8::MAX {

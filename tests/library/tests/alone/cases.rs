@@ -36,8 +36,7 @@ fn stores_are_sound_and_as_full_as_they_say() {
             let store = store(&mut random, fill);
             assert!(store.is_sound(MEMORY_BYTES));
             note_marks(&store, &mut marks);
-            let active = store.clusters.as_flattened().iter();
-            for cluster in active.filter(|cluster| cluster.active) {
+            for cluster in store.clusters.as_flattened().iter().filter(|cluster| cluster.active) {
                 equal[usize::from(cluster.has_equal_passwords())] += 1;
                 widths[cluster.known_width().expect("it is active") as usize] += 1;
             }
@@ -48,7 +47,11 @@ fn stores_are_sound_and_as_full_as_they_say() {
                 match fill {
                     Fill::Empty => assert_eq!(taken, 0),
                     Fill::Partial => {}
-                    Fill::AtWords => assert!(borders(&store, node).all(about_a_word)),
+                    // Where its segments begin and end.
+                    Fill::AtWords => {
+                        let mut borders = extents(&store, node).into_iter().flat_map(|own| [own.base, own.end()]);
+                        assert!(borders.all(|byte| matches!(byte % WORD, 0 | 1 | 63)));
+                    }
                     Fill::NoByteFree => assert_eq!(free, 0),
                     Fill::NoSegmentAbsent => {
                         let all: usize = store.clusters[node].iter().map(|own| usize::from(own.width)).sum();
@@ -74,15 +77,6 @@ fn note_marks(store: &Store, marks: &mut [usize; 3]) {
         (_, 0) => marks[2] += 1,
         _ => marks[1] += 1,
     }
-}
-
-/// Where the segments of a node begin and end.
-fn borders(store: &Store, node: usize) -> impl Iterator<Item = usize> {
-    extents(store, node).into_iter().flat_map(|extent| [extent.base, extent.end()])
-}
-
-fn about_a_word(byte: usize) -> bool {
-    matches!(byte % WORD, 0 | 1 | 63)
 }
 
 #[test]

@@ -23,8 +23,7 @@ fn exported() -> BTreeSet<String> {
         .expect("nm comes with the compiler");
     assert!(names.status.success(), "{names:?}");
     let names = String::from_utf8(names.stdout).expect("names are text");
-    let fields = names.lines().map(|line| line.split(' ').collect::<Vec<_>>());
-    let symbols = fields.filter_map(|fields| match fields[..] {
+    let symbols = names.lines().filter_map(|line| match line.split(' ').collect::<Vec<_>>()[..] {
         [_, _, name] => Some(name.to_string()),
         _ => None,
     });
@@ -40,13 +39,12 @@ fn the_archive_exports_the_header_s_functions() {
 
 #[test]
 fn the_library_has_the_header_s_version() {
-    let macros = ["MAJOR", "MINOR", "PATCH"].map(|part| {
+    let [major, minor, patch] = ["MAJOR", "MINOR", "PATCH"].map(|part| {
         let defined = format!("#define GELMUSZTA_VERSION_{part} ");
         let (_, rest) = HEADER.split_once(&defined).expect("it is defined");
         let (number, _) = rest.split_once('\n').expect("a line ends");
         number.parse::<u32>().expect("it is a number")
     });
-    let [major, minor, patch] = macros;
     assert!(HEADER.contains(&format!("#define GELMUSZTA_VERSION \"{major}.{minor}.{patch}\"\n")));
     assert_eq!(guard::version(), major * 10000 + minor * 100 + patch);
     assert_eq!(guard::version(), 900);

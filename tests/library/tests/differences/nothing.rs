@@ -59,11 +59,6 @@ fn refusing(right: u8, wrong: u8, applies: fn(&Weakened) -> bool) -> Row {
     (refusing, numbers(WEAKEN, right, wrong))
 }
 
-/// Refuses a call with this code by a handle that references nothing.
-fn refused_to_nothing(code: u8) -> Row {
-    refused(code, 0, 21, |seen| seen.handle.selector.count() == 0)
-}
-
 table! {
     nothing_left_and_a_handle_given: giving(|it| it.handle.selector.referenced() != 0);
     nothing_left_looked_for_in_mask_0_alone: giving(|it| it.mask != 0);
@@ -74,8 +69,8 @@ table! {
     a_damaged_store_looked_at_first: at(21, |it| it.reply.number -= 20 * u8::from(!is_sound(it.held)))
         => by(By::Single, [Right(21), Gives(1)]);
     one_segment_left_taken_for_none: refusing(0, 21, |it| it.reply.count == 1);
-    a_reduction_refused: refused_to_nothing(REDUCE);
-    a_validation_refused: refused_to_nothing(VALIDATION);
+    a_reduction_refused: refused(REDUCE, 0, 21, |seen| seen.handle.selector.count() == 0);
+    a_validation_refused: refused(VALIDATION, 0, 21, |seen| seen.handle.selector.count() == 0);
     a_refusal_that_gives_the_old_handle: weakening(|it| {
         (it.reply.number == 21).then_some(Reply { number: 21, ..Reply::with_handle(&it.handle) })
     }) => by(By::Single, [MORE]);

@@ -43,10 +43,6 @@ fn back(it: &Asked, at: usize, is_so: bool) -> HandleBytes {
     }
 }
 
-fn itself(it: &Asked) -> HandleBytes {
-    back(it, 0, it.handles[0] == it.handles[1])
-}
-
 fn subselectors(it: &Asked, subselectors: impl Fn([u16; 4]) -> [u16; 4]) -> HandleBytes {
     changed(it, |mut given| {
         given.selector.subselectors = subselectors(given.selector.subselectors);
@@ -57,21 +53,6 @@ fn subselectors(it: &Asked, subselectors: impl Fn([u16; 4]) -> [u16; 4]) -> Hand
 fn each_with_its_like(it: &Asked) -> u16 {
     let [one, other] = it.handles.map(|handle| handle.selector.subselectors);
     (0..4).fold(it.flat(), |common, at| common & (one[at] | other[at]))
-}
-
-fn next(width: Width) -> Width {
-    match width {
-        Width::Four => Width::Eight,
-        _ => Width::Sixteen,
-    }
-}
-
-fn primary_for_all(it: &Asked) -> HandleBytes {
-    let (node, local) = it.handles[0].name();
-    match it.is_whole() {
-        true => Handle::primary(it.handles[0].width(), node, local, it.primary(0)).to_bytes(),
-        false => RIGHTLY(it),
-    }
 }
 
 table! {
@@ -100,14 +81,20 @@ table! {
     not_converted: giving(|it| changed(it, |given| Handle { password: it.primary(0), ..given }));
     converted_twice: giving(|it| from(it, guard::convert(&it.primary(0), it.union())));
     of_eight_always: giving(|it| changed(it, |given| at_width(&given, Width::Eight)));
-    of_the_next_width: giving(|it| changed(it, |given| at_width(&given, next(given.width()))));
+    of_the_next_width: giving(|it| changed(it, |given| {
+        at_width(&given, if given.width() == Width::Four { Width::Eight } else { Width::Sixteen })
+    }));
     others_not_flat: giving(|it| subselectors(it, |_| [it.union(); 4]));
     the_last_subselector: giving(|it| subselectors(it, |[a, b, c, d]| [d, c, b, a]));
     no_name: giving(|it| changed(it, |given| Handle { node: 0, local: 0, ..given }));
     the_first_comes_back_where_it_has_all: giving(|it| back(it, 0, it.referenced()[0] == it.union()));
     the_second_comes_back_where_it_has_all: giving(|it| back(it, 1, it.referenced()[1] == it.union()));
-    a_handle_comes_back_from_a_join_with_itself: giving(itself);
-    a_primary_handle_for_all: for_all(primary_for_all) => joins(23);
+    a_handle_comes_back_from_a_join_with_itself: giving(|it| back(it, 0, it.handles[0] == it.handles[1]));
+    a_primary_handle_for_all: for_all(|it| {
+        let Handle { node, local, selector, .. } = it.handles[0];
+        let primary = Handle::primary(selector.width, node, local, it.primary(0));
+        if it.is_whole() { primary.to_bytes() } else { RIGHTLY(it) }
+    }) => joins(23);
     /// It would open nothing: validation skips flat subselectors.
     a_converted_handle_for_all: for_all(RIGHTLY) => joins(23);
 }
@@ -163,7 +150,7 @@ mod laws {
             Call::Join { handle, other, .. } if handle > other => it.reply = Reply::refused(9),
             _ => {}
         }) => breaks("a join hangs on which handle comes first");
-        a_handle_comes_back_from_a_join_with_itself: giving(itself)
+        a_handle_comes_back_from_a_join_with_itself: giving(|it| back(it, 0, it.handles[0] == it.handles[1]))
             => breaks("a handle with itself does not give its reduction");
         all_given_and_converted: for_all(RIGHTLY)
             => breaks("what is given is not valid, or not in the form of a reduced handle");

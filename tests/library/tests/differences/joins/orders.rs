@@ -25,10 +25,6 @@ fn no_length(it: &Asked, at: usize) -> bool {
     !it.known[at] && it.known[1 - at]
 }
 
-fn both_known(it: &Asked) -> bool {
-    it.known == [true; 2]
-}
-
 // By single calls: long rows start from a sound store.
 table! {
     all => by(By::Single, [Asks(JOIN), Right(25), Gives(1)]);
@@ -59,11 +55,11 @@ table! {
     second_before_apart: before(24, 25, |it| it.has_another_width(1) && !it.is_inactive(1));
     before_inactive: before(8, 25, |it| it.has_another_width(0));
     second_violated_before_the_first:
-        before(25, 9, |it| both_known(it) && it.is_violated(1) && !it.has_another_width(1));
+        before(25, 9, |it| it.known == [true; 2] && it.is_violated(1) && !it.has_another_width(1));
     first_violated_before_the_second:
-        before(25, 9, |it| both_known(it) && it.is_violated(0) && !it.has_another_width(0));
-    violated_before_both: before(25, 9, |it| both_known(it) && it.is_violated(0));
-    whole_before_the_width: before(25, 23, |it| both_known(it) && it.is_whole() && it.has_another_width(1));
+        before(25, 9, |it| it.known == [true; 2] && it.is_violated(0) && !it.has_another_width(0));
+    violated_before_both: before(25, 9, |it| it.known == [true; 2] && it.is_violated(0));
+    whole_before_the_width: before(25, 23, |it| it.known == [true; 2] && it.is_whole() && it.has_another_width(1));
 }
 
 table! {

@@ -86,20 +86,16 @@ in_one_call! {
     weaken: first_in(WEAKEN);
 }
 
-fn no_size(_: &Held, question: &Question) -> Option<u8> {
-    match question.call {
-        Call::NewSegment { size, .. } if size == 0 || size as usize > NODE_BYTES => Some(3),
-        _ => None,
-    }
-}
-
 table! {
     all => widths(25);
     after_2_and_after_3_node:
         at_first(|_, question| question.call.current_node().filter(|node| *node as usize >= NODES).map(|_| 2));
     after_2_and_after_3_mode:
         at_first(|_, question| question.call.named_mode().filter(|mode| ![1, 2].contains(mode)).map(|_| 3));
-    after_2_and_after_3_size: at_first(no_size);
+    after_2_and_after_3_size: at_first(|_, question| match question.call {
+        Call::NewSegment { size, .. } if size == 0 || size as usize > NODE_BYTES => Some(3),
+        _ => None,
+    });
     another_number_3: at_first(|_, _| Some(3));
     another_number_2: at_first(|_, _| Some(2));
     another_number_4: at_first(|_, _| Some(4));
