@@ -1,12 +1,8 @@
 //! Many validations by one call, against one call each and against the model.
 
-use crate::chance::damage::{inflict, Damage, LAST_PLACE};
-use crate::chance::handles::{at_width, handle, Wish};
-use crate::chance::stores::{self, Fill};
-use crate::damages::Where;
-use crate::guard;
-use crate::tally::Tally;
-use crate::words::*;
+use crate::damages::{self, Where};
+use crate::edges::{around, count, each};
+use crate::{widths, words::*};
 
 /// Something that validates many handles, given the mode and the width; [`guard::validate_all`] is the one to be
 /// compared.
@@ -29,8 +25,7 @@ impl Batch {
     /// The handles that are whole; none where the width is none.
     fn whole(&self) -> Vec<&[u8]> {
         let width = Width::of_segments(self.width);
-        let chunks = width.map(|width| self.handles.chunks_exact(width.handle_bytes()));
-        chunks.into_iter().flatten().collect()
+        width.map(|width| self.handles.chunks_exact(width.handle_bytes())).into_iter().flatten().collect()
     }
 
     /// As many as there are whole handles and places for.
@@ -59,43 +54,26 @@ pub fn compare(guard: BatchGuard, seed: u64, batches: u64, tally: &mut Tally) ->
 /// Batches of every width up to a little above the greatest, and of some that are right in their low bytes alone; and
 /// bytes of every length up to that of two handles. Gives how many batches there were.
 pub fn every_width(guard: BatchGuard, seed: u64) -> Result<u64, String> {
-    let mut batches = 0;
-    let mut widths = Width::ALL.into_iter();
-    cases(seed, Width::ALL.len() as u64, |random| {
-        let own = widths.next().expect("there are as many cases");
+    let compared = each(seed, Width::ALL, |random, own, asked| {
         let tally = &mut Tally::default();
         let batch = by_chance(random, None, tally);
-        let right = own.segments();
-        let high = [8, 16, 32, 48, 63].map(|bit| right + (1 << bit));
-        for width in (0..2 * SEGMENTS).chain(high).chain([usize::MAX]) {
-            let mut batch = batch.clone();
-            batch.width = width;
-            one(guard, &batch, tally)?;
-            batches += 1;
+        for width in around(own.segments(), 2 * SEGMENTS - 2) {
+            one(guard, &Batch { width, ..batch.clone() }, tally)?;
+            count(asked, true);
         }
         for length in 0..=2 * own.handle_bytes() {
-            let mut batch = batch.clone();
-            batch.width = right;
-            batch.handles = bytes(random, length);
-            batch.numbers = bytes(random, 3);
-            one(guard, &batch, tally)?;
-            batches += 1;
+            let (handles, numbers) = (bytes(random, length), bytes(random, 3));
+            one(guard, &Batch { width: own.segments(), handles, numbers, ..batch.clone() }, tally)?;
+            count(asked, true);
         }
         Ok(())
-    })?;
-    Ok(batches)
-}
-
-/// A mode as the model takes it.
-fn narrow(mode: usize) -> u32 {
-    u32::try_from(mode).unwrap_or(BEYOND)
+    });
+    compared.map(|(batches, _)| batches)
 }
 
 fn one(guard: BatchGuard, batch: &Batch, tally: &mut Tally) -> Result<(), String> {
-    let mut held = batch.held.clone();
-    let mut found = batch.numbers.clone();
-    let (mode, width) = (batch.mode, batch.width);
-    let count = guard(&mut held, mode, width, &batch.handles, &mut found);
+    let (mut held, mut found, width) = (batch.held.clone(), batch.numbers.clone(), batch.width);
+    let count = guard(&mut held, batch.mode, width, &batch.handles, &mut found);
     let expected_count = batch.expected_count();
     if count != expected_count {
         return Err(format!("{count} numbers are told for width {width}, {expected_count} are due"));
@@ -114,7 +92,7 @@ fn validated_alone(batch: &Batch, bytes: &[u8], tally: &mut Tally) -> Result<u8,
     let call = Call::validate(narrow(batch.mode), bytes.to_vec());
     let question = Question { beyond: batch.mode, ..Question::of(call) };
     let answer = ask(&guard::ask, &mut Sides::both(batch.held.clone()), &question)?;
-    tally.note_widths(BATCH, &batch.held, &question, &answer);
+    tally.met.note_all(widths::met(BATCH, &batch.held, &question, &answer));
     Ok(answer.reply.number)
 }
 
@@ -125,7 +103,7 @@ fn by_chance(random: &mut Random, damage: Option<Damage>, tally: &mut Tally) -> 
     if let Some(damage) = damage {
         let place = if random.one_in(2) { LAST_PLACE } else { (below(random, NODES), below(random, CLUSTERS)) };
         inflict(random, &mut held, damage, place);
-        tally.note_damage(BATCH, damage, Where::seen_from(None, place));
+        tally.met.note_all(damages::met(BATCH, damage, Where::seen_from(None, place)));
     }
     let count = below(random, MOST_HANDLES + 1);
     let places = match random.below(4) {
@@ -179,8 +157,7 @@ fn handles(random: &mut Random, store: &Store, width: Width, count: usize) -> Ve
             width: Some(width).filter(|_| !random.one_in(8)),
         };
         let handle = handle(random, store, &[], wish);
-        let handle = if handle.width() == width { handle } else { at_width(&handle, width) };
-        joined.extend(handle.to_bytes());
+        joined.extend(if handle.width() == width { handle } else { at_width(&handle, width) }.to_bytes());
     }
     let more = below(random, width.handle_bytes());
     joined.extend(bytes(random, more));

@@ -1,8 +1,7 @@
 //! One question put to the library and to the model, and everything that has to be equal then.
 
-use crate::image::{decode, encode};
-use crate::question::{Answer, Held, Question};
-use model::{model::run, words::*};
+use crate::words::*;
+use model::model::run;
 
 /// Something that answers questions; [`crate::guard::ask`] is the one to be compared.
 pub type Guard<'a> = &'a dyn Fn(&mut Held, &Question) -> Answer;
@@ -28,7 +27,10 @@ pub fn by_model(held: &mut Held, question: &Question) -> Answer {
     let needs_no_store = matches!(question.call, Call::Weaken { .. });
     let reply = match decode(image) {
         None if needs_no_store => run(&mut Store::starting(), memory, &mut buffer, &question.call),
-        None => Reply::refused(before_the_store(&question.call).unwrap_or(UNSOUND)),
+        None => {
+            let found = Found { store: &Store::starting(), memory_bytes: 0, buffer_bytes: 0 };
+            Reply::refused(refusal_above(UNSOUND, &question.call, &found).unwrap_or(UNSOUND))
+        }
         Some(mut store) => {
             let reply = run(&mut store, memory, &mut buffer, &question.call);
             *image = encode(&store);
@@ -36,12 +38,6 @@ pub fn by_model(held: &mut Held, question: &Question) -> Answer {
         }
     };
     Answer { reply, buffer }
-}
-
-/// What is looked at before the store, and so whatever there is in its place.
-fn before_the_store(call: &Call) -> Option<u8> {
-    let found = Found { store: &Store::starting(), memory_bytes: 0, buffer_bytes: 0 };
-    refusal_above(UNSOUND, call, &found)
 }
 
 /// Whether the model holds the store for sound; a damaged image has no sound store.
@@ -107,8 +103,7 @@ pub fn same_bytes(what: &str, expected: &[u8], found: &[u8]) -> Result<(), Strin
     if expected == found {
         return Ok(());
     }
-    let mut pairs = expected.iter().zip(found);
-    match pairs.position(|(expected, found)| expected != found) {
+    match expected.iter().zip(found).position(|(expected, found)| expected != found) {
         Some(at) => Err(format!("{what} differ at byte {at}: {} and {}", expected[at], found[at])),
         None => Err(format!("{what} differ in length: {} and {}", expected.len(), found.len())),
     }

@@ -1,8 +1,6 @@
 //! Which kinds of damage were met, in which calls and at which places.
 
-use crate::chance::damage::{Damage, LAST_PLACE};
-use crate::question::{name, BATCH, CODES};
-use model::listed;
+use crate::words::*;
 use std::collections::BTreeSet;
 
 listed! {
@@ -24,14 +22,6 @@ impl Where {
     }
 }
 
-/// A batch has handles of many clusters, so no record is its own.
-fn places_in(code: u8) -> &'static [Where] {
-    match code {
-        BATCH => &[Where::LastRecord, Where::Elsewhere],
-        _ => &Where::ALL,
-    }
-}
-
 /// The kind in the call, the kind at the place, and the place in the call.
 pub fn met(code: u8, damage: Damage, place: Where) -> [String; 3] {
     let name = name(code);
@@ -39,10 +29,10 @@ pub fn met(code: u8, damage: Damage, place: Where) -> [String; 3] {
 }
 
 /// Everything that has to be met.
-pub fn due() -> Vec<String> {
-    let mut due = BTreeSet::new();
-    for (code, damage) in CODES.into_iter().flat_map(|code| Damage::ALL.map(|damage| (code, damage))) {
-        due.extend(places_in(code).iter().flat_map(|place| met(code, damage, *place)));
-    }
-    due.into_iter().collect()
+pub fn due() -> BTreeSet<String> {
+    let all = CODES.into_iter().flat_map(|code| Damage::ALL.map(|damage| (code, damage)));
+    let all = all.flat_map(|(code, damage)| Where::ALL.map(|place| (code, damage, place)));
+    // A batch has handles of many clusters, so no record is its own.
+    let all = all.filter(|(code, _, at)| *code != BATCH || [Where::LastRecord, Where::Elsewhere].contains(at));
+    all.flat_map(|(code, damage, place)| met(code, damage, place)).collect()
 }

@@ -14,11 +14,6 @@ pub const MARK_AT: usize = 4;
 pub const RECORD_BYTES: usize = SEGMENTS_AT + SEGMENTS * SEGMENT_BYTES;
 pub const IMAGE_BYTES: usize = NODES * CLUSTERS * RECORD_BYTES;
 
-const INACTIVE: u8 = 0;
-const ACTIVE: u8 = 1;
-const NOT_FROZEN: u8 = 0;
-const FROZEN: u8 = 1;
-
 pub type Image = [u8; IMAGE_BYTES];
 
 /// Where a cluster's record lies; its first byte tells whether the cluster is active, and its second the width.
@@ -41,11 +36,7 @@ pub fn passwords_at(node: usize, local: usize) -> Range<usize> {
 
 /// Where a cluster's password for one mode lies.
 pub fn password_at(node: usize, local: usize, mode: Mode) -> Range<usize> {
-    let start = record_at(node, local).start
-        + match mode {
-            Mode::Read => READ_AT,
-            Mode::Write => WRITE_AT,
-        };
+    let start = passwords_at(node, local).start + mode as usize * PASSWORD_BYTES;
     start..start + PASSWORD_BYTES
 }
 
@@ -53,20 +44,18 @@ pub fn password_at(node: usize, local: usize, mode: Mode) -> Range<usize> {
 /// same, and comes out as an absent segment with a base.
 pub fn encode(store: &Store) -> Image {
     let mut image = [0; IMAGE_BYTES];
-    let clusters = store.clusters.as_flattened();
-    for (record, cluster) in image.chunks_exact_mut(RECORD_BYTES).zip(clusters) {
+    for (record, cluster) in image.chunks_exact_mut(RECORD_BYTES).zip(store.clusters.as_flattened()) {
         encode_cluster(cluster, record);
     }
     image
 }
 
 fn encode_cluster(cluster: &Cluster, record: &mut [u8]) {
-    record[0] = if cluster.active { ACTIVE } else { INACTIVE };
+    record[0] = cluster.active.into();
     record[WIDTH_AT] = cluster.width;
     record[READ_AT..WRITE_AT].copy_from_slice(&cluster.read);
     record[WRITE_AT..SEGMENTS_AT].copy_from_slice(&cluster.write);
-    let places = record[SEGMENTS_AT..].chunks_exact_mut(SEGMENT_BYTES);
-    for (place, segment) in places.zip(&cluster.segments) {
+    for (place, segment) in record[SEGMENTS_AT..].chunks_exact_mut(SEGMENT_BYTES).zip(&cluster.segments) {
         place.copy_from_slice(&encode_segment(segment));
     }
 }
@@ -77,47 +66,45 @@ fn encode_segment(segment: &Segment) -> [u8; SEGMENT_BYTES] {
         Place::Present { base, length } => (base, length),
     };
     let ([b0, b1], [l0, l1]) = (base.to_be_bytes(), length.to_be_bytes());
-    let mark = if segment.frozen { FROZEN } else { NOT_FROZEN };
-    [b0, b1, l0, l1, mark]
+    [b0, b1, l0, l1, segment.frozen.into()]
 }
 
 /// The store of an image; `None` where a record encodes no cluster. Any byte is a width: whether it may be one is a
 /// matter of soundness.
 pub fn decode(image: &Image) -> Option<Store> {
     let mut store = Store::starting();
-    let clusters = store.clusters.as_flattened_mut();
-    for (record, cluster) in image.chunks_exact(RECORD_BYTES).zip(clusters) {
+    for (record, cluster) in image.chunks_exact(RECORD_BYTES).zip(store.clusters.as_flattened_mut()) {
         *cluster = decode_cluster(record)?;
     }
     Some(store)
 }
 
+/// A byte that tells whether a cluster is active, or a segment frozen.
+fn decode_flag(byte: u8) -> Option<bool> {
+    match byte {
+        0 => Some(false),
+        1 => Some(true),
+        _ => None,
+    }
+}
+
 fn decode_cluster(record: &[u8]) -> Option<Cluster> {
-    let active = match record[0] {
-        INACTIVE => false,
-        ACTIVE => true,
-        _ => return None,
-    };
+    let active = decode_flag(record[0])?;
     let password = |at: usize| Password::try_from(&record[at..at + PASSWORD_BYTES]).ok();
     let mut segments = [Segment::ABSENT; SEGMENTS];
-    let places = record[SEGMENTS_AT..].chunks_exact(SEGMENT_BYTES);
-    for (segment, place) in segments.iter_mut().zip(places) {
+    for (segment, place) in segments.iter_mut().zip(record[SEGMENTS_AT..].chunks_exact(SEGMENT_BYTES)) {
         *segment = decode_segment(place)?;
     }
     Some(Cluster { active, width: record[WIDTH_AT], read: password(READ_AT)?, write: password(WRITE_AT)?, segments })
 }
 
-fn decode_segment(place: &[u8]) -> Option<Segment> {
-    let base = u16::from_be_bytes([place[0], place[1]]);
-    let length = u16::from_be_bytes([place[LENGTH_AT], place[LENGTH_AT + 1]]);
-    let segment = match (base, length) {
-        (0, 0) => Segment::ABSENT,
+fn decode_segment(bytes: &[u8]) -> Option<Segment> {
+    let base = u16::from_be_bytes([bytes[0], bytes[1]]);
+    let length = u16::from_be_bytes([bytes[LENGTH_AT], bytes[LENGTH_AT + 1]]);
+    let place = match (base, length) {
+        (0, 0) => Place::Absent,
         (_, 0) => return None,
-        _ => Segment::present(base, length),
+        _ => Place::Present { base, length },
     };
-    match place[MARK_AT] {
-        NOT_FROZEN => Some(segment),
-        FROZEN => Some(segment.marked()),
-        _ => None,
-    }
+    Some(Segment { place, frozen: decode_flag(bytes[MARK_AT])? })
 }

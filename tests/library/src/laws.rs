@@ -1,7 +1,5 @@
 //! What holds of joins whatever they join, judged by the library's side alone.
 
-use crate::chance::questions::Maker;
-use crate::chance::stores::{self, Fill};
 use crate::words::*;
 
 /// Gives how many joins were done.
@@ -19,8 +17,7 @@ fn one(guard: Guard, random: &mut Random) -> Result<bool, String> {
     let fill = Fill::by_chance(random);
     let store = stores::store(random, fill);
     let held = stores::held(random, &store);
-    let maker = &mut Maker { random, store: &store, given: &[] };
-    let question = maker.question(&[JOIN]);
+    let question = Maker { random, store: &store, given: &[] }.question(&[JOIN]);
     let Call::Join { mode, handle, other } = question.call.clone() else {
         return Err("another call was made".to_string());
     };
@@ -42,9 +39,7 @@ struct Join<'a> {
 impl Join<'_> {
     /// What the library replies to a call with the numbers of this one; it works on its own copy.
     fn call(&self, call: Call) -> Answer {
-        let mut question = self.question.clone();
-        question.call = call;
-        (self.guard)(&mut self.held.clone(), &question)
+        (self.guard)(&mut self.held.clone(), &Question { call, ..self.question.clone() })
     }
 
     fn asked(&self, handle: &HandleBytes, other: &HandleBytes) -> Answer {
@@ -52,33 +47,28 @@ impl Join<'_> {
     }
 
     fn reduced(&self, handle: &HandleBytes) -> Reply {
-        let (mode, handle) = (self.mode, handle.clone());
-        self.call(Call::Reduce { mode, handle }).reply
+        self.call(Call::reduce(self.mode, handle.clone())).reply
     }
 
     fn holds(&self, answer: &Answer, one: &HandleBytes, other: &HandleBytes) -> Result<(), String> {
         let told = |holds: bool, what: &str| if holds { Ok(()) } else { Err(what.to_string()) };
-        let exchanged = self.asked(other, one);
-        told(exchanged == *answer, "a join hangs on which handle comes first")?;
+        told(self.asked(other, one) == *answer, "a join hangs on which handle comes first")?;
         let read = [one, other].map(|bytes| Handle::from_bytes(bytes));
         for (bytes, handle) in [one, other].into_iter().zip(&read) {
-            let itself = self.asked(bytes, bytes).reply;
             let primary = handle.is_some_and(|handle| handle.selector.is_primary());
-            let expected = itself == self.reduced(bytes) || primary;
-            told(expected, "a handle with itself does not give its reduction")?;
+            let reduced = self.asked(bytes, bytes).reply == self.reduced(bytes);
+            told(reduced || primary, "a handle with itself does not give its reduction")?;
         }
         if !answer.reply.is_done() {
             return Ok(());
         }
         let given = &answer.reply.first;
         let [Some(first), Some(second)] = read else { return told(false, "bytes are joined that are no handle") };
-        let is_as_wide = given.len() == one.len() && given.len() == other.len();
-        told(is_as_wide, "what is given has another width")?;
+        told(given.len() == one.len() && given.len() == other.len(), "what is given has another width")?;
         let again = Reply { first: given.clone(), ..Reply::DONE };
         told(self.reduced(given) == again, "what is given is not valid, or not in the form of a reduced handle")?;
         for handle in [one, other] {
-            let joined = self.asked(given, handle).reply;
-            told(joined == again, "what was joined is not in what is given")?;
+            told(self.asked(given, handle).reply == again, "what was joined is not in what is given")?;
         }
         let primary = Handle::from_bytes(given).is_some_and(|given| given.selector.is_primary());
         told(!primary && self.counts(given, first.union(&second)), "what is given references other segments")
@@ -86,10 +76,7 @@ impl Join<'_> {
 
     /// Whether weakening tells so many segments, and takes none of these away. It gives no handle to nothing.
     fn counts(&self, handle: &HandleBytes, segments: u16) -> bool {
-        let count = |mask| {
-            let handle = handle.clone();
-            self.call(Call::Weaken { mask, handle }).reply.count
-        };
+        let count = |mask| self.call(Call::weaken(mask, handle.clone())).reply.count;
         count(u16::MAX) == segments.count_ones() && count(segments) == segments.count_ones()
     }
 }

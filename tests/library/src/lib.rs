@@ -37,9 +37,14 @@ pub mod writers;
 
 /// What nearly every file speaks of.
 pub mod words {
+    pub use crate::chance::damage::*;
+    pub use crate::chance::handles::*;
+    pub use crate::chance::questions::*;
+    pub use crate::chance::stores::*;
     pub use crate::chance::*;
     pub use crate::compare::*;
     pub use crate::image::*;
     pub use crate::question::*;
-    pub use model::words::*;
+    pub use crate::{guard, tally::Tally};
+    pub use model::{listed, met::Met, words::*};
 }

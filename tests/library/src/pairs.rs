@@ -23,10 +23,25 @@ impl Pair {
         names(handle, self.apart)
     }
 
-    /// Whether some handle of the question does.
-    pub fn names_apart(&self, question: &Question) -> bool {
-        let mut presented = question.call.presented();
-        presented.any(|handle| self.is_apart(&handle))
+    /// The same of its bytes.
+    pub fn is_named_by(&self, bytes: &[u8]) -> bool {
+        Handle::from_bytes(bytes).is_some_and(|handle| self.is_apart(&handle))
+    }
+
+    /// Whether some handle of the call does.
+    pub fn names_apart(&self, call: &Call) -> bool {
+        call.presented().any(|handle| self.is_apart(&handle))
+    }
+
+    /// The cluster set apart in a store.
+    pub fn cluster<'a>(&self, store: &'a Store) -> &'a Cluster {
+        &store.clusters[self.apart.0][self.apart.1]
+    }
+
+    /// Whether this is so of it in one of the stores and not in the other.
+    pub fn in_one(&self, stores: &[Store; 2], is_so: impl Fn(&Cluster) -> bool) -> bool {
+        let [one, other] = stores.each_ref().map(|store| is_so(self.cluster(store)));
+        one != other
     }
 }
 
@@ -43,26 +58,20 @@ pub fn set_apart(random: &mut Random, store: &Store) -> (usize, usize) {
 
 /// The parts of the memory that are the segments of a cluster.
 pub fn parts_of(store: &Store, (node, local): (usize, usize)) -> Vec<Range<usize>> {
-    let segments = store.clusters[node][local].segments.iter();
-    let extents = segments.filter_map(Segment::extent);
+    let extents = store.clusters[node][local].segments.iter().filter_map(Segment::extent);
     extents.map(|extent| extent.in_memory(node)).collect()
 }
 
 /// Whether the store does the call, as the model judges; it has a buffer of so many bytes.
 pub fn does(store: &Store, call: &Call, buffer_bytes: usize) -> bool {
-    let found = Found::whole(store, buffer_bytes);
-    refusal(call, &found).is_none()
+    refusal(call, &Found::whole(store, buffer_bytes)).is_none()
 }
 
 /// Whether the handle validates in one of the modes in one of the stores, as the model judges. One of another width
 /// than its cluster's does not.
 pub fn validates(stores: &[Store; 2], handle: &Handle, modes: &[Mode]) -> bool {
-    let validates = |store: &Store, mode: u32| {
-        let handle = handle.to_bytes();
-        does(store, &Call::Validate { mode, handle }, 0)
-    };
-    let mut stores = stores.iter();
-    stores.any(|store| modes.iter().any(|mode| validates(store, mode.number())))
+    let validates = |store: &Store, mode: &Mode| does(store, &Call::validate(mode.number(), *handle), 0);
+    stores.iter().any(|store| modes.iter().any(|mode| validates(store, mode)))
 }
 
 /// Puts the question to both copies. Gives the answer that both get, or tells in what they differ: in the answer, in

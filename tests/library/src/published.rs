@@ -1,6 +1,6 @@
 //! The published handles, each line confirmed through the library on a store made for it.
 
-use crate::{guard, words::*};
+use crate::words::*;
 use model::hexadecimal::decode;
 use std::collections::HashMap;
 
@@ -9,11 +9,9 @@ pub const TEXT: &str = include_str!("../../../docs/vectors/handles.txt");
 
 /// Gives how many lines were confirmed.
 pub fn confirm(text: &str) -> Result<usize, String> {
-    let lines = text.lines().filter(|line| !line.is_empty() && !line.starts_with('#'));
     let mut confirmed = 0;
-    for text in lines {
-        let held = Line::read(text).and_then(|line| line.holds());
-        match held {
+    for text in text.lines().filter(|line| !line.is_empty() && !line.starts_with('#')) {
+        match Line::read(text).and_then(|line| line.holds()) {
             Some(true) => confirmed += 1,
             Some(false) => return Err(format!("the library does not confirm: {text}")),
             None => return Err(format!("not a line of published handles: {text}")),
@@ -37,134 +35,92 @@ impl<'a> Line<'a> {
 
     /// Whether the library says the same; `None` where the line says nothing that could be asked.
     fn holds(&self) -> Option<bool> {
-        match self.kind {
-            "conversion" => self.conversion(),
-            "primary" => self.primary(),
-            "weakened" => self.weakened(),
-            "reduced" => self.reduced(),
-            "joined" => self.joined(),
-            "whole" => self.not_joined(WHOLE),
-            "apart" => self.not_joined(APART),
-            "empty" => self.refused(EMPTY),
-            "spent" => self.refused(SPENT),
-            "length" if self.values.contains_key("old") => self.refused(LENGTH),
-            "length" => self.not_joined(LENGTH),
-            "validation" => self.validation(),
-            _ => None,
-        }
-    }
-
-    fn conversion(&self) -> Option<bool> {
-        let converted = guard::convert(&self.password("password")?, self.bits("parameter")?);
-        Some(converted == self.password("outcome")?)
+        Some(match self.kind {
+            "conversion" => {
+                guard::convert(&self.password("password")?, self.bits("parameter")?) == self.password("outcome")?
+            }
+            "primary" => self.is_made()? && self.counts("handle")? && self.validates("handle")?,
+            "weakened" => {
+                let given = Reply { count: self.number("count")?.into(), ..self.giving("new")? };
+                self.weakening()? == given && self.validates("old")? && self.validates("new")?
+            }
+            "reduced" => {
+                let call = Call::reduce(self.mode()?, self.handle("old")?);
+                self.asked(&["old"], call)? == self.giving("new")? && self.counts("new")? && self.validates("new")?
+            }
+            "joined" => {
+                let given = self.joining(self.giving("new")?)? && self.both_validate()?;
+                given && self.counts("new")? && self.validates("new")?
+            }
+            "validation" => self.validation("handle")? == self.number("number")?,
+            _ => self.is_refused()?,
+        })
     }
 
     /// The handle is what making the cluster gives for the mode.
-    fn primary(&self) -> Option<bool> {
+    fn is_made(&self) -> Option<bool> {
         let handle = self.handle("handle")?;
-        let cluster = self.cluster(&handle)?;
-        let call = Call::NewCluster {
-            node: u32::from_str_radix(self.values.get("node")?, 16).ok()?,
-            local: u32::from_str_radix(self.values.get("local")?, 16).ok()?,
-            width: cluster.width.into(),
-            read: cluster.read,
-            write: cluster.write,
+        let Cluster { width, read, write, .. } = self.cluster(&handle)?;
+        let (node, local) = (self.bits("node")?.into(), self.bits("local")?.into());
+        let made = self.asked(&[], Call::NewCluster { node, local, width: width.into(), read, write })?;
+        let given = if self.mode()? == READ_MODE { made.first } else { made.second };
+        Some(made.number == DONE && given == handle)
+    }
+
+    /// A weakening or a join that is refused: the line's kind is the number's word. Both handles of a join validate,
+    /// unless it is for the length of one.
+    fn is_refused(&self) -> Option<bool> {
+        let number = (UNSOUND..=LENGTH).find(|number| word(*number) == Some(self.kind))?;
+        let reply = Reply::refused(number);
+        let refused = match self.values.contains_key("old") {
+            true => self.weakening()? == reply,
+            false => self.joining(reply)? && self.both_validate()? == (number != LENGTH),
         };
-        let made = ask(&mut held(&Store::starting()), call);
-        let given = match self.mode()? {
-            READ_MODE => made.first,
-            _ => made.second,
-        };
-        Some(made.number == DONE && given == handle && self.counts(&handle)? && self.validates(&handle)? == DONE)
+        Some(refused && self.number("number")? == number)
     }
 
-    fn weakened(&self) -> Option<bool> {
-        let (old, new) = (self.handle("old")?, self.handle("new")?);
-        let expected = Reply { count: self.number("count")?.into(), ..giving(&new) };
-        let call = Call::weaken(self.bits("mask")?, old.clone());
-        Some(
-            ask(&mut held(&Store::starting()), call) == expected
-                && self.validates(&old)? == DONE
-                && self.validates(&new)? == DONE,
-        )
-    }
-
-    fn reduced(&self) -> Option<bool> {
-        let (old, new) = (self.handle("old")?, self.handle("new")?);
-        let call = Call::reduce(self.mode()?, old.clone());
-        Some(
-            ask(&mut held(&self.store(&[&old])?), call) == giving(&new)
-                && self.counts(&new)?
-                && self.validates(&new)? == DONE,
-        )
-    }
-
-    /// In either order, and what is given validates, as do the two.
-    fn joined(&self) -> Option<bool> {
-        let new = self.handle("new")?;
-        Some(
-            self.joining(giving(&new))? && self.both_validate()? && self.counts(&new)? && self.validates(&new)? == DONE,
-        )
-    }
-
-    /// A join that is refused, with the number that goes with the line's kind. Both validate, unless it is for the
-    /// length of one.
-    fn not_joined(&self, number: u8) -> Option<bool> {
-        let due = self.joining(Reply::refused(number))? && self.number("number")? == number;
-        Some(due && self.both_validate()? == (number != LENGTH))
+    fn weakening(&self) -> Option<Reply> {
+        self.asked(&[], Call::weaken(self.bits("mask")?, self.handle("old")?))
     }
 
     /// Whether joining the two is replied to in this way, in either order.
     fn joining(&self, reply: Reply) -> Option<bool> {
-        let (mode, one, two) = (self.mode()?, self.handle("one")?, self.handle("two")?);
-        let store = self.store(&[&one, &two])?;
-        let join = |handle: &HandleBytes, other: &HandleBytes| {
-            let call = Call::join(mode, handle.clone(), other.clone());
-            ask(&mut held(&store), call)
+        let join = |handle: &str, other: &str| {
+            self.asked(&["one", "two"], Call::join(self.mode()?, self.handle(handle)?, self.handle(other)?))
         };
-        Some(join(&one, &two) == reply && join(&two, &one) == reply)
+        Some(join("one", "two")? == reply && join("two", "one")? == reply)
     }
 
     fn both_validate(&self) -> Option<bool> {
-        let (one, two) = (self.handle("one")?, self.handle("two")?);
-        Some(self.validates(&one)? == DONE && self.validates(&two)? == DONE)
+        Some(self.validates("one")? && self.validates("two")?)
     }
 
-    /// A weakening that is refused, with the number that goes with the line's kind.
-    fn refused(&self, number: u8) -> Option<bool> {
-        let call = Call::weaken(self.bits("mask")?, self.handle("old")?);
-        let reply = ask(&mut held(&Store::starting()), call);
-        Some(reply == Reply::refused(number) && self.number("number")? == number)
-    }
-
-    fn validation(&self) -> Option<bool> {
-        Some(self.validates(&self.handle("handle")?)? == self.number("number")?)
+    fn validates(&self, key: &str) -> Option<bool> {
+        Some(self.validation(key)? == DONE)
     }
 
     /// The number that validating in the line's mode gives.
-    fn validates(&self, handle: &HandleBytes) -> Option<u8> {
-        let call = Call::validate(self.mode()?, handle.clone());
-        Some(ask(&mut held(&self.store(&[handle])?), call).number)
+    fn validation(&self, key: &str) -> Option<u8> {
+        Some(self.asked(&[key], Call::validate(self.mode()?, self.handle(key)?))?.number)
     }
 
     /// Whether the handle references as many segments as the line says: a mask that excludes
     /// nothing makes weakening tell it.
-    fn counts(&self, handle: &HandleBytes) -> Option<bool> {
-        let call = Call::weaken(u16::MAX, handle.clone());
-        let reply = ask(&mut held(&Store::starting()), call);
-        let unchanged = reply.number == DONE && reply.first == *handle;
-        Some(unchanged && reply.count == self.number("count")?.into())
+    fn counts(&self, key: &str) -> Option<bool> {
+        let reply = self.asked(&[], Call::weaken(u16::MAX, self.handle(key)?))?;
+        Some(reply == Reply { count: self.number("count")?.into(), ..self.giving(key)? })
     }
 
-    /// A store in which the handles' clusters are active and have the line's primary password.
-    fn store(&self, handles: &[&HandleBytes]) -> Option<Store> {
+    /// What the library replies where the clusters of these handles are active and have the line's primary password.
+    fn asked(&self, handles: &[&str], call: Call) -> Option<Reply> {
         let mut store = Store::starting();
-        for handle in handles {
-            let (node, local) = name(handle);
-            let clusters = store.clusters.get_mut(node)?;
-            *clusters.get_mut(local)? = self.cluster(handle)?;
+        for key in handles {
+            let handle = self.handle(key)?;
+            let (node, local) = name(&handle);
+            *store.clusters.get_mut(node)?.get_mut(local)? = self.cluster(&handle)?;
         }
-        Some(store)
+        let mut held = Held { image: encode(&store), memory: [0; MEMORY_BYTES] };
+        Some(guard::ask(&mut held, &Question::of(call)).reply)
     }
 
     /// Active, of the line's width or else of the handle's, with the line's primary password for its mode and another
@@ -172,10 +128,7 @@ impl<'a> Line<'a> {
     fn cluster(&self, handle: &HandleBytes) -> Option<Cluster> {
         let primary = self.password("primary")?;
         let other = primary.map(|byte| !byte);
-        let (read, write) = match self.mode()? {
-            READ_MODE => (primary, other),
-            _ => (other, primary),
-        };
+        let (read, write) = if self.mode()? == READ_MODE { (primary, other) } else { (other, primary) };
         let width = match self.values.contains_key("width") {
             true => Width::of_segments(self.number("width")?.into())?,
             false => Width::of_handle_bytes(handle.len())?,
@@ -200,7 +153,11 @@ impl<'a> Line<'a> {
         decode(self.values.get(key)?)
     }
 
-    /// A mask or a parameter, of two digits or of four.
+    fn giving(&self, key: &str) -> Option<Reply> {
+        Some(Reply { first: self.handle(key)?, ..Reply::DONE })
+    }
+
+    /// A mask, a parameter or a name, of two digits or of four.
     fn bits(&self, key: &str) -> Option<u16> {
         u16::from_str_radix(self.values.get(key)?, 16).ok()
     }
@@ -214,16 +171,4 @@ impl<'a> Line<'a> {
 fn name(handle: &HandleBytes) -> (usize, usize) {
     let byte = |at: usize| usize::from(handle.get(at).copied().unwrap_or(0));
     (byte(0) << 8 | byte(1), byte(2))
-}
-
-fn giving(handle: &HandleBytes) -> Reply {
-    Reply { first: handle.clone(), ..Reply::DONE }
-}
-
-fn held(store: &Store) -> Held {
-    Held { image: encode(store), memory: [0; MEMORY_BYTES] }
-}
-
-fn ask(held: &mut Held, call: Call) -> Reply {
-    guard::ask(held, &Question::of(call)).reply
 }

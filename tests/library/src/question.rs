@@ -3,7 +3,7 @@
 use crate::ffi::HANDLE_MAX;
 use crate::guard::handles::Behind;
 use crate::image::{encode, Image};
-use model::{call, words::*};
+use model::words::*;
 use std::fmt;
 
 /// The number of a call's argument that stands for [`Question::beyond`].
@@ -15,6 +15,11 @@ pub const WRITE_MODE: u32 = 2;
 pub const VALIDATION: u8 = 101;
 pub const BATCH: u8 = 102;
 pub const LOOK: u8 = 103;
+/// What validates handles.
+#[rustfmt::skip]
+pub const VALIDATING: [u8; 11] = [
+    DELETE_CLUSTER, NEW_SEGMENT, DELETE_SEGMENT, READ, WRITE, REDUCE, NEW_PASSWORD, FREEZE, JOIN, VALIDATION, LOOK,
+];
 /// The rows of tables.
 pub const CODES: [u8; 14] = [1, 2, 3, 4, 5, 6, 7, 8, 9, 10, 11, VALIDATION, BATCH, LOOK];
 
@@ -26,6 +31,11 @@ pub fn name(code: u8) -> &'static str {
         LOOK => "look",
         _ => call.expect("the eleven calls have names").1,
     }
+}
+
+/// A number as the model takes it.
+pub fn narrow(number: usize) -> u32 {
+    u32::try_from(number).unwrap_or(BEYOND)
 }
 
 pub type Memory = [u8; MEMORY_BYTES];
@@ -65,38 +75,56 @@ impl Question {
     /// The call's code, or [`VALIDATION`], or [`LOOK`].
     pub fn code(&self) -> u8 {
         match self.call {
-            Call::NewCluster { .. } => call::NEW_CLUSTER,
-            Call::DeleteCluster { .. } => call::DELETE_CLUSTER,
-            Call::NewSegment { .. } => call::NEW_SEGMENT,
-            Call::DeleteSegment { .. } => call::DELETE_SEGMENT,
-            Call::Read { .. } => call::READ,
-            Call::Write { .. } => call::WRITE,
-            Call::Weaken { .. } => call::WEAKEN,
-            Call::Reduce { .. } => call::REDUCE,
-            Call::NewPassword { .. } => call::NEW_PASSWORD,
-            Call::Freeze { .. } => call::FREEZE,
-            Call::Join { .. } => call::JOIN,
+            Call::NewCluster { .. } => NEW_CLUSTER,
+            Call::DeleteCluster { .. } => DELETE_CLUSTER,
+            Call::NewSegment { .. } => NEW_SEGMENT,
+            Call::DeleteSegment { .. } => DELETE_SEGMENT,
+            Call::Read { .. } => READ,
+            Call::Write { .. } => WRITE,
+            Call::Weaken { .. } => WEAKEN,
+            Call::Reduce { .. } => REDUCE,
+            Call::NewPassword { .. } => NEW_PASSWORD,
+            Call::Freeze { .. } => FREEZE,
+            Call::Join { .. } => JOIN,
             Call::Look { .. } => LOOK,
             Call::Validate { .. } => VALIDATION,
         }
     }
 
-    /// The bytes of the handle that the call presents; of the first, where it presents two.
-    pub fn handle_mut(&mut self) -> Option<&mut HandleBytes> {
-        self.presented_mut().into_iter().next()
+    /// Node and local number of the cluster that the call is about; there may be no such place.
+    pub fn place(&self) -> Option<(usize, usize)> {
+        match self.call {
+            Call::NewCluster { node, local, .. } => Some((node as usize, local as usize)),
+            _ => self.call.handle().map(|handle| (handle.node.into(), handle.local.into())),
+        }
     }
 
-    /// The bytes of every handle that the call presents.
-    pub fn presented_mut(&mut self) -> Vec<&mut HandleBytes> {
-        self.call.presented_mut()
+    /// The bytes of the handle that the call presents; of the first, where it presents two.
+    pub fn handle_mut(&mut self) -> Option<&mut HandleBytes> {
+        self.call.presented_mut().into_iter().next()
+    }
+
+    /// Current node, segment and mode of a call by handles, those of them that it has.
+    pub fn numbers_mut(&mut self) -> [Option<&mut u32>; 3] {
+        match &mut self.call {
+            Call::NewCluster { .. } | Call::Weaken { .. } => [None, None, None],
+            Call::DeleteCluster { node, .. } => [Some(node), None, None],
+            Call::NewSegment { node, segment, .. }
+            | Call::DeleteSegment { node, segment, .. }
+            | Call::Freeze { node, segment, .. }
+            | Call::Look { node, segment, .. } => [Some(node), Some(segment), None],
+            Call::Read { segment, .. } | Call::Write { segment, .. } => [None, Some(segment), None],
+            Call::Reduce { mode, .. }
+            | Call::NewPassword { mode, .. }
+            | Call::Join { mode, .. }
+            | Call::Validate { mode, .. } => [None, None, Some(mode)],
+        }
     }
 
     /// The same with every handle changed that the call presents.
     pub fn with_handles(&self, mut change: impl FnMut(&mut Handle)) -> Question {
         let mut changed = self.clone();
-        for bytes in changed.presented_mut() {
-            change_handle(bytes, &mut change);
-        }
+        changed.call.presented_mut().into_iter().for_each(|bytes| change_handle(bytes, &mut change));
         changed
     }
 }
@@ -111,14 +139,9 @@ pub fn change_handle(bytes: &mut HandleBytes, change: impl FnOnce(&mut Handle)) 
 
 impl fmt::Display for Question {
     fn fmt(&self, to: &mut fmt::Formatter) -> fmt::Result {
-        write!(
-            to,
-            "{:?}, {BEYOND} standing for {}, buffer of {} bytes, {:02x?} behind the length",
-            self.call,
-            self.beyond,
-            self.buffer.len(),
-            self.behind
-        )
+        let Question { call, beyond, buffer, behind } = self;
+        let bytes = buffer.len();
+        write!(to, "{call:?}, {BEYOND} standing for {beyond}, buffer of {bytes} bytes, {behind:02x?} behind the length")
     }
 }
 
@@ -140,8 +163,8 @@ impl Answer {
     pub fn handles(&self, question: &Question) -> Vec<Handle> {
         let count = match question.code() {
             _ if !self.reply.is_done() => 0,
-            call::NEW_CLUSTER => 2,
-            call::WEAKEN | call::REDUCE | call::NEW_PASSWORD | call::JOIN => 1,
+            NEW_CLUSTER => 2,
+            WEAKEN | REDUCE | NEW_PASSWORD | JOIN => 1,
             _ => 0,
         };
         let handles = [&self.reply.first, &self.reply.second].into_iter().take(count);
@@ -151,12 +174,9 @@ impl Answer {
 
 impl fmt::Display for Answer {
     fn fmt(&self, to: &mut fmt::Formatter) -> fmt::Result {
-        let Reply { number, first, second, count, length, shown } = &self.reply;
+        let Reply { number, first, second, count, length, shown: Part { from, length: shown } } = &self.reply;
         let [first, second] = [first, second].map(|handle| model::hexadecimal::encode(handle));
-        write!(
-            to,
-            "number {number}, handles {first} {second}, count {count}, length {length}, shown {} from {}",
-            shown.length, shown.from
-        )
+        write!(to, "number {number}, handles {first} {second}, count {count}, length {length}, ")?;
+        write!(to, "shown {shown} from {from}")
     }
 }

@@ -1,10 +1,7 @@
 //! Long rows of calls from the starting store: handles that were given are weakened, reduced,
 //! revoked and presented again, and each call works on what the last one left. What was frozen on the way stays.
 
-use crate::chance::questions::{Maker, FILLING};
-use crate::guard;
 use crate::stays::seen;
-use crate::tally::Tally;
 use crate::words::*;
 use model::frozen::Watch;
 
@@ -22,8 +19,7 @@ fn one(guard: Guard, random: &mut Random, tally: &mut Tally) -> Result<(), Strin
     for at in 1..=RUN_CALLS {
         let before = sides.model.clone();
         let store = decode(&before.image).ok_or("the model leaves no store")?;
-        let maker = &mut Maker { random, store: &store, given: &given };
-        let question = maker.question(&FILLING);
+        let question = Maker { random, store: &store, given: &given }.question(&FILLING);
         let answer = ask(guard, &mut sides, &question).map_err(|what| format!("call {at} of the row: {what}"))?;
         tally.note(&question, &answer);
         seen(&mut watch, &sides.guard).map_err(|what| format!("call {at} of the row: {what}"))?;
@@ -38,6 +34,5 @@ fn starting() -> Result<Held, String> {
     let mut image = [u8::MAX; IMAGE_BYTES];
     guard::start(&mut image);
     same_bytes("starting images", &encode(&Store::starting()), &image)?;
-    let memory = [0; MEMORY_BYTES];
-    Ok(Held { image, memory })
+    Ok(Held { image, memory: [0; MEMORY_BYTES] })
 }

@@ -7,37 +7,26 @@ use crate::words::*;
 /// lowest two alone, and the last is one that no four bytes hold.
 const WRONG_NODES: [&str; 5] = ["OtherNode", "NodeAbove", "NodeOfOneByte", "NodeOfTwoBytes", "NodeBeyond"];
 
-/// Numbers of which each has to meet the next. 25 comes first, and again between 8 and 9.
-#[rustfmt::skip]
-const NEIGHBOURS: [(u8, &[u8]); 8] = [
-    (LOOK, &[
-        LENGTH, UNSOUND, NO_SUCH_PLACE, FIELD, GAPPED, ELSEWHERE, INACTIVE, LENGTH,
-        VIOLATED_PROTECTION, NOT_REFERENCED, ABSENT,
-    ]),
-    (FREEZE, &[
-        LENGTH, UNSOUND, NO_SUCH_PLACE, FIELD, GAPPED, ELSEWHERE, INACTIVE, LENGTH,
-        VIOLATED_PROTECTION, NOT_PRIMARY, ABSENT,
-    ]),
-    (JOIN, &[
-        LENGTH, UNSOUND, NO_SUCH_PLACE, FIELD, GAPPED, APART, INACTIVE, LENGTH,
-        VIOLATED_PROTECTION, WHOLE,
-    ]),
-    (DELETE_CLUSTER, &[INACTIVE, LENGTH, VIOLATED_PROTECTION, NOT_PRIMARY, FROZEN]),
-    (DELETE_SEGMENT, &[INACTIVE, LENGTH, VIOLATED_PROTECTION, NOT_PRIMARY, FROZEN]),
-    (DELETE_SEGMENT, &[NOT_PRIMARY, ABSENT]),
-    (WRITE, &[INACTIVE, LENGTH, VIOLATED_PROTECTION, NOT_REFERENCED, FROZEN, SHORT]),
-    (WRITE, &[NOT_REFERENCED, ABSENT]),
+/// Numbers of which each has to meet the next in these calls. 25 comes first, and again between 8 and 9.
+const NEIGHBOURS: [(&[u8], &[u8]); 12] = [
+    (&VALIDATING, &[LENGTH, UNSOUND]),
+    (&[LOOK, FREEZE, JOIN], &[UNSOUND, NO_SUCH_PLACE, FIELD, GAPPED]),
+    (&[LOOK, FREEZE], &[GAPPED, ELSEWHERE, INACTIVE]),
+    (&[JOIN], &[GAPPED, APART, INACTIVE]),
+    (&VALIDATING, &[INACTIVE, LENGTH, VIOLATED_PROTECTION]),
+    (&[LOOK], &[VIOLATED_PROTECTION, NOT_REFERENCED, ABSENT]),
+    (&[FREEZE], &[VIOLATED_PROTECTION, NOT_PRIMARY, ABSENT]),
+    (&[JOIN], &[VIOLATED_PROTECTION, WHOLE]),
+    (&[DELETE_CLUSTER, DELETE_SEGMENT], &[VIOLATED_PROTECTION, NOT_PRIMARY, FROZEN]),
+    (&[DELETE_SEGMENT], &[NOT_PRIMARY, ABSENT]),
+    (&[WRITE], &[VIOLATED_PROTECTION, NOT_REFERENCED, FROZEN, SHORT]),
+    (&[WRITE], &[NOT_REFERENCED, ABSENT]),
 ];
-/// Of the rest, what has 25 at its two places.
-const FIRST: [u8; 8] = [DELETE_CLUSTER, DELETE_SEGMENT, WRITE, NEW_SEGMENT, READ, REDUCE, NEW_PASSWORD, VALIDATION];
-const SECOND: [u8; 5] = [NEW_SEGMENT, READ, REDUCE, NEW_PASSWORD, VALIDATION];
 
 /// What each call has to come to where two numbers apply: the one that is given, and the next where that does not.
 fn neighbours() -> impl Iterator<Item = (u8, u8, u8)> {
-    let rows = NEIGHBOURS.into_iter().flat_map(|(code, row)| row.windows(2).map(move |two| (code, two[0], two[1])));
-    let first = FIRST.map(|code| (code, LENGTH, UNSOUND));
-    let second = [(INACTIVE, LENGTH), (LENGTH, VIOLATED_PROTECTION)];
-    rows.chain(first).chain(SECOND.into_iter().flat_map(move |code| second.map(|(given, next)| (code, given, next))))
+    let rows = NEIGHBOURS.into_iter().flat_map(|(codes, row)| codes.iter().map(move |code| (*code, row)));
+    rows.flat_map(|(code, row)| row.windows(2).map(move |two| (code, two[0], two[1])))
 }
 
 /// Everything that has to be met.
@@ -45,8 +34,7 @@ pub fn due() -> impl Iterator<Item = String> {
     let shown = ["OneByte", "WholeNode", "LastOfANode", "LastOfAll"].map(|what| format!("look, {what}"));
     let marked = (0..SEGMENTS).map(|segment| format!("freeze, Marked({segment})"));
     let nodes = ["look", "freeze"].into_iter().flat_map(|call| {
-        let done = (0..NODES).map(in_node);
-        done.chain(WRONG_NODES.map(String::from)).map(move |what| format!("{call}, {what}"))
+        (0..NODES).map(in_node).chain(WRONG_NODES.map(String::from)).map(move |what| format!("{call}, {what}"))
     });
     let both = neighbours().map(|(code, given, next)| format!("{}, Both({given}, {next})", name(code)));
     shown.into_iter().chain(marked).chain(nodes).chain(both)
@@ -54,11 +42,11 @@ pub fn due() -> impl Iterator<Item = String> {
 
 /// What a call has met; `held` is what it was put to.
 pub fn met(held: &Held, question: &Question, answer: &Answer) -> impl Iterator<Item = String> {
-    let call = name(question.code());
-    let sights = match answer.reply.is_done() {
-        true => done(held, &question.call, &answer.reply),
-        false => refused(held, question, answer.reply.number),
+    let sights = match answer.reply.number {
+        DONE => done(held, &question.call, &answer.reply),
+        number => refused(held, question, number),
     };
+    let call = name(question.code());
     sights.into_iter().map(move |sight| format!("{call}, {sight}"))
 }
 
@@ -74,8 +62,7 @@ fn done(held: &Held, call: &Call, reply: &Reply) -> Vec<String> {
             let store = decode(&held.image);
             let cluster = store.map(|store| store.clusters[node][usize::from(handle.local)]);
             let was_frozen = cluster.is_some_and(|own| own.segments[segment as usize].frozen);
-            let marked = (!was_frozen).then(|| format!("Marked({segment})"));
-            marked.into_iter().chain([in_node(node)]).collect()
+            (!was_frozen).then(|| format!("Marked({segment})")).into_iter().chain([in_node(node)]).collect()
         }
         _ => Vec::new(),
     }
@@ -96,16 +83,12 @@ fn shown(reply: &Reply) -> Vec<String> {
 }
 
 fn refused(held: &Held, question: &Question, number: u8) -> Vec<String> {
-    let mut sights: Vec<String> = both(held, question, number).into_iter().collect();
-    let local = match question.call {
-        Call::Look { node, .. } | Call::Freeze { node, .. } => Some(node),
-        _ => None,
+    let (Call::Look { node, .. } | Call::Freeze { node, .. }, Some(handle)) = (&question.call, question.call.handle())
+    else {
+        return both(held, question, number).into_iter().collect();
     };
-    let local = local.filter(|_| is_done_at_home(held, question));
-    if let (Some(node), Some(handle)) = (local, question.call.handle()) {
-        sights.extend(wrong_node(node, &handle).map(String::from));
-    }
-    sights
+    let wrong = wrong_node(*node, &handle).filter(|_| is_done_at_home(held, question, &handle)).map(String::from);
+    both(held, question, number).into_iter().chain(wrong).collect()
 }
 
 /// The number that was given, and the next one that applies, where that is looked for; a damaged image has no store to
@@ -118,10 +101,9 @@ fn both(held: &Held, question: &Question, number: u8) -> Option<String> {
 }
 
 /// Whether the same call is done where its handle's node is the current one.
-fn is_done_at_home(held: &Held, question: &Question) -> bool {
+fn is_done_at_home(held: &Held, question: &Question, handle: &Handle) -> bool {
     let mut at_home = question.clone();
-    let Some(handle) = question.call.handle() else { return false };
-    if let Call::Look { node, .. } | Call::Freeze { node, .. } = &mut at_home.call {
+    if let [Some(node), ..] = at_home.numbers_mut() {
         *node = handle.node.into();
     }
     by_model(&mut held.clone(), &at_home).reply.is_done()

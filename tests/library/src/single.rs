@@ -1,11 +1,6 @@
 //! Single calls on sound and on damaged stores, with soundness and conversion beside them.
 
-use crate::chance::damage::{inflict, Damage, LAST_PLACE};
-use crate::chance::questions::{Maker, EVENLY};
-use crate::chance::stores::{self, Fill};
-use crate::damages::Where;
-use crate::guard;
-use crate::tally::Tally;
+use crate::damages::{self, Where};
 use crate::words::*;
 
 pub fn compare(guard: Guard, seed: u64, calls: u64, tally: &mut Tally) -> Result<(), String> {
@@ -14,23 +9,21 @@ pub fn compare(guard: Guard, seed: u64, calls: u64, tally: &mut Tally) -> Result
 
 fn one(guard: Guard, random: &mut Random, tally: &mut Tally) -> Result<(), String> {
     let fill = Fill::by_chance(random);
-    tally.note_fill(fill);
+    tally.met.note(format_args!("store {fill:?}"));
     let store = stores::store(random, fill);
     let mut held = stores::held(random, &store);
-    let maker = &mut Maker { random, store: &store, given: &[] };
-    let question = maker.question(&EVENLY);
+    let question = Maker { random, store: &store, given: &[] }.question(&EVENLY);
     let damaged = random.one_in(4);
     if damaged {
         let (damage, place) = damage(random, &mut held, &question);
-        tally.note_damage(question.code(), damage, place);
+        tally.met.note_all(damages::met(question.code(), damage, place));
         if is_sound(&held) {
             return Err(format!("{damage:?} does no damage"));
         }
     }
     same_soundness(&mut held)?;
     same_conversion(random)?;
-    let mut sides = Sides::both(held.clone());
-    let answer = ask(guard, &mut sides, &question)?;
+    let answer = ask(guard, &mut Sides::both(held.clone()), &question)?;
     tally.note(&question, &answer);
     tally.note_held(&held, &question, &answer);
     if damaged {
@@ -42,7 +35,7 @@ fn one(guard: Guard, random: &mut Random, tally: &mut Tally) -> Result<(), Strin
 /// Damages the store in any way: in the call's record or node, in the last record, or anywhere.
 fn damage(random: &mut Random, held: &mut Held, question: &Question) -> (Damage, Where) {
     let damage = Damage::ALL[below(random, Damage::ALL.len())];
-    let own = place_of(&question.call);
+    let own = question.place().filter(|&(node, local)| node < NODES && local < CLUSTERS);
     let place = match (random.below(4), own) {
         (0, Some(own)) => own,
         (1, Some((node, _))) => (node, below(random, CLUSTERS)),
@@ -53,15 +46,6 @@ fn damage(random: &mut Random, held: &mut Held, question: &Question) -> (Damage,
     (damage, Where::seen_from(own, place))
 }
 
-/// The node and the local number of the cluster that a call is about, if there is such a place.
-fn place_of(call: &Call) -> Option<(usize, usize)> {
-    let (node, local) = match *call {
-        Call::NewCluster { node, local, .. } => (node as usize, local as usize),
-        _ => call.handle().map(|handle| (handle.node.into(), handle.local.into()))?,
-    };
-    (node < NODES && local < CLUSTERS).then_some((node, local))
-}
-
 fn same_soundness(held: &mut Held) -> Result<(), String> {
     let expected = is_sound(held);
     let before = held.image;
@@ -69,21 +53,12 @@ fn same_soundness(held: &mut Held) -> Result<(), String> {
     if found != expected {
         return Err(format!("sound is {expected} in the model, {found} in the library"));
     }
-    match held.image == before {
-        true => Ok(()),
-        false => Err("asking for soundness changes the image".to_string()),
-    }
+    same_bytes("images before and after asking for soundness", &before, &held.image)
 }
 
 fn same_conversion(random: &mut Random) -> Result<(), String> {
     let parameter = if random.one_in(2) { random.byte().into() } else { random.number() as u16 };
     let password = password(random);
-    let expected = convert(&password, parameter);
-    let found = guard::convert(&password, parameter);
-    match found == expected {
-        true => Ok(()),
-        false => Err(format!(
-            "{password:?} converts with {parameter} to {expected:?} in the model, to {found:?} in the library"
-        )),
-    }
+    same_bytes("conversions", &convert(&password, parameter), &guard::convert(&password, parameter))
+        .map_err(|what| format!("{password:?} with {parameter}: {what}"))
 }

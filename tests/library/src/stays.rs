@@ -1,10 +1,8 @@
 //! What is frozen stays, judged by the library's side alone: rows of calls on stores with frozen segments, most of
 //! them by handles that open the cluster they name.
 
-use crate::chance::questions::Maker;
-use crate::chance::stores::{self, Fill};
 use crate::words::*;
-use model::{frozen::Watch, met::Met};
+use model::frozen::Watch;
 
 /// Calls of one row.
 pub const ROW_CALLS: u64 = 100;
@@ -25,10 +23,8 @@ pub fn compare(guard: Guard, seed: u64, rows: u64) -> Result<Met, String> {
 
 fn one(guard: Guard, random: &mut Random, met: &mut Met) -> Result<(), String> {
     let fill = Fill::by_chance(random);
-    let mut held = {
-        let store = stores::store(random, fill);
-        stores::held(random, &store)
-    };
+    let store = stores::store(random, fill);
+    let mut held = stores::held(random, &store);
     let mut watch = Watch::default();
     for at in 1..=ROW_CALLS {
         let store = seen(&mut watch, &held)?;
@@ -52,18 +48,13 @@ pub fn seen(watch: &mut Watch, held: &Held) -> Result<Store, String> {
 
 /// A question; every second one by the write primary handle of a cluster that has a frozen segment, if there is one.
 fn question(random: &mut Random, store: &Store) -> Question {
-    let maker = &mut Maker { random, store, given: &[] };
-    let mut question = maker.question(&CHANGING);
+    let mut question = Maker { random, store, given: &[] }.question(&CHANGING);
     let frozen = handles::place(random, store, Cluster::has_frozen);
     if let (Some((at, local)), true) = (frozen, random.one_in(2)) {
         if let Some(handle) = question.handle_mut() {
             *handle = handles::primary(store, (at, local), Mode::Write).to_bytes();
         }
-        if let Call::DeleteCluster { node, .. }
-        | Call::NewSegment { node, .. }
-        | Call::DeleteSegment { node, .. }
-        | Call::Freeze { node, .. } = &mut question.call
-        {
+        if let [Some(node), ..] = question.numbers_mut() {
             *node = at as u32;
         }
     }

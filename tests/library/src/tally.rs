@@ -1,78 +1,41 @@
 //! What calls have to come to and what they came to: the numbers of each, fills, damages, selectors, modes, and what
 //! [`damages`], [`sights`], [`widths`] and the model list.
 
-use crate::chance::damage::Damage;
-use crate::chance::stores::Fill;
-use crate::damages::{self, Where};
-use crate::words::*;
-use crate::{sights, widths};
-use model::call;
-use model::met::{self, Met};
+use crate::{damages, sights, widths, words::*};
+use model::met;
 use std::{collections::BTreeMap, fmt};
 
-/// The numbers that the table of refusals allows each call, 0 for done among them.
-#[rustfmt::skip]
-const ALLOWED: [(u8, &[u8]); 13] = [
-    (call::NEW_CLUSTER, &[DONE, UNSOUND, NO_SUCH_PLACE, FIELD, IN_USE, TWINS]),
-    (call::DELETE_CLUSTER, &[
-        DONE, LENGTH, UNSOUND, NO_SUCH_PLACE, GAPPED, ELSEWHERE, INACTIVE, VIOLATED_PROTECTION,
-        NOT_PRIMARY, FROZEN,
-    ]),
-    (call::NEW_SEGMENT, &[
-        DONE, LENGTH, UNSOUND, NO_SUCH_PLACE, FIELD, GAPPED, ELSEWHERE, INACTIVE,
-        VIOLATED_PROTECTION, NOT_PRIMARY, PRESENT, NO_ROOM,
-    ]),
-    (call::DELETE_SEGMENT, &[
-        DONE, LENGTH, UNSOUND, NO_SUCH_PLACE, FIELD, GAPPED, ELSEWHERE, INACTIVE,
-        VIOLATED_PROTECTION, NOT_PRIMARY, ABSENT, FROZEN,
-    ]),
-    (call::READ, &[
-        DONE, LENGTH, UNSOUND, NO_SUCH_PLACE, FIELD, GAPPED, INACTIVE, VIOLATED_PROTECTION,
-        NOT_REFERENCED, ABSENT, SHORT,
-    ]),
-    (call::WRITE, &[
-        DONE, LENGTH, UNSOUND, NO_SUCH_PLACE, FIELD, GAPPED, INACTIVE, VIOLATED_PROTECTION,
-        NOT_REFERENCED, ABSENT, FROZEN, SHORT,
-    ]),
-    (call::WEAKEN, WEAKENING),
-    (call::REDUCE, VALIDATING),
-    (call::NEW_PASSWORD, &[
-        DONE, LENGTH, UNSOUND, NO_SUCH_PLACE, FIELD, GAPPED, INACTIVE, VIOLATED_PROTECTION,
-        NOT_PRIMARY, OLD_PASSWORD,
-    ]),
-    (call::FREEZE, &[
-        DONE, LENGTH, UNSOUND, NO_SUCH_PLACE, FIELD, GAPPED, ELSEWHERE, INACTIVE,
-        VIOLATED_PROTECTION, NOT_PRIMARY, ABSENT,
-    ]),
-    (call::JOIN, &[
-        DONE, LENGTH, UNSOUND, NO_SUCH_PLACE, FIELD, GAPPED, APART, INACTIVE, VIOLATED_PROTECTION,
-        WHOLE,
-    ]),
-    (VALIDATION, VALIDATING),
-    (LOOK, &[
-        DONE, LENGTH, UNSOUND, NO_SUCH_PLACE, FIELD, GAPPED, ELSEWHERE, INACTIVE,
-        VIOLATED_PROTECTION, NOT_REFERENCED, ABSENT,
-    ]),
-];
-
+/// What a call that validates handles may come to in any case, 0 for done among it.
+const JUDGED: &[u8] = &[DONE, LENGTH, UNSOUND, NO_SUCH_PLACE, GAPPED, INACTIVE, VIOLATED_PROTECTION];
 /// Weakening looks at no store: it has to come to each of these on damaged ones, too.
 const WEAKENING: &[u8] = &[DONE, LENGTH, NO_SUCH_PLACE, GAPPED, EMPTY, SPENT];
 
-#[rustfmt::skip]
-const VALIDATING: &[u8] = &[
-    DONE, LENGTH, UNSOUND, NO_SUCH_PLACE, FIELD, GAPPED, INACTIVE, VIOLATED_PROTECTION,
+/// The numbers that the table of refusals allows each call: these, and more.
+const ALLOWED: [(u8, &[u8], &[u8]); 13] = [
+    (NEW_CLUSTER, &[DONE, UNSOUND, NO_SUCH_PLACE, FIELD], &[IN_USE, TWINS]),
+    (DELETE_CLUSTER, JUDGED, &[ELSEWHERE, NOT_PRIMARY, FROZEN]),
+    (NEW_SEGMENT, JUDGED, &[FIELD, ELSEWHERE, NOT_PRIMARY, PRESENT, NO_ROOM]),
+    (DELETE_SEGMENT, JUDGED, &[FIELD, ELSEWHERE, NOT_PRIMARY, ABSENT, FROZEN]),
+    (READ, JUDGED, &[FIELD, NOT_REFERENCED, ABSENT, SHORT]),
+    (WRITE, JUDGED, &[FIELD, NOT_REFERENCED, ABSENT, FROZEN, SHORT]),
+    (WEAKEN, WEAKENING, &[]),
+    (REDUCE, JUDGED, &[FIELD]),
+    (NEW_PASSWORD, JUDGED, &[FIELD, NOT_PRIMARY, OLD_PASSWORD]),
+    (FREEZE, JUDGED, &[FIELD, ELSEWHERE, NOT_PRIMARY, ABSENT]),
+    (JOIN, JUDGED, &[FIELD, APART, WHOLE]),
+    (VALIDATION, JUDGED, &[FIELD]),
+    (LOOK, JUDGED, &[FIELD, ELSEWHERE, NOT_REFERENCED, ABSENT]),
 ];
 
-/// The numbers that calls with this code may come to, and have to.
-pub fn allowed(code: u8) -> &'static [u8] {
-    let row = ALLOWED.iter().find(|(own, _)| *own == code);
-    row.map_or(&[], |(_, numbers)| numbers)
+/// Calls by their codes, each with a number that it may come to, and has to.
+pub fn allowed() -> impl Iterator<Item = (u8, u8)> {
+    ALLOWED.into_iter().flat_map(|(code, these, more)| [these, more].concat().into_iter().map(move |own| (code, own)))
 }
 
 /// Modes above a byte: right in the lowest byte, in the lowest two, or perhaps in the lowest four.
 const WIDE_MODES: [u32; 5] = [257, 258, 65_537, 65_538, BEYOND];
 /// What takes a mode.
-const NAMING_A_MODE: [u8; 5] = [call::REDUCE, call::NEW_PASSWORD, call::JOIN, VALIDATION, BATCH];
+const NAMING_A_MODE: [u8; 5] = [REDUCE, NEW_PASSWORD, JOIN, VALIDATION, BATCH];
 
 pub struct Tally {
     pub pairs: BTreeMap<(u8, u8), u64>,
@@ -81,7 +44,7 @@ pub struct Tally {
 
 impl Default for Tally {
     fn default() -> Tally {
-        let pairs = allowed_pairs().map(in_words);
+        let pairs = allowed().map(in_words);
         let fills = Fill::ALL.map(|fill| format!("store {fill:?}"));
         let modes = NAMING_A_MODE.into_iter().flat_map(|code| WIDE_MODES.map(|mode| with_mode(code, mode)));
         let weakened = (0..=SUBSELECTORS).map(not_flat);
@@ -109,30 +72,17 @@ impl Tally {
     /// What a question came to that hangs on what it was put to, which is `held`.
     pub fn note_held(&mut self, held: &Held, question: &Question, answer: &Answer) {
         self.met.note_all(sights::met(held, question, answer));
-        self.note_widths(question.code(), held, question, answer);
+        self.met.note_all(widths::met(question.code(), held, question, answer));
         if let Some(store) = decode(&held.image) {
             let found = Found::whole(&store, question.buffer.len());
             self.met.note_all(met::situations(&found, &question.call, answer.reply.number));
         }
     }
 
-    /// The same of widths, for calls with this code or for the handles of a batch.
-    pub fn note_widths(&mut self, code: u8, held: &Held, question: &Question, answer: &Answer) {
-        self.met.note_all(widths::met(code, held, question, answer));
-    }
-
     /// A mode and a width that a batch was asked with.
     pub fn note_batch(&mut self, mode: u32, width: usize) {
         self.met.note(with_mode(BATCH, mode));
         self.met.note_all(widths::asked(BATCH, width));
-    }
-
-    pub fn note_fill(&mut self, fill: Fill) {
-        self.met.note(format_args!("store {fill:?}"));
-    }
-
-    pub fn note_damage(&mut self, code: u8, damage: Damage, place: Where) {
-        self.met.note_all(damages::met(code, damage, place));
     }
 
     /// A call on a store that was damaged before.
@@ -144,15 +94,11 @@ impl Tally {
 
     /// Everything that was to be met and was not, and pairs that were met and may not be.
     pub fn faults(&self) -> Vec<String> {
-        let allowed: Vec<(u8, u8)> = allowed_pairs().collect();
+        let allowed: Vec<(u8, u8)> = allowed().collect();
         let wrong = self.pairs.keys().filter(|pair| !allowed.contains(pair));
         let wrong = wrong.map(|pair| format!("not allowed: {}", in_words(*pair)));
         self.met.faults().into_iter().chain(wrong).collect()
     }
-}
-
-fn allowed_pairs() -> impl Iterator<Item = (u8, u8)> {
-    ALLOWED.into_iter().flat_map(|(code, numbers)| numbers.iter().map(move |number| (code, *number)))
 }
 
 fn in_words((code, number): (u8, u8)) -> String {
@@ -170,13 +116,13 @@ fn not_flat(count: usize) -> String {
 }
 
 fn beside_damage(number: u8) -> String {
-    format!("{}, damaged", in_words((call::WEAKEN, number)))
+    format!("{}, damaged", in_words((WEAKEN, number)))
 }
 
 impl fmt::Display for Tally {
     fn fmt(&self, to: &mut fmt::Formatter) -> fmt::Result {
         let numbers: Vec<u8> = (0..=SPENT).chain(EMPTY..=LENGTH).collect();
-        let codes = ALLOWED.into_iter().map(|(code, _)| (code, name(code)));
+        let codes = ALLOWED.into_iter().map(|(code, ..)| (code, name(code)));
         write!(to, "{}{}", met::table(codes, &numbers, &self.pairs), self.met)
     }
 }

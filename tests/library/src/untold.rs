@@ -1,11 +1,8 @@
 //! What the reply to a new password does not tell, judged by the library's side alone: two images that differ in one
 //! cluster's password for the other mode get the same reply, and are left differing in that password alone.
 
-use crate::chance::handles::{self, Wish};
-use crate::chance::stores::{self, active, Fill};
 use crate::pairs::ask_both;
 use crate::words::*;
-use model::met::Met;
 
 const OLD: &str = "one refused with 12 (old password)";
 
@@ -24,8 +21,7 @@ fn of_width(width: Width) -> String {
 
 pub fn met() -> Met {
     let modes = Mode::ALL.into_iter().flat_map(|mode| [guessed(mode), equal(mode)]);
-    let due = modes.chain(Width::ALL.map(of_width)).chain([OLD.to_string()]);
-    Met::new("new passwords in two images", due)
+    Met::new("new passwords in two images", modes.chain(Width::ALL.map(of_width)).chain([OLD.to_string()]))
 }
 
 /// Two images, and a cluster whose password for the other mode than this one is all that they differ in.
@@ -53,7 +49,8 @@ fn one(guard: Guard, random: &mut Random, met: &mut Met) -> Result<(), String> {
     let [first, second] = pair.others;
     for password in [pair.own, first, second, password(random)] {
         let call = Call::new_password(pair.mode.number(), handle.clone(), password);
-        let number = pair.asked(guard, &Question::of(call))?;
+        let agree = |after: &[Held; 2]| pair.agree(after);
+        let number = ask_both(guard, &mut pair.images.clone(), &Question::of(call), agree)?.reply.number;
         let done = number == DONE;
         met.note_if(number == OLD_PASSWORD, OLD);
         met.note_if(done && pair.others.contains(&password), guessed(pair.mode));
@@ -92,16 +89,10 @@ fn by_chance(random: &mut Random, store: &mut Store) -> Pair {
 impl Pair {
     /// Mostly the mode's primary handle; else a weaker one, one of the other mode in either image, or any.
     fn handle(&self, random: &mut Random, store: &Store) -> HandleBytes {
-        let mut primary = handles::primary(store, self.place, self.mode);
+        let primary = handles::primary(store, self.place, self.mode);
         let handle = match random.below(8) {
-            0 => {
-                let mask = bits(random, primary.width());
-                primary.weaken(mask).unwrap_or(primary)
-            }
-            1 => {
-                primary.password = self.others[below(random, 2)];
-                primary
-            }
+            0 => primary.weaken(bits(random, primary.width())).unwrap_or(primary),
+            1 => Handle { password: self.others[below(random, 2)], ..primary },
             2 => {
                 let wish = Wish { mode: self.mode, primary: true, segments: true, width: None };
                 handles::handle(random, store, &[], wish)
@@ -112,17 +103,9 @@ impl Pair {
         handle.to_bytes()
     }
 
-    /// The number that both images get.
-    fn asked(&self, guard: Guard, question: &Question) -> Result<u8, String> {
-        let mut after = self.images.clone();
-        let answer = ask_both(guard, &mut after, question, |after| self.agree(after))?;
-        Ok(answer.reply.number)
-    }
-
     /// Each image has the other mode's password that it had, and but for that the two are equal.
     fn agree(&self, after: &[Held; 2]) -> Result<(), String> {
-        let (node, local) = self.place;
-        let other = password_at(node, local, self.mode.other());
+        let other = password_at(self.place.0, self.place.1, self.mode.other());
         let mut images = after.each_ref().map(|held| held.image);
         for (image, before) in images.iter_mut().zip(&self.others) {
             let found = &mut image[other.clone()];

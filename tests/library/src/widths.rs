@@ -1,15 +1,9 @@
 //! Which widths were met: handles and clusters of each in every call, lengths that no handle has, handles of another
 //! width than their cluster's, segments about the width, and bits of masks that do not matter.
 
-use crate::{chance::handles::MOST_BYTES, words::*};
+use crate::words::*;
 use model::widths::Sight as Seen;
 
-/// What takes a handle: alone, or in a batch.
-#[rustfmt::skip]
-const WITH_A_HANDLE: [u8; 12] = [
-    DELETE_CLUSTER, NEW_SEGMENT, DELETE_SEGMENT, READ, WRITE, WEAKEN, REDUCE, NEW_PASSWORD, FREEZE, JOIN,
-    VALIDATION, LOOK,
-];
 /// What takes a segment, and what takes a current node or a second handle, which can be nowhere.
 const WITH_A_SEGMENT: [u8; 6] = [NEW_SEGMENT, DELETE_SEGMENT, READ, WRITE, FREEZE, LOOK];
 const WITH_A_PLACE: [u8; 6] = [DELETE_CLUSTER, NEW_SEGMENT, DELETE_SEGMENT, FREEZE, LOOK, JOIN];
@@ -23,12 +17,11 @@ const FIRST_PLACE: [&str; 3] = ["OnSound", "OnUnsound", "OnDamaged"];
 pub fn due() -> Vec<String> {
     let mut due: Vec<String> = Seen::all().map(|seen| format!("widths, {seen:?}")).collect();
     let mut add = |codes: &[u8], what: String| due.extend(codes.iter().map(|code| of(*code, &what)));
-    let validating: Vec<u8> = WITH_A_HANDLE.into_iter().filter(|code| *code != WEAKEN).chain([BATCH]).collect();
-    let [not_in_batches, with_batches] = [&validating[..validating.len() - 1], &validating];
+    let [with_batches, with_weakening] = [BATCH, WEAKEN].map(|code| [&VALIDATING[..], &[code]].concat());
     for width in Width::ALL {
-        add(&[&WITH_A_HANDLE[..], &[BATCH]].concat(), seen(Seen::Done(width)));
+        add(&[&with_weakening[..], &[BATCH]].concat(), seen(Seen::Done(width)));
         for other in Width::ALL.into_iter().filter(|other| *other != width) {
-            add(with_batches, seen(Seen::Other(width, other)));
+            add(&with_batches, seen(Seen::Other(width, other)));
         }
         for number in 0..width.segments() {
             add(&WITH_A_SEGMENT, format!("Segment({width:?}, {number})"));
@@ -39,15 +32,14 @@ pub fn due() -> Vec<String> {
         add(&WITH_A_SEGMENT, format!("NoSegment({:?}, {number})", Width::Eight));
     }
     for sight in [Seen::OtherMadeFrom, Seen::OtherForged] {
-        add(not_in_batches, seen(sight));
+        add(&VALIDATING, seen(sight));
     }
     for place in FIRST_PLACE {
-        add(&WITH_A_HANDLE, place.to_string());
+        add(&with_weakening, place.to_string());
     }
     add(&WITH_A_PLACE, no_length_before(NO_SUCH_PLACE));
     add(&WITH_A_FIELD, no_length_before(FIELD));
-    let lengths = (0..=MOST_BYTES).filter(|length| Width::of_handle_bytes(*length).is_none());
-    due.extend(lengths.map(of_bytes));
+    due.extend((0..=MOST_BYTES).filter(|length| Width::of_handle_bytes(*length).is_none()).map(of_bytes));
     // Widths that are none, up to a little above the greatest.
     let widths = (0..=20).filter(|width| Width::of_segments(*width).is_none());
     due.extend(widths.map(|width| of_width(NEW_CLUSTER, width)));
@@ -89,8 +81,7 @@ pub fn asked(code: u8, width: usize) -> impl Iterator<Item = String> {
         let low = width & ((1 << (8 * bytes)) - 1);
         low != width && Width::of_segments(low).is_some()
     };
-    let cuts = CUTS.into_iter().filter(is_cut).map(move |bytes| cut(code, bytes));
-    cuts.chain([of_width(code, width)])
+    CUTS.into_iter().filter(is_cut).map(move |bytes| cut(code, bytes)).chain([of_width(code, width)])
 }
 
 /// What a call with this code has met, or a handle of a batch. `held` is what it was put to.
@@ -127,8 +118,7 @@ fn sights(held: &Held, question: &Question, number: u8) -> Vec<String> {
 fn first_place(call: &Call, found: &Found) -> Vec<String> {
     let put_to = FIRST_PLACE[usize::from(!found.store.is_sound(found.memory_bytes))].to_string();
     let next = refusal_below(LENGTH, call, found).filter(|next| *next != UNSOUND);
-    let next = next.map(no_length_before);
-    next.into_iter().chain([put_to]).collect()
+    next.map(no_length_before).into_iter().chain([put_to]).collect()
 }
 
 /// Done about a segment, and 3 for it.

@@ -1,12 +1,7 @@
 //! Looks and freezes by chance. What speaks against one of them seldom meets by itself, so that half of them
 //! are made from one that would be done: none, one or two things are made wrong in it.
 
-use super::handles::{self, of_another_width, of_no_length};
-use super::questions::Maker;
-use super::stores::segments_of;
-use super::{below, bits, gapped, near};
 use crate::words::*;
-use model::listed;
 
 /// What a call about one segment of a node is asked with.
 struct Aimed {
@@ -28,27 +23,18 @@ listed! {
 }
 
 impl Maker<'_> {
-    pub(super) fn look(&mut self) -> Call {
-        let aimed = self.aimed(Mode::Read);
-        Call::look(aimed.node, aimed.segment, aimed.bytes(self.random))
+    /// A look or a freeze. What needs a write handle needs a primary one.
+    pub(super) fn aimed(&mut self, mode: Mode, call: fn(u32, u32, HandleBytes) -> Call) -> Call {
+        let aimed = self.aim(mode);
+        call(aimed.node, aimed.segment, aimed.bytes(self.random))
     }
 
-    pub(super) fn freeze(&mut self) -> Call {
-        let aimed = self.aimed(Mode::Write);
-        Call::freeze(aimed.node, aimed.segment, aimed.bytes(self.random))
-    }
-
-    /// What needs a write handle needs a primary one.
-    fn aimed(&mut self, mode: Mode) -> Aimed {
+    fn aim(&mut self, mode: Mode) -> Aimed {
         let right = if self.random.one_in(2) { right(self.random, self.store, mode) } else { None };
-        match right {
-            Some(aimed) => with_faults(self.random, self.store, aimed),
-            None => self.any(mode),
+        if let Some(aimed) = right {
+            return with_faults(self.random, self.store, aimed);
         }
-    }
-
-    /// One that is made as other calls are.
-    fn any(&mut self, mode: Mode) -> Aimed {
+        // One that is made as other calls are.
         let handle = self.handle(mode, mode == Mode::Write, true);
         let present = !self.random.one_in(8);
         Aimed {
@@ -60,27 +46,22 @@ impl Maker<'_> {
     }
 }
 
-/// The segments of a cluster that `fits` is true of.
-fn segments(cluster: &Cluster, fits: impl Fn(&Segment) -> bool) -> Vec<usize> {
-    let fitting = segments_of(cluster).filter(|&at| fits(&cluster.segments[at]));
-    fitting.collect()
+/// One of the segments of a cluster that are present, or of those that are not.
+fn segment(random: &mut Random, cluster: &Cluster, present: bool) -> Option<u32> {
+    let fits = |at: &usize| cluster.segments[*at].is_present() == present;
+    random.pick(&segments_of(cluster).filter(fits).collect::<Vec<_>>()).map(|at| *at as u32)
 }
 
 /// What the call is done with, if any segment is present.
 fn right(random: &mut Random, store: &Store, mode: Mode) -> Option<Aimed> {
     let (node, local) = handles::place(random, store, Cluster::has_segments)?;
-    let cluster = &store.clusters[node][local];
-    let segment = *random.pick(&segments(cluster, Segment::is_present))?;
+    let segment = segment(random, &store.clusters[node][local], true)?;
     let mut handle = handles::primary(store, (node, local), mode);
-    let times = match mode {
-        Mode::Read => random.below(3),
-        Mode::Write => 0,
-    };
-    for _ in 0..times {
+    for _ in 0..if mode == Mode::Read { random.below(3) } else { 0 } {
         let mask = bits(random, handle.width()) | 1 << segment;
         handle = handle.weaken(mask).unwrap_or(handle);
     }
-    Some(Aimed { node: node as u32, segment: segment as u32, handle, has_length: true })
+    Some(Aimed { node: node as u32, segment, handle, has_length: true })
 }
 
 fn with_faults(random: &mut Random, store: &Store, mut aimed: Aimed) -> Aimed {
@@ -105,40 +86,30 @@ impl Aimed {
     fn spoil(&mut self, random: &mut Random, store: &Store, fault: Fault) {
         let own = &store.clusters[usize::from(self.handle.node)][usize::from(self.handle.local)];
         match fault {
-            Fault::Absent => {
-                let absent = segments(own, |segment| !segment.is_present());
-                let chosen = random.pick(&absent).map(|&segment| segment as u32);
-                self.segment = chosen.unwrap_or(self.segment);
-            }
-            Fault::NotReferenced => {
-                let weaker = self.handle.weaken(!(1 << self.segment));
-                self.handle = weaker.unwrap_or(self.handle);
-            }
+            Fault::Absent => self.segment = segment(random, own, false).unwrap_or(self.segment),
+            Fault::NotReferenced => self.handle = self.handle.weaken(!(1 << self.segment)).unwrap_or(self.handle),
             // Where the two passwords are equal, the other mode's is no fault.
             Fault::NotValid if random.one_in(2) && self.handle.selector.is_primary() && !own.has_equal_passwords() => {
                 self.handle.password = if self.handle.password == own.read { own.write } else { own.read };
             }
             Fault::NotValid => self.handle.password = near(random, self.handle.password),
             Fault::OtherWidth => self.handle = of_another_width(random, store, self.handle),
-            Fault::Inactive => self.go_to_an_inactive_cluster(random, store),
+            Fault::Inactive => {
+                if let Some((node, local)) = handles::place(random, store, |cluster| !cluster.active) {
+                    (self.handle.node, self.handle.local) = (node as u16, local as u8);
+                    self.node = node as u32;
+                }
+            }
             Fault::Elsewhere => {
-                let further = 1 + below(random, NODES - 1);
-                self.node = ((self.node as usize + further) % NODES) as u32;
+                self.node = ((self.node as usize + 1 + below(random, NODES - 1)) % NODES) as u32;
             }
             Fault::Gapped => self.handle.selector = gapped(random, self.handle.width()),
             Fault::NoSegment => {
-                let bound = self.handle.width().segments();
-                self.segment = above(random, self.segment, bound);
+                self.segment = above(random, self.segment, self.handle.width().segments());
             }
             Fault::NoNode => self.node = above(random, self.node, NODES),
             Fault::NoLength => self.has_length = false,
         }
-    }
-
-    fn go_to_an_inactive_cluster(&mut self, random: &mut Random, store: &Store) {
-        let Some((node, local)) = handles::place(random, store, |cluster| !cluster.active) else { return };
-        (self.handle.node, self.handle.local) = (node as u16, local as u8);
-        self.node = node as u32;
     }
 }
 

@@ -1,8 +1,7 @@
 //! Every way in which a store or its image can be damaged.
 
-use super::{below, faults::fault};
+use super::faults::fault;
 use crate::words::*;
-use model::listed;
 
 /// The node and the local number of the last record.
 pub const LAST_PLACE: (usize, usize) = (NODES - 1, CLUSTERS - 1);

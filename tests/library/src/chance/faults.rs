@@ -1,10 +1,7 @@
 //! What is wrong in the records of a damaged store.
 
-use super::damage::Damage;
-use super::stores::{active, extents, gaps, present};
 use super::words::{self, Beside};
-use super::{below, width};
-use model::words::*;
+use crate::words::*;
 
 /// The numbers that two bytes can hold.
 const TWO_BYTES: usize = 1 << 16;
@@ -47,8 +44,7 @@ pub fn fault(random: &mut Random, store: &mut Store, damage: Damage, place: (usi
 }
 
 fn other_cluster(random: &mut Random, (node, local): (usize, usize)) -> (usize, usize) {
-    let further = 1 + below(random, CLUSTERS - 1);
-    (node, (local + further) % CLUSTERS)
+    (node, (local + 1 + below(random, CLUSTERS - 1)) % CLUSTERS)
 }
 
 /// The cluster, which is made active if it was not.
@@ -116,8 +112,7 @@ fn present_somewhere(random: &mut Random, store: &mut Store, place: (usize, usiz
 
 /// Takes away every segment of the node that has a byte of the extent.
 fn make_room(store: &mut Store, node: usize, extent: Extent) {
-    let clusters = store.clusters[node].iter_mut();
-    for segment in clusters.flat_map(|cluster| &mut cluster.segments) {
+    for segment in store.clusters[node].iter_mut().flat_map(|cluster| &mut cluster.segments) {
         let taken = segment.extent();
         if taken.is_some_and(|taken| taken.base < extent.end() && extent.base < taken.end()) {
             *segment = Segment::ABSENT;
@@ -193,7 +188,7 @@ fn sharing_words(random: &mut Random, damage: Damage) -> Option<[Extent; 2]> {
         Damage::OverlapBeforeAWord => Some(words::sharing_a_byte(random, Beside::Before)),
         Damage::OverlapAfterAWord => Some(words::sharing_a_byte(random, Beside::After)),
         Damage::OverlapInsideWords => Some(words::one_inside(random)),
-        Damage::OverlapOfTheNode => Some(words::with_the_node(random)),
+        Damage::OverlapOfTheNode => Some([Extent { base: 0, length: NODE_BYTES }, words::extent(random)]),
         _ => None,
     }
 }
@@ -212,13 +207,8 @@ fn put_both(random: &mut Random, store: &mut Store, both: [Extent; 2], place: (u
 }
 
 /// An inactive cluster with one thing left in it, or with nothing.
-fn inactive_with(
-    random: &mut Random,
-    store: &mut Store,
-    damage: Damage,
-    (node, local): (usize, usize),
-    segment: usize,
-) {
+fn inactive_with(random: &mut Random, store: &mut Store, damage: Damage, place: (usize, usize), segment: usize) {
+    let (node, local) = place;
     let mut cluster = Cluster::INACTIVE;
     store.clusters[node][local] = cluster;
     let at = below(random, PASSWORD_BYTES);

@@ -1,7 +1,7 @@
 //! Handles by chance: right ones for the store as it is, old ones, and ones with something wrong, of every width.
 
-use super::{below, bit, bits, bytes, gapped, near, password, width};
-use model::{generate::to_nothing, words::*};
+use crate::words::*;
+use model::generate::to_nothing;
 
 /// Bytes that are presented for a handle mostly have at most so many; a length byte tells up to 255.
 pub const MOST_BYTES: usize = 40;
@@ -19,24 +19,13 @@ pub struct Wish {
     pub width: Option<Width>,
 }
 
-impl Wish {
-    fn fits(&self, cluster: &Cluster) -> bool {
-        let is_wide = self.width.is_none_or(|width| cluster.has_width(width));
-        cluster.active && is_wide && cluster.has_segments() == self.segments
-    }
-}
-
 /// A handle for a call that would like `wish`; `given` are handles that calls gave before.
 pub fn handle(random: &mut Random, store: &Store, given: &[Handle], wish: Wish) -> Handle {
-    let chosen = match random.below(10) {
-        0..=2 => random.pick(given).copied(),
-        _ => None,
-    };
+    let chosen = if random.below(10) < 3 { random.pick(given).copied() } else { None };
     let handle = chosen.unwrap_or_else(|| right(random, store, wish));
-    if random.one_in(4) {
-        wrong(random, store, handle)
-    } else {
-        handle
+    match random.one_in(4) {
+        true => wrong(random, store, handle),
+        false => handle,
     }
 }
 
@@ -73,25 +62,25 @@ pub fn everywhere() -> impl Iterator<Item = (usize, usize)> {
 
 /// Those of one of the clusters that `fits` is true of, if there are any.
 pub fn place(random: &mut Random, store: &Store, fits: impl Fn(&Cluster) -> bool) -> Option<(usize, usize)> {
-    let fitting: Vec<(usize, usize)> =
-        everywhere().filter(|&(node, local)| fits(&store.clusters[node][local])).collect();
-    random.pick(&fitting).copied()
+    let fitting = everywhere().filter(|&(node, local)| fits(&store.clusters[node][local]));
+    random.pick(&fitting.collect::<Vec<_>>()).copied()
 }
 
 /// The primary handle of an active cluster.
 pub fn primary(store: &Store, (node, local): (usize, usize), mode: Mode) -> Handle {
     let cluster = &store.clusters[node][local];
-    let width = cluster.known_width().expect("it is active");
-    Handle::primary(width, node as u16, local as u8, *cluster.primary(mode))
+    Handle::primary(cluster.known_width().expect("it is active"), node as u16, local as u8, *cluster.primary(mode))
 }
 
 /// A handle that validates, mostly in the mode that is wished for, if any cluster is active.
 fn right(random: &mut Random, store: &Store, wish: Wish) -> Handle {
-    // Sometimes one that a single handle opens in both modes.
-    let chosen = match random.one_in(12) {
-        true => place(random, store, Cluster::has_equal_passwords),
-        false => place(random, store, |cluster| wish.fits(cluster)),
+    let fits = |cluster: &Cluster| {
+        let is_wide = wish.width.is_none_or(|width| cluster.has_width(width));
+        cluster.active && is_wide && cluster.has_segments() == wish.segments
     };
+    // Sometimes one that a single handle opens in both modes.
+    let both = random.one_in(12);
+    let chosen = place(random, store, |cluster| if both { cluster.has_equal_passwords() } else { fits(cluster) });
     let Some(place) = chosen.or_else(|| place(random, store, |cluster| cluster.active)) else {
         return nowhere_active(random);
     };
@@ -104,10 +93,9 @@ fn right(random: &mut Random, store: &Store, wish: Wish) -> Handle {
         return handle;
     }
     let weaker = weakened(random, handle);
-    if random.one_in(6) {
-        weaker.reduce(&handle.password)
-    } else {
-        weaker
+    match random.one_in(6) {
+        true => weaker.reduce(&handle.password),
+        false => weaker,
     }
 }
 
@@ -115,11 +103,10 @@ fn right(random: &mut Random, store: &Store, wish: Wish) -> Handle {
 fn nowhere_active(random: &mut Random) -> Handle {
     let (node, local) = (below(random, NODES) as u16, below(random, CLUSTERS) as u8);
     if random.one_in(4) {
-        any(random)
-    } else {
-        let (width, password) = (width(random), password(random));
-        weakened(random, Handle::primary(width, node, local, password))
+        return any(random);
     }
+    let (width, password) = (width(random), password(random));
+    weakened(random, Handle::primary(width, node, local, password))
 }
 
 /// A handle of bytes without any sense.
@@ -197,13 +184,10 @@ fn elsewhere(random: &mut Random, store: &Store, handle: Handle) -> Handle {
 
 /// The handle at one of the two widths that it does not have. Where its password is right it mostly is again.
 pub fn of_another_width(random: &mut Random, store: &Store, handle: Handle) -> Handle {
-    let others = Width::ALL.into_iter().filter(|own| *own != handle.width());
-    let others: Vec<Width> = others.collect();
+    let others: Vec<Width> = Width::ALL.into_iter().filter(|own| *own != handle.width()).collect();
     let mut other = at_width(&handle, others[below(random, others.len())]);
-    let cluster = store.cluster(handle.node.into(), handle.local.into());
-    let primaries = cluster.map(|cluster| [cluster.read, cluster.write]);
-    let mut primaries = primaries.into_iter().flatten();
-    let made_from = primaries.find(|primary| handle.is_made_from(primary));
+    let primaries = store.cluster_of(&handle).map(|cluster| [cluster.read, cluster.write]);
+    let made_from = primaries.into_iter().flatten().find(|primary| handle.is_made_from(primary));
     if let Some(primary) = made_from.filter(|_| !random.one_in(4)) {
         other.password = derive(&primary, &other.selector);
     }
@@ -213,7 +197,6 @@ pub fn of_another_width(random: &mut Random, store: &Store, handle: Handle) -> H
 /// The handle with its subselectors at this width: those that are flat stay so, and of the others there is left what
 /// has room, but for segment 0, so that none becomes flat.
 pub fn at_width(handle: &Handle, width: Width) -> Handle {
-    let own = handle.width();
-    let at = |part: u16| if part == own.flat() { width.flat() } else { part & width.flat() & !1 };
+    let at = |part: u16| if part == handle.width().flat() { width.flat() } else { part & width.flat() & !1 };
     Handle { selector: Selector::new(width, handle.selector.subselectors.map(at)), ..*handle }
 }

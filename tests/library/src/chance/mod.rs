@@ -4,7 +4,6 @@ mod aimed;
 pub mod damage;
 mod faults;
 pub mod handles;
-mod joins;
 mod made;
 pub mod questions;
 pub mod stores;
@@ -17,10 +16,9 @@ use model::words::*;
 const PASSWORDS: u64 = 5;
 
 pub fn password(random: &mut Random) -> Password {
-    if random.one_in(3) {
-        random.bytes()
-    } else {
-        [random.below(PASSWORDS) as u8; PASSWORD_BYTES]
+    match random.one_in(3) {
+        true => random.bytes(),
+        false => [random.below(PASSWORDS) as u8; PASSWORD_BYTES],
     }
 }
 

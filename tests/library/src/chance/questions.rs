@@ -1,10 +1,6 @@
 //! Questions by chance, each made in knowledge of the store that it is asked of.
 
-use super::handles::{self, Wish};
-use super::stores::gaps;
-use super::{below, bytes, fill, near, password};
 use crate::{ffi::HANDLE_MAX, guard::handles::Behind, words::*};
-use model::call;
 
 /// Codes for single calls: all alike.
 pub const EVENLY: [u8; 13] = [1, 2, 3, 4, 5, 6, 7, 8, 9, 10, 11, VALIDATION, LOOK];
@@ -29,20 +25,19 @@ pub struct Maker<'a> {
 
 impl Maker<'_> {
     pub fn question(&mut self, codes: &[u8]) -> Question {
-        let code = *self.random.pick(codes).expect("there are codes");
-        let call = match code {
-            call::NEW_CLUSTER => self.new_cluster(),
-            call::DELETE_CLUSTER => self.delete_cluster(),
-            call::NEW_SEGMENT => self.new_segment(),
-            call::DELETE_SEGMENT => self.delete_segment(),
-            call::READ => self.moving(Mode::Read, Call::read),
-            call::WRITE => self.moving(Mode::Write, Call::write),
-            call::WEAKEN => self.weaken(),
-            call::REDUCE => self.with_mode(Call::reduce),
-            call::NEW_PASSWORD => self.new_password(),
-            call::FREEZE => self.freeze(),
-            call::JOIN => self.join(),
-            LOOK => self.look(),
+        let call = match *self.random.pick(codes).expect("there are codes") {
+            NEW_CLUSTER => self.new_cluster(),
+            DELETE_CLUSTER => self.delete_cluster(),
+            NEW_SEGMENT => self.new_segment(),
+            DELETE_SEGMENT => self.delete_segment(),
+            READ => self.moving(Mode::Read, Call::read),
+            WRITE => self.moving(Mode::Write, Call::write),
+            WEAKEN => self.weaken(),
+            REDUCE => self.with_mode(Call::reduce),
+            NEW_PASSWORD => self.new_password(),
+            FREEZE => self.aimed(Mode::Write, Call::freeze),
+            JOIN => self.join(),
+            LOOK => self.aimed(Mode::Read, Call::look),
             _ => self.with_mode(Call::validate),
         };
         let buffer_bytes = self.buffer_bytes(&call);
@@ -93,17 +88,12 @@ impl Maker<'_> {
     }
 
     pub(super) fn handle(&mut self, mode: Mode, primary: bool, segments: bool) -> Handle {
-        let wish = Wish { mode, primary, segments, width: None };
-        handles::handle(self.random, self.store, self.given, wish)
+        handles::handle(self.random, self.store, self.given, Wish { mode, primary, segments, width: None })
     }
 
     /// The bytes that are presented for a handle, sometimes such as no handle has.
     pub(super) fn presented(&mut self, handle: &Handle) -> HandleBytes {
         handles::presented(self.random, handle)
-    }
-
-    fn cluster(&self, handle: &Handle) -> Option<&Cluster> {
-        self.store.cluster_of(handle)
     }
 
     pub(super) fn current_node(&mut self, handle: &Handle) -> u32 {
@@ -118,7 +108,7 @@ impl Maker<'_> {
     pub(super) fn segment(&mut self, handle: &Handle, present: bool) -> u32 {
         let referenced_only = !self.random.one_in(4);
         let bound = handle.width().segments();
-        let cluster = self.cluster(handle);
+        let cluster = self.store.cluster_of(handle);
         let fits = |&segment: &usize| {
             let is_present = cluster.is_some_and(|cluster| cluster.segments[segment].is_present());
             is_present == present && (!referenced_only || handle.selector.references(segment))
@@ -134,8 +124,7 @@ impl Maker<'_> {
 
     /// Often just what a gap of the node has room for, or one byte more.
     fn size(&mut self, handle: &Handle) -> u32 {
-        let node = usize::from(handle.node) % NODES;
-        let gap = self.random.pick(&gaps(self.store, node)).map(|gap| gap.length);
+        let gap = self.random.pick(&gaps(self.store, usize::from(handle.node) % NODES)).map(|gap| gap.length);
         let likely = match (self.random.below(8), gap) {
             (0, Some(gap)) => gap,
             (1, Some(gap)) => gap + 1,
@@ -151,8 +140,7 @@ impl Maker<'_> {
     /// a buffer.
     fn buffer_bytes(&mut self, call: &Call) -> usize {
         let (true, Some(segment)) = (call.moves_bytes(), call.segment()) else { return 0 };
-        let handle = call.handle();
-        let cluster = handle.and_then(|handle| self.cluster(&handle));
+        let cluster = call.handle().and_then(|handle| self.store.cluster_of(&handle));
         let found = cluster.and_then(|cluster| cluster.segments.get(segment as usize));
         match (found.and_then(Segment::extent), self.random.below(8)) {
             (_, 0) => 0,
@@ -175,12 +163,8 @@ impl Maker<'_> {
         let segments = self.random.one_in(2);
         let handle = self.handle(Mode::Write, true, segments);
         let present = self.random.one_in(10);
-        Call::new_segment(
-            self.current_node(&handle),
-            self.segment(&handle, present),
-            self.size(&handle),
-            self.presented(&handle),
-        )
+        let (node, segment) = (self.current_node(&handle), self.segment(&handle, present));
+        Call::new_segment(node, segment, self.size(&handle), self.presented(&handle))
     }
 
     fn delete_segment(&mut self) -> Call {
@@ -206,18 +190,14 @@ impl Maker<'_> {
     fn new_password(&mut self) -> Call {
         let (mode, number) = self.mode();
         let handle = self.handle(mode, true, true);
-        let password = self.next_password(&handle);
-        Call::new_password(number, self.presented(&handle), password)
-    }
-
-    /// Often one of those that the handle's cluster has already, or one bit off.
-    fn next_password(&mut self, handle: &Handle) -> Password {
-        match (self.cluster(handle).copied(), self.random.below(12)) {
+        // Often one of those that the handle's cluster has already, or one bit off.
+        let password = match (self.store.cluster_of(&handle).copied(), self.random.below(12)) {
             (Some(cluster), 0 | 1) => cluster.read,
             (Some(cluster), 2 | 3) => cluster.write,
             (Some(cluster), 4) => near(self.random, cluster.read),
             (Some(cluster), 5) => near(self.random, cluster.write),
             _ => password(self.random),
-        }
+        };
+        Call::new_password(number, self.presented(&handle), password)
     }
 }

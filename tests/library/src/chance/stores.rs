@@ -1,6 +1,6 @@
 //! Sound stores by chance, from empty ones to ones in which nothing is left, with clusters of every width.
 
-use super::{below, fill, handles::everywhere, passwords, width, words::WORD};
+use super::words::WORD;
 use crate::words::*;
 use std::{collections::BTreeSet, ops::Range};
 
@@ -9,23 +9,22 @@ const FROZEN_OF: u64 = 8;
 /// About the borders of words a node is cut into so many parts at most: there are not many more of these places.
 const MOST_AT_WORDS: usize = 120;
 
-#[derive(Clone, Copy, Debug, PartialEq, Eq, PartialOrd, Ord)]
-pub enum Fill {
-    /// The starting store's records.
-    Empty,
-    /// Some clusters are active and some segments present.
-    Partial,
-    /// Segments take every byte of every node; some are absent.
-    NoByteFree,
-    /// Every cluster is active and every segment of its width present.
-    NoSegmentAbsent,
-    /// Segments begin and end about the borders of words, one where the other ends.
-    AtWords,
+listed! {
+    pub enum Fill {
+        /// The starting store's records.
+        Empty,
+        /// Some clusters are active and some segments present.
+        Partial,
+        /// Segments take every byte of every node; some are absent.
+        NoByteFree,
+        /// Every cluster is active and every segment of its width present.
+        NoSegmentAbsent,
+        /// Segments begin and end about the borders of words, one where the other ends.
+        AtWords,
+    }
 }
 
 impl Fill {
-    pub const ALL: [Fill; 5] = [Fill::Empty, Fill::Partial, Fill::NoByteFree, Fill::NoSegmentAbsent, Fill::AtWords];
-
     /// One of them, the partial one most often.
     pub fn by_chance(random: &mut Random) -> Fill {
         match random.below(16) {
@@ -41,13 +40,7 @@ impl Fill {
 pub fn store(random: &mut Random, fill: Fill) -> Store {
     let mut store = Store::starting();
     for clusters in &mut store.clusters {
-        match fill {
-            Fill::Empty => {}
-            Fill::Partial => partial(random, clusters),
-            Fill::NoByteFree => no_byte_free(random, clusters),
-            Fill::NoSegmentAbsent => no_segment_absent(random, clusters),
-            Fill::AtWords => at_words(random, clusters),
-        }
+        fill_node(random, clusters, fill);
     }
     freeze_some(random, &mut store);
     store
@@ -61,8 +54,7 @@ fn freeze_some(random: &mut Random, store: &mut Store) {
         3 => return freeze_one_of_each(random, store),
         _ => 1 + random.below(FROZEN_OF / 2),
     };
-    let clusters = store.clusters.as_flattened_mut().iter_mut();
-    let segments = clusters.flat_map(|cluster| &mut cluster.segments);
+    let segments = store.clusters.as_flattened_mut().iter_mut().flat_map(|cluster| &mut cluster.segments);
     for segment in segments.filter(|segment| segment.is_present()) {
         segment.frozen = random.below(FROZEN_OF) < share;
     }
@@ -71,8 +63,7 @@ fn freeze_some(random: &mut Random, store: &mut Store) {
 /// Often the last that the cluster has.
 fn freeze_one_of_each(random: &mut Random, store: &mut Store) {
     for cluster in store.clusters.as_flattened_mut() {
-        let segments = cluster.segments.iter_mut();
-        let mut present: Vec<&mut Segment> = segments.filter(|own| own.is_present()).collect();
+        let mut present: Vec<&mut Segment> = cluster.segments.iter_mut().filter(|own| own.is_present()).collect();
         let chosen = match (present.len(), random.one_in(2)) {
             (0, _) => continue,
             (count, true) => count - 1,
@@ -89,46 +80,39 @@ pub fn held(random: &mut Random, store: &Store) -> Held {
     Held { image: encode(store), memory }
 }
 
-fn partial(random: &mut Random, clusters: &mut [Cluster; CLUSTERS]) {
-    activate(random, clusters, CLUSTERS * 2 / 3);
+fn fill_node(random: &mut Random, clusters: &mut [Cluster; CLUSTERS], fill: Fill) {
+    let wanted = match fill {
+        Fill::Empty => return,
+        Fill::Partial | Fill::AtWords => CLUSTERS * 2 / 3,
+        Fill::NoByteFree => CLUSTERS / 2,
+        Fill::NoSegmentAbsent => CLUSTERS,
+    };
+    activate(random, clusters, wanted);
     let mut places = places(random, clusters);
-    let most = if random.one_in(4) { places.len() } else { 12 };
-    places.truncate(below(random, most + 1));
-    // As many parts are left free as are taken.
-    let mut parts = parts(random, 2 * places.len(), anywhere);
-    random.shuffle(&mut parts);
-    put(clusters, &places, &parts);
-}
-
-fn no_byte_free(random: &mut Random, clusters: &mut [Cluster; CLUSTERS]) {
-    activate(random, clusters, CLUSTERS / 2);
-    let mut places = places(random, clusters);
-    let most = places.len().min(12);
-    places.truncate(1 + below(random, most));
-    let parts = parts(random, places.len(), anywhere);
-    put(clusters, &places, &parts);
-}
-
-fn no_segment_absent(random: &mut Random, clusters: &mut [Cluster; CLUSTERS]) {
-    activate(random, clusters, CLUSTERS);
-    let places = places(random, clusters);
-    let more = below(random, 2) * places.len();
-    let mut parts = parts(random, places.len() + more, anywhere);
-    random.shuffle(&mut parts);
-    put(clusters, &places, &parts);
-}
-
-/// One part in three or so is left free.
-fn at_words(random: &mut Random, clusters: &mut [Cluster; CLUSTERS]) {
-    activate(random, clusters, CLUSTERS * 2 / 3);
-    let mut places = places(random, clusters);
-    let most = if random.one_in(2) { places.len() } else { 4 };
-    places.truncate((1 + below(random, most)).min(MOST_AT_WORDS));
-    let free = below(random, places.len() + 1);
-    let count = (places.len() + free).min(MOST_AT_WORDS);
-    let mut parts = parts(random, count, about_a_word);
-    random.shuffle(&mut parts);
-    put(clusters, &places, &parts);
+    let all = places.len();
+    places.truncate(match fill {
+        Fill::Partial if random.one_in(4) => below(random, all + 1),
+        Fill::Partial => below(random, 12 + 1),
+        Fill::NoByteFree => 1 + below(random, all.min(12)),
+        Fill::AtWords if random.one_in(2) => (1 + below(random, all)).min(MOST_AT_WORDS),
+        Fill::AtWords => 1 + below(random, 4),
+        _ => all,
+    });
+    let taken = places.len();
+    // As many parts are left free as are taken, or none, or up to as many.
+    let count = match fill {
+        Fill::Partial => 2 * taken,
+        Fill::NoSegmentAbsent => taken + below(random, 2) * taken,
+        Fill::AtWords => (taken + below(random, taken + 1)).min(MOST_AT_WORDS),
+        _ => taken,
+    };
+    let mut parts = parts(random, count, if fill == Fill::AtWords { about_a_word } else { anywhere });
+    if fill != Fill::NoByteFree {
+        random.shuffle(&mut parts);
+    }
+    for ((local, segment), part) in places.into_iter().zip(parts) {
+        clusters[local].segments[segment] = present(part.base, part.length);
+    }
 }
 
 /// Makes about `wanted` clusters active, and at least one.
@@ -181,21 +165,9 @@ fn parts(random: &mut Random, count: usize, cut: fn(&mut Random) -> usize) -> Ve
     while ends.len() + 1 < count {
         ends.insert(cut(random));
     }
-    ends.insert(NODE_BYTES);
-    let mut base = 0;
-    let part = |end| {
-        let length = end - base;
-        let part = Extent { base, length };
-        base = end;
-        part
-    };
-    ends.into_iter().map(part).collect()
-}
-
-fn put(clusters: &mut [Cluster; CLUSTERS], places: &[(usize, usize)], parts: &[Extent]) {
-    for (&(local, segment), part) in places.iter().zip(parts) {
-        clusters[local].segments[segment] = present(part.base, part.length);
-    }
+    ends.extend([0, NODE_BYTES]);
+    let ends: Vec<usize> = ends.into_iter().collect();
+    ends.windows(2).map(|two| Extent { base: two[0], length: two[1] - two[0] }).collect()
 }
 
 pub fn present(base: usize, length: usize) -> Segment {
@@ -205,16 +177,6 @@ pub fn present(base: usize, length: usize) -> Segment {
 /// The segments that a cluster can have; none where it is inactive.
 pub fn segments_of(cluster: &Cluster) -> Range<usize> {
     0..cluster.known_width().map_or(0, Width::segments)
-}
-
-/// Every segment of every active cluster, as node, local number and segment.
-pub fn segments(store: &Store) -> Vec<(usize, usize, usize)> {
-    everywhere()
-        .flat_map(|(node, local)| {
-            let segments = segments_of(&store.clusters[node][local]);
-            segments.map(move |segment| (node, local, segment))
-        })
-        .collect()
 }
 
 /// The present segments of a node in the order of their bases.
@@ -232,8 +194,7 @@ pub fn gaps(store: &Store, node: usize) -> Vec<Extent> {
     let end = Extent { base: NODE_BYTES, length: 0 };
     for taken in extents(store, node).into_iter().chain([end]) {
         if base < taken.base {
-            let length = taken.base - base;
-            gaps.push(Extent { base, length });
+            gaps.push(Extent { base, length: taken.base - base });
         }
         base = taken.end();
     }

@@ -2,24 +2,19 @@
 //! of 64.
 
 use super::below;
-use model::words::*;
+use model::{listed, words::*};
 
 pub const WORD: usize = 64;
 const WORDS: usize = NODE_BYTES / WORD;
 /// Lengths about one word and two, the least and the greatest.
 pub const LENGTHS: [usize; 10] = [1, 2, 63, 64, 65, 127, 128, 129, 4095, 4096];
 
-/// Where a byte lies: the first of a word, the last of one, or the second.
-#[derive(Clone, Copy)]
-pub enum Beside {
-    At,
-    Before,
-    After,
+listed! {
+    /// Where a byte lies: the first of a word, the last of one, or the second.
+    pub enum Beside { At, Before, After }
 }
 
 impl Beside {
-    pub const ALL: [Beside; 3] = [Beside::At, Beside::Before, Beside::After];
-
     /// Such a byte of a word.
     pub fn byte_of(&self, word: usize) -> usize {
         word * WORD
@@ -33,8 +28,7 @@ impl Beside {
 
 /// One of the lengths, of `most` bytes at most.
 fn length(random: &mut Random, most: usize) -> usize {
-    let fitting = LENGTHS.iter().filter(|&&length| length <= most);
-    let fitting: Vec<usize> = fitting.copied().collect();
+    let fitting: Vec<usize> = LENGTHS.into_iter().filter(|length| *length <= most).collect();
     *random.pick(&fitting).expect("one byte always fits")
 }
 
@@ -68,10 +62,4 @@ pub fn one_inside(random: &mut Random) -> [Extent; 2] {
         _ => Extent { base: word + below(random, WORD), length: 1 },
     };
     [outer, inner]
-}
-
-/// The whole node, and another.
-pub fn with_the_node(random: &mut Random) -> [Extent; 2] {
-    let node = Extent { base: 0, length: NODE_BYTES };
-    [node, extent(random)]
 }

@@ -1,7 +1,7 @@
 //! What lists of two copies came to, and what they have to come to.
 
 use crate::{pairs::Pair, words::*};
-use model::{met::Met, renewals::Renewal};
+use model::renewals::Renewal;
 
 /// Calls of which some have to be done, and some to be kept from the cluster set apart by passwords alone: with
 /// passwords that open it for each handle, the call would be done.
@@ -22,16 +22,12 @@ const DUE: [&str; 11] = [
 ];
 
 /// Where the handle has the password that one with these subselectors needs.
-fn other_width(width: Width) -> String {
-    format!("right but for its width, a handle of a cluster set apart of {}", width.segments())
-}
+const OTHER: &str = "right but for its width, a handle of a cluster set apart of";
+const APART_OF: &str = "a cluster set apart of width";
+const BY: &str = "a call done by a handle of width";
 
-fn apart_of(width: Width) -> String {
-    format!("a cluster set apart of width {}", width.segments())
-}
-
-fn by_width(width: Width) -> String {
-    format!("a call done by a handle of width {}", width.segments())
+fn with(what: &str, width: Width) -> String {
+    format!("{what} {}", width.segments())
 }
 
 fn kept(what: &str) -> String {
@@ -40,18 +36,16 @@ fn kept(what: &str) -> String {
 
 pub fn met() -> Met {
     let calls = KEPT.into_iter().flat_map(|what| [format!("a {what} done"), kept(what)]);
-    let widths = Width::ALL.into_iter().flat_map(|width| [apart_of(width), other_width(width), by_width(width)]);
+    let widths = Width::ALL.into_iter().flat_map(|width| [APART_OF, OTHER, BY].map(|what| with(what, width)));
     Met::new("two copies", DUE.map(String::from).into_iter().chain(calls).chain(widths))
 }
 
-pub(super) fn note_pair(met: &mut Met, pair: &Pair) {
-    let (node, local) = pair.apart;
-    let apart = |store: Store| store.clusters[node][local];
-    let Ok([first, second]) = pair.stores().map(|stores| stores.map(apart)) else { return };
-    met.note_if(first.has_frozen(), "a cluster set apart with a frozen segment");
-    met.note_all(first.known_width().map(apart_of));
-    let [one, other] = [first, second].map(|cluster| cluster.has_equal_passwords());
-    met.note_if(one != other, "a cluster set apart with equal passwords in one copy alone");
+pub(super) fn note_pair(met: &mut Met, pair: &Pair, stores: &[Store; 2]) {
+    let apart = pair.cluster(&stores[0]);
+    met.note_if(apart.has_frozen(), "a cluster set apart with a frozen segment");
+    met.note_all(apart.known_width().map(|width| with(APART_OF, width)));
+    let in_one = pair.in_one(stores, Cluster::has_equal_passwords);
+    met.note_if(in_one, "a cluster set apart with equal passwords in one copy alone");
 }
 
 /// The copies were `stores` before the call.
@@ -59,17 +53,14 @@ pub(super) fn note(met: &mut Met, pair: &Pair, stores: &[Store; 2], question: &Q
     note_passwords(met, stores, question, answer);
     note_widths(met, pair, stores, question, answer);
     let done = answer.reply.is_done();
-    met.note_if(pair.names_apart(question), "a call that names the cluster set apart");
+    met.note_if(pair.names_apart(&question.call), "a call that names the cluster set apart");
     met.note_if(done, "a call done");
     met.note_if(answer.reply.number == FROZEN, "a call refused with 22 (frozen)");
     let what = match &question.call {
         Call::Look { .. } => "look",
         Call::Freeze { .. } => "freeze",
         Call::Join { handle, other, .. } => {
-            let [first, second] = [handle, other].map(|bytes| {
-                let handle = Handle::from_bytes(bytes);
-                handle.is_some_and(|handle| pair.is_apart(&handle))
-            });
+            let [first, second] = [handle, other].map(|bytes| pair.is_named_by(bytes));
             let which = if first { "first" } else { "second" };
             let alone = format!("a join of which the {which} handle alone names the cluster set apart");
             met.note_if(first != second, alone);
@@ -83,32 +74,22 @@ pub(super) fn note(met: &mut Met, pair: &Pair, stores: &[Store; 2], question: &Q
 }
 
 fn note_widths(met: &mut Met, pair: &Pair, [store, _]: &[Store; 2], question: &Question, answer: &Answer) {
-    let (node, local) = pair.apart;
-    let cluster = &store.clusters[node][local];
-    let made_from = |handle: &Handle| {
-        let mut primaries = Mode::ALL.iter().map(|mode| cluster.primary(*mode));
-        primaries.any(|primary| handle.is_made_from(primary))
-    };
-    let other = |handle: Handle| {
-        let differs = pair.is_apart(&handle) && !cluster.has_width(handle.width());
-        differs && made_from(&handle)
-    };
+    let cluster = pair.cluster(store);
+    let made_from = |handle: &Handle| Mode::ALL.iter().any(|mode| handle.is_made_from(cluster.primary(*mode)));
+    let other = |handle: Handle| pair.is_apart(&handle) && !cluster.has_width(handle.width()) && made_from(&handle);
     let refused = answer.reply.number == LENGTH && question.call.presented().any(other);
-    met.note_all(cluster.known_width().filter(|_| refused).map(other_width));
-    for handle in question.call.presented() {
-        met.note_if(answer.reply.is_done(), by_width(handle.width()));
-    }
+    met.note_all(cluster.known_width().filter(|_| refused).map(|width| with(OTHER, width)));
+    let done = question.call.presented().filter(|_| answer.reply.is_done());
+    met.note_all(done.map(|handle| with(BY, handle.width())));
     let mut lengths = question.call.presented_bytes().map(<[u8]>::len);
-    let no_length = lengths.any(|length| Width::of_handle_bytes(length).is_none());
-    met.note_if(no_length, "a length that no handle has");
+    met.note_if(lengths.any(|length| Width::of_handle_bytes(length).is_none()), "a length that no handle has");
 }
 
 /// What is met in the two copies differs where the cluster set apart is concerned, and there alone.
 fn note_passwords(met: &mut Met, stores: &[Store; 2], question: &Question, answer: &Answer) {
-    let [first, second] = stores.each_ref().map(|store| {
-        let found = Found::whole(store, question.buffer.len());
-        Renewal::of(&found, &question.call, answer.reply.number)
-    });
+    let [first, second] = stores
+        .each_ref()
+        .map(|store| Renewal::of(&Found::whole(store, question.buffer.len()), &question.call, answer.reply.number));
     met.note_if(first != second, "a new password that the cluster set apart has in one copy alone");
     match first {
         Some(Renewal::MadeEqual(_)) => met.note("a new password that makes two equal"),

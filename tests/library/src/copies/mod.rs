@@ -3,13 +3,9 @@
 
 mod count;
 
-use crate::chance::handles::at_width;
-use crate::chance::questions::{Maker, FILLING};
-use crate::chance::stores::{self, Fill};
 use crate::pairs::{ask_both, parts_of, set_apart, validates, Pair};
 use crate::words::*;
 pub use count::met;
-use model::met::Met;
 use std::ops::Range;
 
 /// Calls of one list.
@@ -23,8 +19,9 @@ pub fn compare(guard: Guard, seed: u64, pairs: u64) -> Result<Met, String> {
 
 fn one(guard: Guard, random: &mut Random, met: &mut Met) -> Result<(), String> {
     let mut pair = by_chance(random);
-    count::note_pair(met, &pair);
-    let own = parts_of(&pair.stores()?[0], pair.apart);
+    let stores = pair.stores()?;
+    count::note_pair(met, &pair, &stores);
+    let own = parts_of(&stores[0], pair.apart);
     let start = pair.copies.clone();
     let mut given = Vec::new();
     for at in 1..=LIST_CALLS {
@@ -58,8 +55,7 @@ impl Pair {
     fn question(&self, random: &mut Random, stores: &[Store; 2], given: &[Handle]) -> Question {
         loop {
             let store = &stores[below(random, stores.len())];
-            let maker = &mut Maker { random, store, given };
-            let mut question = maker.question(&FILLING);
+            let mut question = Maker { random, store, given }.question(&FILLING);
             if random.one_in(4) {
                 self.aim(random, store, &mut question);
             }
@@ -74,8 +70,8 @@ impl Pair {
     /// Makes the question name the cluster set apart, mostly with a password that does not open it, sometimes with one
     /// that does and at another width. Of two handles mostly both name it, and else one of them.
     fn aim(&self, random: &mut Random, store: &Store, question: &mut Question) {
-        let cluster = &store.clusters[self.apart.0][self.apart.1];
-        let mut aimed = question.presented_mut();
+        let cluster = self.cluster(store);
+        let mut aimed = question.call.presented_mut();
         if aimed.len() > 1 && random.one_in(3) {
             aimed.remove(below(random, 2));
         }
@@ -99,14 +95,10 @@ impl Pair {
 
     /// Often gives the handle another password; one that opens the cluster where it is of another width.
     fn guess(&self, random: &mut Random, cluster: &Cluster, handle: &mut Handle) {
-        let near = |mut password: Password| {
-            password[0] ^= 1;
-            password
-        };
+        let near = |password: Password| std::array::from_fn(|at| password[at] ^ u8::from(at == 0));
         let choices = [password(random), near(cluster.read), near(cluster.write), cluster.read];
         if !cluster.has_width(handle.width()) {
-            let primary = [cluster.read, cluster.write][below(random, 2)];
-            handle.password = derive(&primary, &handle.selector);
+            handle.password = derive(&[cluster.read, cluster.write][below(random, 2)], &handle.selector);
         } else if random.one_in(2) {
             handle.password = choices[below(random, choices.len())];
         }
@@ -117,11 +109,9 @@ impl Pair {
     fn kept_by_the_passwords(&self, question: &Question, answer: &Answer) -> bool {
         let [copy, _] = &self.copies;
         let (Some(store), VIOLATED_PROTECTION) = (decode(&copy.image), answer.reply.number) else { return false };
-        let Some(mode) = question.call.needed_mode().filter(|_| self.names_apart(question)) else { return false };
-        let primary = *store.clusters[self.apart.0][self.apart.1].primary(mode);
-        let opening = question.with_handles(|handle| {
-            handle.password = derive(&primary, &handle.selector);
-        });
+        let Some(mode) = question.call.needed_mode().filter(|_| self.names_apart(&question.call)) else { return false };
+        let primary = self.cluster(&store).primary(mode);
+        let opening = question.with_handles(|handle| handle.password = derive(primary, &handle.selector));
         by_model(&mut copy.clone(), &opening).reply.is_done()
     }
 
@@ -130,9 +120,7 @@ impl Pair {
         let [first, second] = self.copies.each_ref().map(|copy| {
             let mut others = copy.clone();
             others.image[passwords_at(self.apart.0, self.apart.1)].fill(0);
-            for part in own {
-                others.memory[part.clone()].fill(0);
-            }
+            own.iter().for_each(|part| others.memory[part.clone()].fill(0));
             others
         });
         same_bytes("images of the copies", &first.image, &second.image)?;
@@ -143,11 +131,9 @@ impl Pair {
     fn kept_apart(&self, own: &[Range<usize>], start: &[Held; 2]) -> Result<(), String> {
         let record = record_at(self.apart.0, self.apart.1);
         for (before, after) in start.iter().zip(&self.copies) {
-            let (image, memory) = (&before.image, &before.memory);
-            same_bytes("records set apart", &image[record.clone()], &after.image[record.clone()])?;
+            same_bytes("records set apart", &before.image[record.clone()], &after.image[record.clone()])?;
             for part in own {
-                let now = &after.memory[part.clone()];
-                same_bytes("segments set apart", &memory[part.clone()], now)?;
+                same_bytes("segments set apart", &before.memory[part.clone()], &after.memory[part.clone()])?;
             }
         }
         Ok(())

@@ -3,20 +3,20 @@
 //! to an end: the first and the last byte of a node, the whole of it, and numbers just out of range. Joins with
 //! modes and names just out of range. Handles of every length, made of bytes and presented, and what goes by the width.
 
-mod handles;
 mod joins;
 mod widths;
 
-use crate::chance::stores::{self, active_of, present, Fill};
 use crate::chance::words::{Beside, LENGTHS};
 use crate::words::*;
-pub use handles::{handles, Maker};
 pub use joins::joins;
-pub use widths::{lengths, masks, new_clusters, segments};
+pub use widths::{handles, lengths, masks, new_clusters, segments};
 
 /// Something that tells whether an image holds a sound store; [`crate::guard::is_sound`] is the one
 /// to be compared.
 pub type Judge<'a> = &'a dyn Fn(&mut Image) -> bool;
+
+/// How many were asked, and how many of them were done, or are sound, or are a handle's.
+pub type Asked = (u64, u64);
 
 /// The first words of a node, those in its middle, and its last; 64 begins behind it.
 const WORDS: [usize; 10] = [0, 1, 2, 3, 31, 32, 33, 62, 63, 64];
@@ -30,6 +30,29 @@ const STRETCHES: [(usize, usize); 9] = [
 /// Added to a number that is right, these are seen in its highest bytes alone.
 const HIGH: [usize; 5] = [1 << 8, 1 << 16, 1 << 32, 1 << 48, 1 << 63];
 
+/// Tries a case with each of these, and gives what all of them counted.
+pub(crate) fn each<T>(
+    seed: u64,
+    all: impl IntoIterator<Item = T>,
+    mut case: impl FnMut(&mut Random, T, &mut Asked) -> Result<(), String>,
+) -> Result<Asked, String> {
+    let mut asked = (0, 0);
+    let mut all = all.into_iter().collect::<Vec<T>>().into_iter();
+    cases(seed, all.len() as u64, |random| case(random, all.next().expect("there are as many cases"), &mut asked))?;
+    Ok(asked)
+}
+
+pub(crate) fn count(asked: &mut Asked, is_right: bool) {
+    asked.0 += 1;
+    asked.1 += u64::from(is_right);
+}
+
+/// Puts one question to both, and counts it.
+fn put(guard: Guard, sides: &mut Sides, question: &Question, asked: &mut Asked) -> Result<(), String> {
+    count(asked, ask(guard, sides, question)?.reply.is_done());
+    Ok(())
+}
+
 /// The values that a byte of an image is made: every one, but a few where all that matters is whether it is zero, as of
 /// passwords and, save for the first two bytes of a record, of an empty store.
 fn values(fill: Fill, at: usize) -> Vec<u8> {
@@ -41,43 +64,33 @@ fn values(fill: Fill, at: usize) -> Vec<u8> {
     }
 }
 
-/// One store of every fill. Gives how many images were judged.
-pub fn every_byte(judge: Judge, seed: u64) -> Result<u64, String> {
-    let mut judged = 0;
-    let mut fills = Fill::ALL.into_iter();
-    cases(seed, Fill::ALL.len() as u64, |random| {
-        let fill = fills.next().expect("there are as many cases");
+/// One store of every fill.
+pub fn every_byte(judge: Judge, seed: u64) -> Result<Asked, String> {
+    each(seed, Fill::ALL, |random, fill, asked| {
         let store = stores::store(random, fill);
         let mut held = stores::held(random, &store);
         for at in 0..held.image.len() {
             let kept = held.image[at];
             for value in values(fill, at) {
                 held.image[at] = value;
-                same(judge, &mut held).map_err(|what| format!("{fill:?} with byte {at} made {value}: {what}"))?;
-                judged += 1;
+                same(judge, &mut held, asked)
+                    .map_err(|what| format!("{fill:?} with byte {at} made {value}: {what}"))?;
             }
             held.image[at] = kept;
         }
         Ok(())
-    })?;
-    Ok(judged)
+    })
 }
 
-/// Every pair of such segments, in records by chance. Gives how many images were judged, and how many
-/// of them were sound.
-pub fn pairs_at_words(judge: Judge, seed: u64) -> Result<(u64, u64), String> {
-    let (mut judged, mut sound) = (0, 0);
-    cases(seed, 1, |random| {
+/// Every pair of such segments, in records by chance.
+pub fn pairs_at_words(judge: Judge, seed: u64) -> Result<Asked, String> {
+    each(seed, [()], |random, (), asked| {
         for (first, second) in pairs() {
             let mut held = Held { image: encode(&with_both(random, first, second)), memory: [0; MEMORY_BYTES] };
-            let is_sound =
-                same(judge, &mut held).map_err(|what| format!("segments at {first:?} and {second:?}: {what}"))?;
-            judged += 1;
-            sound += u64::from(is_sound);
+            same(judge, &mut held, asked).map_err(|what| format!("segments at {first:?} and {second:?}: {what}"))?;
         }
         Ok(())
-    })?;
-    Ok((judged, sound))
+    })
 }
 
 fn pairs() -> impl Iterator<Item = (Extent, Extent)> {
@@ -92,8 +105,7 @@ fn with_both(random: &mut Random, first: Extent, second: Extent) -> Store {
     let mut store = Store::starting();
     let clusters = &mut store.clusters[below(random, NODES)];
     let at = below(random, CLUSTERS * SEGMENTS);
-    let further = 1 + below(random, CLUSTERS * SEGMENTS - 1);
-    let other = (at + further) % (CLUSTERS * SEGMENTS);
+    let other = (at + 1 + below(random, CLUSTERS * SEGMENTS - 1)) % (CLUSTERS * SEGMENTS);
     for (place, extent) in [(at, first), (other, second)] {
         let cluster = &mut clusters[place / SEGMENTS];
         if !cluster.active {
@@ -104,120 +116,65 @@ fn with_both(random: &mut Random, first: Extent, second: Extent) -> Store {
     store
 }
 
-/// Gives whether the image is sound, if both say the same and leave it as it is.
-fn same(judge: Judge, held: &mut Held) -> Result<bool, String> {
+/// Counts the image as sound or not, if both say the same and leave it as it is.
+fn same(judge: Judge, held: &mut Held, asked: &mut Asked) -> Result<(), String> {
     let expected = is_sound(held);
     let before = held.image;
     let found = judge(&mut held.image);
+    count(asked, expected);
     match found == expected && held.image == before {
-        true => Ok(expected),
+        true => Ok(()),
         false => Err(format!("sound is {expected} in the model, {found} in the library")),
     }
 }
 
-/// Each stretch in each node, in a cluster of each width, looked at with every argument where it changes. Gives how
-/// many looks there were, and how many of them showed something.
-pub fn looks(guard: Guard, seed: u64) -> Result<(u64, u64), String> {
-    around_segments(guard, seed, |lone, current, segment| {
-        let primary = lone.handle(Mode::Read);
-        let weaker = primary.weaken(1 << lone.segment).expect("all are flat");
-        [primary, weaker].map(|handle| look(current, segment, &handle))
-    })
+/// Each stretch in each node, in a cluster of each width, looked at with every argument where it changes: by the
+/// primary handle, and by one that is not primary.
+pub fn looks(guard: Guard, seed: u64) -> Result<Asked, String> {
+    around_segments(guard, seed, Mode::Read, 1, Call::look)
 }
 
 /// The same with freezes: by the write primary handle, again, and by one that is not primary.
-pub fn freezes(guard: Guard, seed: u64) -> Result<(u64, u64), String> {
-    around_segments(guard, seed, |lone, current, segment| {
-        let primary = lone.handle(Mode::Write);
-        let weaker = primary.weaken(1 << lone.segment).expect("all are flat");
-        [primary, primary, weaker].map(|handle| freeze(current, segment, &handle))
-    })
+pub fn freezes(guard: Guard, seed: u64) -> Result<Asked, String> {
+    around_segments(guard, seed, Mode::Write, 2, Call::freeze)
 }
 
-/// What `questions` makes of a segment, a current node and a number of a segment is asked in turn.
-fn around_segments<const N: usize>(
+/// Asked so often by the primary handle of the mode, and then by a weaker one.
+fn around_segments(
     guard: Guard,
     seed: u64,
-    questions: impl Fn(&LoneSegment, usize, usize) -> [Question; N],
-) -> Result<(u64, u64), String> {
-    let (mut asked, mut done) = (0, 0);
+    mode: Mode,
+    times: usize,
+    call: fn(u32, u32, HandleBytes) -> Call,
+) -> Result<Asked, String> {
     let places = (0..NODES).flat_map(|node| STRETCHES.map(|stretch| (node, stretch)));
     let places = places.flat_map(|place| Width::ALL.map(|width| (place, width)));
-    let mut places = places.collect::<Vec<_>>().into_iter();
-    cases(seed, places.len() as u64, |random| {
-        let ((node, (base, length)), width) = places.next().expect("there are as many cases");
-        let lone = LoneSegment::by_chance(random, node, width, Extent { base, length });
-        for (current, segment) in lone.arguments() {
-            let mut sides = Sides::both(lone.held.clone());
-            for question in questions(&lone, current, segment) {
-                let answer = ask(guard, &mut sides, &question)
+    each(seed, places, |random, ((node, (base, length)), width), asked| {
+        let (local, segment) = (below(random, CLUSTERS), below(random, width.segments()));
+        let mut store = Store::starting();
+        store.clusters[node][local] = active_of(random, width);
+        store.clusters[node][local].segments[segment] = present(base, length);
+        let held = stores::held(random, &store);
+        let primary = primary(&store, (node, local), mode);
+        let weaker = primary.weaken(1 << segment).expect("all are flat");
+        // Current nodes and segments: in each row one of the two is right.
+        let nodes = around(node, NODES).map(|current| (current, segment));
+        let segments = around(segment, width.segments()).map(|other| (node, other));
+        for (current, segment) in nodes.chain(segments) {
+            let mut sides = Sides::both(held.clone());
+            for handle in vec![primary; times].into_iter().chain([weaker]) {
+                // At most one of the two is more than four bytes hold.
+                let call = call(narrow(current), narrow(segment), handle.to_bytes());
+                let question = Question { beyond: current.max(segment), ..Question::of(call) };
+                put(guard, &mut sides, &question, asked)
                     .map_err(|what| format!("segment at {base}, {length} bytes: {what}"))?;
-                asked += 1;
-                done += u64::from(answer.reply.is_done());
             }
         }
         Ok(())
-    })?;
-    Ok((asked, done))
-}
-
-/// A store with one segment, and the cluster that it is of.
-struct LoneSegment {
-    held: Held,
-    cluster: Cluster,
-    node: usize,
-    local: usize,
-    width: Width,
-    segment: usize,
-}
-
-impl LoneSegment {
-    fn by_chance(random: &mut Random, node: usize, width: Width, extent: Extent) -> LoneSegment {
-        let (local, segment) = (below(random, CLUSTERS), below(random, width.segments()));
-        let mut store = Store::starting();
-        let cluster = &mut store.clusters[node][local];
-        *cluster = active_of(random, width);
-        cluster.segments[segment] = present(extent.base, extent.length);
-        LoneSegment { cluster: *cluster, held: stores::held(random, &store), node, local, width, segment }
-    }
-
-    fn handle(&self, mode: Mode) -> Handle {
-        let (node, local) = (self.node as u16, self.local as u8);
-        Handle::primary(self.width, node, local, *self.cluster.primary(mode))
-    }
-
-    /// Current nodes and segments: in each row one of the two is right.
-    fn arguments(&self) -> impl Iterator<Item = (usize, usize)> {
-        let (node, segment) = (self.node, self.segment);
-        let nodes = around(node, NODES).map(move |current| (current, segment));
-        let segments = around(segment, self.width.segments());
-        nodes.chain(segments.map(move |other| (node, other)))
-    }
+    })
 }
 
 /// Everything up to a little above `bound`, what is equal to `right` in its low bytes alone, and the greatest.
-fn around(right: usize, bound: usize) -> impl Iterator<Item = usize> {
-    let high = HIGH.map(|more| right + more);
-    (0..bound + 2).chain(high).chain([usize::MAX])
-}
-
-fn look(current: usize, segment: usize, handle: &Handle) -> Question {
-    let (node, number) = (narrow(current), narrow(segment));
-    let call = Call::look(node, number, handle.to_bytes());
-    wide(call, current, segment)
-}
-
-fn freeze(current: usize, segment: usize, handle: &Handle) -> Question {
-    let (node, number) = (narrow(current), narrow(segment));
-    let call = Call::freeze(node, number, handle.to_bytes());
-    wide(call, current, segment)
-}
-
-fn narrow(number: usize) -> u32 {
-    u32::try_from(number).unwrap_or(BEYOND)
-}
-
-/// At most one of the two is more than four bytes hold.
-fn wide(call: Call, current: usize, segment: usize) -> Question {
-    Question { beyond: current.max(segment), ..Question::of(call) }
+pub(crate) fn around(right: usize, bound: usize) -> impl Iterator<Item = usize> {
+    (0..bound + 2).chain(HIGH.map(|more| right + more)).chain([usize::MAX])
 }

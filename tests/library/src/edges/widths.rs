@@ -1,9 +1,8 @@
-//! Handles where their length changes, and what goes by the width: handles of another than their cluster's, segments
-//! about it, masks of all sixteen bits, and the widths of new clusters.
+//! Handles where their length changes, made of bytes and presented, and what goes by the width: handles of another than
+//! their cluster's, segments about it, masks of all sixteen bits, and the widths of new clusters.
 
-use super::{around, narrow, HIGH};
-use crate::chance::handles::at_width;
-use crate::chance::stores::{self, active_of, present};
+use super::{around, count, each, put, Asked, HIGH};
+use crate::ffi::{gelmuszta_handle, HANDLE_MAX};
 use crate::words::*;
 
 /// Widths are tried from 0 up to so many: one more byte is begun.
@@ -14,9 +13,6 @@ const LENGTH: usize = 5;
 const ABSENT: u32 = 3;
 const NODE: usize = 2;
 const LOCAL: usize = 6;
-
-/// How many calls there were, and how many of them were done.
-type Asked = (u64, u64);
 
 /// A store with a cluster of one width, and with calls that are done by handles of it.
 struct Known {
@@ -66,57 +62,37 @@ impl Known {
     }
 }
 
-/// Each case with a cluster of each width.
-fn with_each(seed: u64, mut case: impl FnMut(&mut Random, Width, &Known) -> Result<(), String>) -> Result<(), String> {
-    let mut widths = Width::ALL.into_iter();
-    cases(seed, Width::ALL.len() as u64, |random| {
-        let width = widths.next().expect("there are as many cases");
-        let known = Known::by_chance(random, width);
-        case(random, width, &known)
-    })
-}
-
-/// Puts one question to both, and counts it.
-fn put(guard: Guard, held: &Held, question: &Question, asked: &mut Asked) -> Result<(), String> {
-    let answer = ask(guard, &mut Sides::both(held.clone()), question)?;
-    asked.0 += 1;
-    asked.1 += u64::from(answer.reply.is_done());
-    Ok(())
-}
-
 /// Every call with every length byte in every handle that it takes, alone and, of two, in both; what a handle of 28
 /// bytes has behind its length is anything.
 pub fn lengths(guard: Guard, seed: u64) -> Result<Asked, String> {
-    let mut asked = (0, 0);
-    with_each(seed, |random, _, known| {
+    each(seed, Width::ALL, |random, width, asked| {
+        let known = Known::by_chance(random, width);
         for question in &known.questions {
             let handles = question.call.presented_bytes().count();
-            for (held, chosen) in
-                known.each().iter().flat_map(|held| (1..1 << handles).map(move |chosen| (held, chosen)))
-            {
+            let both = known.each().into_iter().flat_map(|held| (1..1 << handles).map(move |at| (held.clone(), at)));
+            for (held, chosen) in both {
                 for length in 0..=u8::MAX.into() {
                     let more = bytes(random, length);
                     let mut question = question.clone();
                     fill(random, &mut question.behind);
-                    let presented = question.presented_mut().into_iter().enumerate();
+                    let presented = question.call.presented_mut().into_iter().enumerate();
                     for (_, handle) in presented.filter(|(at, _)| chosen >> at & 1 == 1) {
                         handle.extend(&more);
                         handle.truncate(length);
                     }
-                    put(guard, held, &question, &mut asked)?;
+                    put(guard, &mut Sides::both(held.clone()), &question, asked)?;
                 }
             }
         }
         Ok(())
-    })?;
-    Ok(asked)
+    })
 }
 
 /// Every call by handles of each width, with the password that goes with it and with another; where it is about a
 /// segment, with each that there can be and with others.
 pub fn segments(guard: Guard, seed: u64) -> Result<Asked, String> {
-    let mut asked = (0, 0);
-    with_each(seed, |_, own, known| {
+    each(seed, Width::ALL, |random, own, asked| {
+        let known = Known::by_chance(random, own);
         let cluster = &known.store.clusters[NODE][LOCAL];
         for (question, width) in known.questions.iter().flat_map(|question| Width::ALL.map(|width| (question, width))) {
             let mode = question.call.needed_mode().unwrap_or(Mode::Read);
@@ -127,86 +103,81 @@ pub fn segments(guard: Guard, seed: u64) -> Result<Asked, String> {
                 handle.password = derive(cluster.primary(mode), &handle.selector);
             });
             let forged = wide.with_handles(|handle| handle.password[PASSWORD_BYTES - 1] ^= 1);
-            for question in [wide, forged] {
-                for question in about_each_segment(&question) {
-                    put(guard, &known.held, &question, &mut asked)?;
-                }
+            for question in [wide, forged].iter().flat_map(about_each_segment) {
+                put(guard, &mut Sides::both(known.held.clone()), &question, asked)?;
             }
         }
         Ok(())
-    })?;
-    Ok(asked)
+    })
 }
 
 fn about_each_segment(question: &Question) -> Vec<Question> {
-    let right = match question.call.segment() {
-        Some(segment) => segment as usize,
-        None => return vec![question.clone()],
-    };
+    let Some(right) = question.call.segment() else { return vec![question.clone()] };
     let about = |other: usize| {
-        let mut about = question.clone();
-        if let Call::NewSegment { segment, .. }
-        | Call::DeleteSegment { segment, .. }
-        | Call::Read { segment, .. }
-        | Call::Write { segment, .. }
-        | Call::Freeze { segment, .. }
-        | Call::Look { segment, .. } = &mut about.call
-        {
+        let mut about = Question { beyond: other, ..question.clone() };
+        if let [_, Some(segment), _] = about.numbers_mut() {
             *segment = narrow(other);
         }
-        about.beyond = other;
         about
     };
-    around(right, SEGMENTS).map(about).collect()
+    around(right as usize, SEGMENTS).map(about).collect()
 }
 
 /// Weakening by every mask: of handles of each width with one subselector that is not flat, and with four.
 pub fn masks(guard: Guard, seed: u64) -> Result<Asked, String> {
-    let mut asked = (0, 0);
-    with_each(seed, |_, width, known| {
+    each(seed, Width::ALL, |random, width, asked| {
+        let known = Known::by_chance(random, width);
         let flat = width.flat();
-        let selectors = [[flat & 0x7bda, flat, flat, flat], [flat - 1, flat - 2, flat - 1, flat - 2]];
-        for subselectors in selectors {
-            let selector = Selector::new(width, subselectors);
-            let (node, local) = (NODE as u16, LOCAL as u8);
-            let handle = Handle::converted(node, local, &[0x11; PASSWORD_BYTES], selector);
+        for parts in [[flat & 0x7bda, flat, flat, flat], [flat - 1, flat - 2, flat - 1, flat - 2]] {
+            let selector = Selector::new(width, parts);
+            let handle = Handle::converted(NODE as u16, LOCAL as u8, &[0x11; PASSWORD_BYTES], selector);
             for mask in 0..=u16::MAX {
-                let handle = handle.to_bytes();
-                let question = Question::of(Call::Weaken { mask, handle });
-                put(guard, &known.held, &question, &mut asked)?;
+                put(guard, &mut Sides::both(known.held.clone()), &Question::of(Call::weaken(mask, handle)), asked)?;
             }
         }
         Ok(())
-    })?;
-    Ok(asked)
+    })
 }
 
 /// Call 1 with widths from 0 on and with those that are right in their low bytes alone; where nothing else is wrong,
 /// and where the place is none, is in use, or the passwords are equal.
 pub fn new_clusters(guard: Guard, seed: u64) -> Result<Asked, String> {
-    let mut asked = (0, 0);
-    with_each(seed, |random, own, known| {
+    each(seed, Width::ALL, |random, own, asked| {
+        let known = Known::by_chance(random, own);
         let high = HIGH.map(|more| own.segments() + more);
-        let widths = (0..MOST_WIDTH).chain(high).chain([usize::MAX]);
-        let [first, second] = [random.bytes(), random.bytes()];
-        for width in widths {
-            let call = |node: usize, local: usize, write| Call::NewCluster {
-                node: node as u32,
-                local: local as u32,
-                width,
-                read: first,
-                write,
-            };
-            for call in [
-                call(NODE, LOCAL + 1, second),
-                call(NODE, LOCAL + 1, first),
-                call(NODE, LOCAL, second),
-                call(NODES, LOCAL, second),
-            ] {
-                put(guard, &known.held, &Question::of(call), &mut asked)?;
+        let [read, other] = [random.bytes(), random.bytes()];
+        let next = LOCAL + 1;
+        for width in (0..MOST_WIDTH).chain(high).chain([usize::MAX]) {
+            for (node, local, write) in
+                [(NODE, next, other), (NODE, next, read), (NODE, LOCAL, other), (NODES, LOCAL, other)]
+            {
+                let call = Call::NewCluster { node: node as u32, local: local as u32, width, read, write };
+                put(guard, &mut Sides::both(known.held.clone()), &Question::of(call), asked)?;
             }
         }
         Ok(())
-    })?;
-    Ok(asked)
+    })
+}
+
+/// Something that makes a handle of bytes; [`crate::guard::handle_of`] is the one to be compared.
+pub type Maker<'a> = &'a dyn Fn(&[u8]) -> (u8, gelmuszta_handle);
+
+/// Lengths are tried up to so many, where one more byte is begun twice over.
+const MOST_LENGTH: usize = 600;
+
+pub fn handles(make: Maker, seed: u64) -> Result<Asked, String> {
+    each(seed, 0..=MOST_LENGTH, |random, length, asked| {
+        let given = bytes(random, length);
+        let is_known = Width::of_handle_bytes(length).is_some();
+        let expected = match is_known {
+            true => (DONE, gelmuszta_handle::of(&given, &[0; HANDLE_MAX])),
+            false => (model::table::LENGTH, gelmuszta_handle::NONE),
+        };
+        let (number, handle) = make(&given);
+        count(asked, is_known);
+        same_bytes("numbers", &[expected.0], &[number])
+            .and_then(|()| same_bytes("bytes", &expected.1.bytes, &handle.bytes))
+            .and_then(|()| same_bytes("lengths", &[expected.1.length], &[handle.length]))
+            .map_err(|what| format!("a handle of {length} bytes: {what}"))
+    })
 }

@@ -48,8 +48,7 @@ impl Lent<'_> {
             }
             Call::Reduce { mode, .. } => giving(|given| ffi::gelmuszta_reduce(image, wide(mode), handle, given)),
             Call::NewPassword { mode, password, .. } => {
-                let password = password_of(password);
-                giving(|given| ffi::gelmuszta_new_password(image, wide(mode), handle, password, given))
+                giving(|given| ffi::gelmuszta_new_password(image, wide(mode), handle, password_of(password), given))
             }
             Call::Freeze { node, segment, .. } => {
                 bare(ffi::gelmuszta_freeze(image, wide(node), wide(segment), handle))

@@ -65,26 +65,18 @@ pub fn convert(password: &Password, parameter: u16) -> Password {
 
 /// Validates the handles of one width that stand in `handles` one after the other; gives how many were judged.
 pub fn validate_all(held: &mut Held, mode: usize, width: usize, handles: &[u8], numbers: &mut [u8]) -> usize {
+    let image = image_of(&mut held.image);
+    let (handles, length) = (handles.as_ptr(), handles.len());
+    let (numbers, places) = (numbers.as_mut_ptr(), numbers.len());
     // SAFETY: see the head of this file.
-    unsafe {
-        ffi::gelmuszta_validate_all(
-            image_of(&mut held.image),
-            mode,
-            width,
-            handles.as_ptr(),
-            handles.len(),
-            numbers.as_mut_ptr(),
-            numbers.len(),
-        )
-    }
+    unsafe { ffi::gelmuszta_validate_all(image, mode, width, handles, length, numbers, places) }
 }
 
 /// Puts a question to the library.
 pub fn ask(held: &mut Held, question: &Question) -> Answer {
     let mut buffer = question.buffer.clone();
     let lent = Lent { image: &mut held.image, memory: &mut held.memory, buffer: &mut buffer };
-    let presented = Presented::of(&question.call, &question.behind);
-    let reply = lent.run(&question.call, &presented, question.beyond);
+    let reply = lent.run(&question.call, &Presented::of(&question.call, &question.behind), question.beyond);
     Answer { reply, buffer }
 }
 

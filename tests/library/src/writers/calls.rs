@@ -1,8 +1,5 @@
 //! Calls by chance for a list: half of them by those who write to the cluster, many about others of its node.
 
-use crate::chance::handles::of_another_width;
-use crate::chance::questions::{Maker, FILLING};
-use crate::chance::stores::gaps;
 use crate::pairs::{does, names, validates, Pair};
 use crate::words::*;
 use std::ops::Range;
@@ -43,11 +40,6 @@ impl Asking {
         }
     }
 
-    /// Whether nothing of the cluster is frozen at the start.
-    pub fn begins_unfrozen(self) -> bool {
-        self != Asking::Freezing
-    }
-
     /// The codes of what writers do in the list's call of this number.
     fn codes(self, at: u64) -> Vec<u8> {
         let more: &[u8] = match self {
@@ -83,13 +75,12 @@ impl Asking {
 
 impl Made<'_> {
     fn question(mut self, writing: &[u8]) -> Question {
-        let (node, local) = self.pair.apart;
-        let active = self.store.clusters[node][local].active;
+        let active = self.pair.cluster(self.store).active;
         match self.random.below(16) {
             0 => self.anew(),
             1 | 2 if !active => self.anew(),
             1..=7 => {
-                let mut question = self.likely((node, local), writing);
+                let mut question = self.likely(self.pair.apart, writing);
                 if self.random.one_in(4) {
                     self.guess(&mut question);
                 }
@@ -100,11 +91,7 @@ impl Made<'_> {
                 let beside = self.beside();
                 self.likely(beside, &BESIDE)
             }
-            _ => {
-                let (random, store, given) = (self.random, self.store, self.given);
-                let maker = &mut Maker { random, store, given };
-                maker.question(&FILLING)
-            }
+            _ => Maker { random: self.random, store: self.store, given: self.given }.question(&FILLING),
         }
     }
 
@@ -112,13 +99,8 @@ impl Made<'_> {
     fn anew(&mut self) -> Question {
         let (node, local) = self.pair.apart;
         let (read, write) = passwords(self.random);
-        Question::of(Call::NewCluster {
-            node: node as u32,
-            local: local as u32,
-            width: width(self.random).segments(),
-            read,
-            write,
-        })
+        let width = width(self.random).segments();
+        Question::of(Call::NewCluster { node: node as u32, local: local as u32, width, read, write })
     }
 
     /// A question of those who know one cluster alone; one that is done, if a few tries come to it.
@@ -137,9 +119,8 @@ impl Made<'_> {
     fn of(&mut self, place: (usize, usize), codes: &[u8]) -> Question {
         let mut known = Store::starting();
         known.clusters[place.0][place.1] = self.store.clusters[place.0][place.1];
-        let given = self.given.iter().filter(|handle| names(handle, place));
-        let maker = &mut Maker { random: self.random, store: &known, given: &given.copied().collect::<Vec<Handle>>() };
-        let mut question = maker.question(codes);
+        let given: Vec<Handle> = self.given.iter().filter(|handle| names(handle, place)).copied().collect();
+        let mut question = Maker { random: self.random, store: &known, given: &given }.question(codes);
         if let (Call::NewSegment { size, .. }, true) = (&mut question.call, self.random.one_in(2)) {
             let gap = self.random.pick(&gaps(self.store, place.0)).copied();
             *size = gap.map_or(*size, |gap| gap.length as u32);
@@ -158,9 +139,8 @@ impl Made<'_> {
     /// One that may ask for reading by handles that write, by passwords that are one bit off, or by handles that would
     /// read if they were as wide as the cluster.
     fn as_if_to_read(&mut self) -> Question {
-        let (node, local) = self.pair.apart;
-        let cluster = self.store.clusters[node][local];
-        let question = self.of((node, local), &READING);
+        let cluster = self.pair.cluster(self.store);
+        let question = self.of(self.pair.apart, &READING);
         let (random, store) = (&mut *self.random, self.store);
         let other_width = random.one_in(4);
         question.with_handles(|handle| {
@@ -182,17 +162,14 @@ impl Made<'_> {
         let (node, local) = self.pair.apart;
         let active = |other: &usize| *other != local && self.store.clusters[node][*other].active;
         let others: Vec<usize> = (0..CLUSTERS).filter(active).collect();
-        let next = (local + 1) % CLUSTERS;
-        (node, self.random.pick(&others).copied().unwrap_or(next))
+        (node, self.random.pick(&others).copied().unwrap_or((local + 1) % CLUSTERS))
     }
 }
 
 /// The part of the memory that a write to a segment of the cluster is about.
 pub(super) fn written_part(store: &Store, pair: &Pair, question: &Question) -> Option<Range<usize>> {
     let Call::Write { segment, handle } = &question.call else { return None };
-    let handle = Handle::from_bytes(handle)?;
-    let (node, local) = Some(pair.apart).filter(|_| pair.is_apart(&handle))?;
-    let segments = &store.clusters[node][local].segments;
-    let extent = segments.get(*segment as usize)?.extent()?;
-    Some(extent.in_memory(node))
+    let handle = Handle::from_bytes(handle).filter(|handle| pair.is_apart(handle))?;
+    let segments = &store.cluster_of(&handle)?.segments;
+    Some(segments.get(*segment as usize)?.extent()?.in_memory(handle.node.into()))
 }

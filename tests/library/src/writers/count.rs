@@ -3,7 +3,6 @@
 use super::{calls::written_part, freed::Freed};
 use crate::pairs::{parts_of, validates, Pair};
 use crate::words::*;
-use model::met::Met;
 
 /// What the freedom of writers allows, by name.
 pub type Deed = &'static str;
@@ -44,8 +43,7 @@ fn written_at(width: Width) -> String {
 }
 
 pub fn met() -> Met {
-    let due = DEEDS.into_iter().chain([DIFFERING]).map(String::from).chain(Width::ALL.map(written_at));
-    Met::new("writers", due)
+    Met::new("writers", DEEDS.into_iter().chain([DIFFERING]).map(String::from).chain(Width::ALL.map(written_at)))
 }
 
 /// One list, and what it has come to so far.
@@ -60,15 +58,14 @@ pub(super) struct Watch<'a> {
 
 impl Watch<'_> {
     pub fn of<'a>(met: &'a mut Met, pair: &Pair, [store, _]: &[Store; 2]) -> Watch<'a> {
-        Watch { met, freed: Freed::new(pair.apart), width: cluster_of(pair, store).width, anew: false, guess: false }
+        Watch { met, freed: Freed::new(pair.apart), width: pair.cluster(store).width, anew: false, guess: false }
     }
 
     /// What can be told of a question only before it is asked.
     pub fn expect(&mut self, pair: &Pair, [store, _]: &[Store; 2], question: &Question) {
         self.guess = written_part(store, pair, question).is_some_and(|part| {
             let data = question.buffer.get(..part.len());
-            let lies_there = |copy: &Held| data == Some(&copy.memory[part.clone()]);
-            let [one, other] = pair.copies.each_ref().map(lies_there);
+            let [one, other] = pair.copies.each_ref().map(|copy| data == Some(&copy.memory[part.clone()]));
             one != other
         });
     }
@@ -84,24 +81,18 @@ impl Watch<'_> {
         if !answer.reply.is_done() {
             return;
         }
-        if call.needed_mode().is_some() && call.presented().all(|handle| pair.is_apart(&handle)) {
-            if in_one(pair, before, Cluster::has_equal_passwords) {
-                self.met.note("ByBothInOne");
-            }
-        }
+        let judged = call.needed_mode().is_some() && call.presented().all(|handle| pair.is_apart(&handle));
+        self.met.note_if(judged && pair.in_one(before, Cluster::has_equal_passwords), "ByBothInOne");
         let shown = match call {
             Call::Read { .. } => answer.buffer.get(..answer.reply.length as usize),
             _ => answer.shown(&pair.copies[0]),
         };
-        let stores = [&before[0], &after[0]];
-        if let Some(deed) = self.freed.note(stores, call, shown.unwrap_or_default()) {
-            self.met.note(deed);
-        }
+        self.met.note_all(self.freed.note([&before[0], &after[0]], call, shown.unwrap_or_default()));
     }
 
     /// What the cluster is since, if it is there.
     fn note_width(&mut self, pair: &Pair, store: &Store) {
-        let width = cluster_of(pair, store).width;
+        let width = pair.cluster(store).width;
         match width {
             0 => return,
             _ if width > self.width => self.met.note("MadeWider"),
@@ -118,17 +109,13 @@ impl Watch<'_> {
         }
         let weaker = call.presented().any(|handle| !handle.selector.is_primary());
         self.anew |= deed == "MadeAnew";
-        let more = match deed {
-            "Written" => {
-                vec![(weaker, "WrittenByAWeaker"), (self.guess, "WrittenGuess"), (self.anew, "WrittenAnew")]
-            }
-            "Deleted" => vec![(self.anew, "DeletedAnew")],
-            "Guessed" => vec![(true, "NewPassword")],
-            _ => vec![],
+        let more: &[_] = match deed {
+            "Written" => &[(weaker, "WrittenByAWeaker"), (self.guess, "WrittenGuess"), (self.anew, "WrittenAnew")],
+            "Deleted" => &[(self.anew, "DeletedAnew")],
+            "Guessed" => &[(true, "NewPassword")],
+            _ => &[],
         };
-        for (_, deed) in more.into_iter().filter(|(is_so, _)| *is_so) {
-            self.met.note(deed);
-        }
+        more.iter().for_each(|(is_so, deed)| self.met.note_if(*is_so, deed));
     }
 
     /// The copies are these stores at the end.
@@ -136,13 +123,9 @@ impl Watch<'_> {
         let [first, second] = &pair.copies;
         let bytes =
             parts_of(&stores[0], pair.apart).into_iter().any(|part| first.memory[part.clone()] != second.memory[part]);
-        let [one, other] = stores.each_ref().map(|store| cluster_of(pair, store).read);
+        let [one, other] = stores.each_ref().map(|store| pair.cluster(store).read);
         self.met.note_if(bytes && one != other, DIFFERING);
     }
-}
-
-fn cluster_of<'a>(pair: &Pair, store: &'a Store) -> &'a Cluster {
-    &store.clusters[pair.apart.0][pair.apart.1]
 }
 
 /// What a call with this number comes to at the cluster. The copies were these stores before it.
@@ -151,23 +134,18 @@ fn of_cluster(pair: &Pair, stores: &[Store; 2], call: &Call, number: u8) -> Opti
         let own = (*node as usize, *local as usize) == pair.apart;
         return (own && number == DONE).then_some("MadeAnew");
     }
-    let known = call.presented().count() == call.presented_bytes().count();
-    if !known || !call.presented().all(|handle| pair.is_apart(&handle)) {
+    if !call.presented_bytes().all(|bytes| pair.is_named_by(bytes)) {
         return None;
     }
-    let open = |mode: Mode| {
-        let opens = |handle: Handle| validates(stores, &handle, &[mode]);
-        call.presented().all(opens)
-    };
+    let open = |mode: Mode| call.presented().all(|handle: Handle| validates(stores, &handle, &[mode]));
     match (call, number) {
         (Call::Weaken { .. }, DONE) => open(Mode::Read).then_some("ReaderWeakened"),
         (Call::Weaken { .. }, _) => None,
         (_, DONE) => done(pair, stores, call),
         (_, INACTIVE) => Some("WhileDeleted"),
         (_, LENGTH) if call.needed_mode() == Some(Mode::Read) => {
-            let [read, _] = stores.each_ref().map(|store| cluster_of(pair, store).read);
-            let made_from = |handle: Handle| handle.is_made_from(&read);
-            call.presented().any(made_from).then_some("ReaderOfAnotherWidth")
+            let read = pair.cluster(&stores[0]).read;
+            call.presented().any(|handle: Handle| handle.is_made_from(&read)).then_some("ReaderOfAnotherWidth")
         }
         (Call::Write { .. }, FROZEN) => Some("FrozenNotWritten"),
         (Call::DeleteCluster { .. }, FROZEN) => Some("FrozenNotDeleted"),
@@ -190,19 +168,11 @@ fn done(pair: &Pair, stores: &[Store; 2], call: &Call) -> Option<Deed> {
         Call::DeleteSegment { .. } => Some("Deleted"),
         Call::Write { .. } => Some("Written"),
         Call::Reduce { .. } => Some("Reduced"),
-        Call::NewPassword { password, .. } => match in_one(pair, stores, |cluster| cluster.read == *password) {
-            true => Some("Guessed"),
-            false => Some("NewPassword"),
-        },
+        Call::NewPassword { password, .. } if pair.in_one(stores, |own| own.read == *password) => Some("Guessed"),
+        Call::NewPassword { .. } => Some("NewPassword"),
         Call::Freeze { .. } => Some("Frozen"),
         Call::Join { .. } => Some("Joined"),
         Call::Validate { .. } => Some("Validated"),
         _ => None,
     }
-}
-
-/// Whether this is so of the cluster in one copy and not in the other.
-fn in_one(pair: &Pair, stores: &[Store; 2], is_so: impl Fn(&Cluster) -> bool) -> bool {
-    let [one, other] = stores.each_ref().map(|store| is_so(cluster_of(pair, store)));
-    one != other
 }

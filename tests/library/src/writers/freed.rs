@@ -41,8 +41,7 @@ impl Freed {
                 None
             }
             (Call::Read { .. } | Call::Look { .. }, Some(named)) => {
-                let zeros = shown.iter().all(|byte| *byte == 0);
-                (zeros && self.made.contains(&named)).then_some("ReadByAnother")
+                (shown.iter().all(|byte| *byte == 0) && self.made.contains(&named)).then_some("ReadByAnother")
             }
             _ => None,
         }

@@ -6,14 +6,11 @@ mod calls;
 mod count;
 mod freed;
 
-use crate::chance::handles::everywhere;
-use crate::chance::stores::{self, gaps, Fill};
 use crate::pairs::{ask_both, parts_of, set_apart, Pair};
 use crate::words::*;
 use calls::Asking;
 pub use count::met;
 use count::Watch;
-use model::met::Met;
 use std::ops::Range;
 
 /// Calls of one list.
@@ -38,8 +35,7 @@ fn one(guard: Guard, random: &mut Random, met: &mut Met) -> Result<(), String> {
     for at in 1..=LIST_CALLS {
         let question = asking.question(random, &pair, &stores, &given, at);
         watch.expect(&pair, &stores, &question);
-        let agree = |copies: &[Held; 2]| agree(copies, apart);
-        let answer = ask_both(guard, &mut pair.copies, &question, agree)
+        let answer = ask_both(guard, &mut pair.copies, &question, |copies| agree(copies, apart))
             .map_err(|what| format!("call {at} of the list: {what}"))?;
         let before = std::mem::replace(&mut stores, pair.stores()?);
         watch.note(&pair, [&before, &stores], &question, &answer);
@@ -53,11 +49,8 @@ fn by_chance(random: &mut Random, asking: Asking) -> Pair {
     let fill = FILLS[below(random, FILLS.len())];
     let mut store = stores::store(random, fill);
     let apart = set_apart(random, &store);
-    let cluster = &mut store.clusters[apart.0][apart.1];
-    if asking.begins_unfrozen() {
-        for segment in &mut cluster.segments {
-            segment.frozen = false;
-        }
+    if asking != Asking::Freezing {
+        store.clusters[apart.0][apart.1].segments.iter_mut().for_each(|segment| segment.frozen = false);
     }
     let mut first = stores::held(random, &store);
     let cluster = &mut store.clusters[apart.0][apart.1];
@@ -67,8 +60,7 @@ fn by_chance(random: &mut Random, asking: Asking) -> Pair {
     }
     let mut second = first.with(&store);
     for part in [parts_of(&store, apart), free(&store)].concat() {
-        let parts = [&mut first, &mut second].map(|held| &mut held.memory[part.clone()]);
-        differ(random, parts);
+        differ(random, [&mut first, &mut second].map(|held| &mut held.memory[part.clone()]));
     }
     Pair { copies: [first, second], apart }
 }
@@ -107,8 +99,7 @@ fn agree(copies: &[Held; 2], apart: (usize, usize)) -> Result<(), String> {
     let sound = copies.iter().all(is_sound);
     let store = decode(&first).filter(|_| sound);
     let store = store.ok_or("a copy is not sound")?;
-    let others = everywhere().filter(|place| *place != apart);
-    for part in others.flat_map(|place| parts_of(&store, place)) {
+    for part in everywhere().filter(|place| *place != apart).flat_map(|place| parts_of(&store, place)) {
         let [first, second] = copies.each_ref().map(|copy| &copy.memory[part.clone()]);
         same_bytes("segments of other clusters", first, second)?;
     }

@@ -3,17 +3,9 @@
 use crate::support::every::every;
 use crate::support::faults::{self, Kind, LOCAL, NODE};
 use crate::wide::{asked, held, local, primary, refused, READ, REST, WRITE};
-use library::chance::damage::{inflict, Damage, LAST_PLACE};
 use library::ffi::gelmuszta_handle;
-use library::guard;
 use library::words::*;
 use model::hexadecimal;
-
-fn given(held: &Held, call: Call) -> HandleBytes {
-    let (reply, _) = asked(held, &call);
-    assert_eq!(reply.number, 0, "{call:?}");
-    reply.first
-}
 
 /// What becomes of a primary handle that is weakened three times, byte by byte: four different subselectors at each
 /// width.
@@ -27,29 +19,22 @@ fn bytes_of_each_width() {
     ];
     for (width, masks, selector) in cases {
         let mut handle = primary(width, READ).to_bytes();
-        let mut password = READ;
-        let mut taken = Vec::new();
         for mask in masks {
-            handle = given(&held, Call::Weaken { mask, handle });
-            taken.push(handle.clone());
+            let (reply, _) = asked(&held, &Call::Weaken { mask, handle });
+            assert_eq!(reply.number, 0, "{width:?} {mask}");
+            handle = reply.first;
+            assert_eq!(asked(&held, &Call::validate(READ_MODE, handle.clone())).0, Reply::DONE);
         }
-        let end = hexadecimal::encode(&handle[19..]);
         let bytes = hexadecimal::decode(selector).expect("it is hexadecimal");
         let parts: Vec<u16> = match width {
             Width::Four => vec![(bytes[0] % 16).into(), (bytes[0] / 16).into(), (bytes[1] % 16).into()],
             Width::Eight => bytes[..3].iter().map(|byte| u16::from(*byte)).collect(),
             Width::Sixteen => bytes[..6].chunks(2).map(|pair| 256 * u16::from(pair[0]) + u16::from(pair[1])).collect(),
         };
-        for parameter in parts {
-            password = guard::convert(&password, parameter);
-        }
-        assert_eq!(end, selector, "{width:?}");
+        let password = parts.iter().fold(READ, |password, parameter| guard::convert(&password, *parameter));
         assert_eq!(handle[..3], [0, 1, local(width) as u8]);
         assert_eq!(handle[3..19], password);
-        for handle in taken {
-            let mode = READ_MODE;
-            assert_eq!(asked(&held, &Call::Validate { mode, handle }).0, Reply::DONE);
-        }
+        assert_eq!(handle[19..], bytes, "{width:?}");
     }
 }
 
@@ -62,10 +47,10 @@ fn the_record_of_a_new_cluster() {
         let (reply, after) = asked(&before, &call);
         assert_eq!(reply.number, 0);
         let mut made = before.clone();
-        let record = record_at(3, 5).start;
-        made.image[record..record + 2].copy_from_slice(&[1, width.number()]);
-        made.image[record + 2..record + 18].fill(0x11);
-        made.image[record + 18..record + 34].fill(0x22);
+        let record = &mut made.image[record_at(3, 5)];
+        record[..2].copy_from_slice(&[1, width.number()]);
+        record[2..18].fill(0x11);
+        record[18..34].fill(0x22);
         assert!(after == made);
     }
 }
@@ -74,8 +59,7 @@ fn the_record_of_a_new_cluster() {
 #[test]
 fn widths_of_records() {
     let before = held();
-    let reader = primary(Width::Eight, READ).to_bytes();
-    let validate = Call::validate(READ_MODE, reader);
+    let validate = Call::validate(READ_MODE, primary(Width::Eight, READ).to_bytes());
     for (node, place) in [(1, 3), (1, 6), (3, 7)] {
         let active = (node, place) == (1, 3);
         for width in 0..=u8::MAX {
@@ -94,8 +78,7 @@ fn widths_of_records() {
     for width in Width::ALL {
         for segment in 0..16 {
             let mut held = before.clone();
-            let place = segment_at(1, local(width), segment);
-            held.image[place].copy_from_slice(&[0x0f, 0xff, 0, 1, segment as u8 % 2]);
+            held.image[segment_at(1, local(width), segment)].copy_from_slice(&[0x0f, 0xff, 0, 1, segment as u8 % 2]);
             let sound = segment < width.segments();
             assert_eq!(guard::is_sound(&mut held.image), sound);
             assert_eq!(asked(&held, &validate).0.number, u8::from(!sound));
@@ -106,11 +89,9 @@ fn widths_of_records() {
 /// A mark byte of every value, in each segment, of a cluster that has it and of one that is inactive.
 #[test]
 fn marks_are_0_or_1() {
-    let right = faults::of(Kind::Freeze, Width::Eight).next();
-    let right = right.expect("the empty set is the first");
-    let clusters = [(NODE, LOCAL), (NODE, LOCAL - 1), LAST_PLACE];
+    let right = faults::of(Kind::Freeze, Width::Eight).next().expect("the empty set is the first");
     let before = stores::held(&mut Random::from_seed(4), &right.store);
-    for (node, local) in clusters {
+    for (node, local) in [(NODE, LOCAL), (NODE, LOCAL - 1), LAST_PLACE] {
         for segment in 0..SEGMENTS {
             let present = right.store.clusters[node][local].segments[segment].is_present();
             for mark in 0..=u8::MAX {
@@ -130,14 +111,13 @@ fn equal_passwords_are_sound_where_the_cluster_is_active() {
     for node in 0..4 {
         for local in 0..8 {
             let mut image = encode(&Store::starting());
-            let record = record_at(node, local);
-            image[record.start + 2..record.start + 34].fill(0x11);
+            let record = record_at(node, local).start;
+            image[passwords_at(node, local)].fill(0x11);
             assert!(!guard::is_sound(&mut image));
-            image[record.start] = 1;
+            image[record] = 1;
             for width in 0..=u8::MAX {
-                image[record.start + 1] = width;
-                let sound = [4, 8, 16].contains(&width);
-                assert_eq!(guard::is_sound(&mut image), sound);
+                image[record + 1] = width;
+                assert_eq!(guard::is_sound(&mut image), [4, 8, 16].contains(&width));
             }
         }
     }
@@ -157,16 +137,15 @@ fn batches_of_one_width() {
             Handle { node: 4, ..right },
             Handle { local: local(Width::ALL[(width as usize + 1) % 3]) as u8, ..right },
         ];
-        let mut joined = handles.map(|handle| handle.to_bytes()).concat();
-        joined.extend([0; 20]);
-        let mut numbers = [0x5a; 8];
-        let mode = READ_MODE as usize;
-        let count = guard::validate_all(&mut held, mode, width.segments(), &joined, &mut numbers);
-        assert_eq!((count, numbers), (6, [0, 9, 0, 8, 2, 25, 0x5a, 0x5a]));
-        for none in (0..=300).filter(|none| ![4, 8, 16].contains(none)) {
+        let joined = [handles.map(|handle| handle.to_bytes()).concat(), vec![0; 20]].concat();
+        let mut validated = |width| {
             let mut numbers = [0x5a; 8];
-            let count = guard::validate_all(&mut held, mode, none, &joined, &mut numbers);
-            assert_eq!((count, numbers), (0, [0x5a; 8]));
+            let count = guard::validate_all(&mut held, READ_MODE as usize, width, &joined, &mut numbers);
+            (count, numbers)
+        };
+        assert_eq!(validated(width.segments()), (6, [0, 9, 0, 8, 2, 25, 0x5a, 0x5a]));
+        for none in (0..=300).filter(|none| ![4, 8, 16].contains(none)) {
+            assert_eq!(validated(none), (0, [0x5a; 8]));
         }
     }
 }
@@ -187,10 +166,8 @@ fn lengths_that_no_handle_has() {
         let mut wrong = right.to_bytes();
         wrong.resize(length, 0xff);
         let right = right.to_bytes();
-        let mode = WRITE_MODE;
-        let second = Call::join(mode, right.clone(), wrong.clone());
-        let calls = every(&wrong, &right, REST).into_iter().chain([second]);
-        for (at, call) in calls.enumerate() {
+        let second = Call::join(WRITE_MODE, right.clone(), wrong.clone());
+        for (at, call) in every(&wrong, &right, REST).into_iter().chain([second]).enumerate() {
             refused(&sound, &call, 25);
             refused(&damaged[(length + at) % damaged.len()], &call, 25);
         }

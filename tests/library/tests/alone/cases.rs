@@ -1,13 +1,9 @@
 //! What is made by chance is what it says it is, and images read back as the stores they are of.
 
-use library::chance::damage::{inflict, Damage, LAST_PLACE};
-use library::chance::stores::{extents, gaps, held, store, Fill};
 use library::chance::words::WORD;
 use library::ffi::{gelmuszta_handle, HANDLE_MAX};
-use library::tally::Tally;
 use library::words::*;
 use library::{copies, stays, untold, writers};
-use model::met::Met;
 
 const HEADER: &str = include_str!("../../../../include/gelmuszta.h");
 const TIMES: usize = 200;
@@ -40,11 +36,9 @@ fn stores_are_sound_and_as_full_as_they_say() {
             let store = store(&mut random, fill);
             assert!(store.is_sound(MEMORY_BYTES));
             note_marks(&store, &mut marks);
-            let active = store.clusters.as_flattened().iter();
-            for cluster in active.filter(|cluster| cluster.active) {
+            for cluster in store.clusters.as_flattened().iter().filter(|cluster| cluster.active) {
                 equal[usize::from(cluster.has_equal_passwords())] += 1;
-                let width = cluster.known_width().expect("it is active");
-                widths[width as usize] += 1;
+                widths[cluster.known_width().expect("it is active") as usize] += 1;
             }
             for node in 0..NODES {
                 let taken: usize = extents(&store, node).iter().map(|part| part.length).sum();
@@ -53,11 +47,14 @@ fn stores_are_sound_and_as_full_as_they_say() {
                 match fill {
                     Fill::Empty => assert_eq!(taken, 0),
                     Fill::Partial => {}
-                    Fill::AtWords => assert!(borders(&store, node).all(about_a_word)),
+                    // Where its segments begin and end.
+                    Fill::AtWords => {
+                        let mut borders = extents(&store, node).into_iter().flat_map(|own| [own.base, own.end()]);
+                        assert!(borders.all(|byte| matches!(byte % WORD, 0 | 1 | 63)));
+                    }
                     Fill::NoByteFree => assert_eq!(free, 0),
                     Fill::NoSegmentAbsent => {
-                        let clusters = store.clusters[node].iter();
-                        let all: usize = clusters.map(|own| usize::from(own.width)).sum();
+                        let all: usize = store.clusters[node].iter().map(|own| usize::from(own.width)).sum();
                         assert_eq!(extents(&store, node).len(), all);
                     }
                 }
@@ -72,8 +69,7 @@ fn stores_are_sound_and_as_full_as_they_say() {
 /// Counts stores with segments none of which is frozen, with some that are, and with all of them frozen.
 fn note_marks(store: &Store, marks: &mut [usize; 3]) {
     let segments = store.clusters.as_flattened().iter();
-    let segments = segments.flat_map(|cluster| cluster.segments);
-    let present = segments.filter(|segment| segment.is_present());
+    let present = segments.flat_map(|cluster| cluster.segments).filter(|segment| segment.is_present());
     let (frozen, free): (Vec<_>, Vec<_>) = present.partition(|segment| segment.frozen);
     match (frozen.len(), free.len()) {
         (0, 0) => {}
@@ -83,28 +79,15 @@ fn note_marks(store: &Store, marks: &mut [usize; 3]) {
     }
 }
 
-/// Where the segments of a node begin and end.
-fn borders(store: &Store, node: usize) -> impl Iterator<Item = usize> {
-    let extents = extents(store, node).into_iter();
-    extents.flat_map(|extent| [extent.base, extent.end()])
-}
-
-fn about_a_word(byte: usize) -> bool {
-    matches!(byte % WORD, 0 | 1 | 63)
-}
-
 #[test]
 fn damage_is_damage_whatever_it_is_done_to() {
-    let mut random = Random::from_seed(3);
+    let random = &mut Random::from_seed(3);
     for _ in 0..TIMES {
         for (fill, damage) in Fill::ALL.iter().flat_map(|fill| Damage::ALL.map(|damage| (fill, damage))) {
-            let store = store(&mut random, *fill);
-            let mut held = held(&mut random, &store);
-            let place = match random.one_in(4) {
-                true => LAST_PLACE,
-                false => (below(&mut random, NODES), below(&mut random, CLUSTERS)),
-            };
-            inflict(&mut random, &mut held, damage, place);
+            let store = store(random, *fill);
+            let mut held = held(random, &store);
+            let place = if random.one_in(4) { LAST_PLACE } else { (below(random, NODES), below(random, CLUSTERS)) };
+            inflict(random, &mut held, damage, place);
             assert!(!is_sound(&held), "{damage:?} of {fill:?} at {place:?}");
         }
     }

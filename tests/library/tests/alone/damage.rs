@@ -4,7 +4,6 @@
 use crate::support::faults::{self, Kind, LOCAL, NODE};
 use crate::support::{joint, renewed};
 use crate::wide::{asked, held, primary, refused, READ};
-use library::chance::damage::{inflict, Damage, LAST_PLACE};
 use library::words::*;
 
 #[rustfmt::skip]
@@ -29,10 +28,8 @@ fn beside(random: &mut Random, (store, call): &(Store, Call), damage: Damage, pl
 #[test]
 fn whatever_else_is_wrong() {
     let random = &mut Random::from_seed(1);
-    let faulty = KINDS.into_iter().flat_map(faults::all);
-    let faulty = faulty.map(|faulty| (faulty.faults, (faulty.store, faulty.call)));
-    let joints = joint::all().step_by(EVERY);
-    let joints = joints.map(|joint| (joint.faults, (joint.store, joint.call)));
+    let faulty = KINDS.into_iter().flat_map(faults::all).map(|faulty| (faulty.faults, (faulty.store, faulty.call)));
+    let joints = joint::all().step_by(EVERY).map(|joint| (joint.faults, (joint.store, joint.call)));
     let renewed = renewed::all().map(|renewed| (renewed.faults, (renewed.store, renewed.call)));
     for (faults, asked) in faulty.chain(joints).chain(renewed) {
         if !faults.contains(&1) {
@@ -52,8 +49,7 @@ fn where_nothing_else_is() {
     let joined = joint::all().next().expect("the first is done");
     let renewed = renewed::all().filter(|new| new.faults.iter().all(|fault| *fault == 12));
     let renewed = renewed.map(|renewed| (renewed.store, renewed.call));
-    let all = right.into_iter().chain([(joined.store, joined.call)]);
-    for asked in all.chain(renewed) {
+    for asked in right.into_iter().chain([(joined.store, joined.call)]).chain(renewed) {
         for damage in Damage::ALL {
             for place in PLACES {
                 beside(random, &asked, damage, place);

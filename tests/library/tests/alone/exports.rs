@@ -8,13 +8,11 @@ const ARCHIVE: &str = concat!(env!("CARGO_MANIFEST_DIR"), "/../../target/staticl
 
 /// The names of the prototypes: what stands before the first parenthesis of a declaration, outside of comments, macros
 /// and functions that the header has whole.
-fn prototypes() -> BTreeSet<&'static str> {
-    let lines = HEADER.lines();
-    let declared = lines.filter(|line| line.starts_with(|c: char| c.is_ascii_alphabetic()));
+fn prototypes() -> BTreeSet<String> {
+    let declared = HEADER.lines().filter(|line| line.starts_with(|c: char| c.is_ascii_alphabetic()));
     let declared = declared.filter(|line| !line.starts_with("static "));
     let before = declared.filter_map(|line| Some(line.split_once('(')?.0));
-    let names = before.filter_map(|line| line.rsplit([' ', '*']).next());
-    names.collect()
+    before.filter_map(|line| line.rsplit([' ', '*']).next().map(String::from)).collect()
 }
 
 /// What a linker finds in the archive.
@@ -25,8 +23,7 @@ fn exported() -> BTreeSet<String> {
         .expect("nm comes with the compiler");
     assert!(names.status.success(), "{names:?}");
     let names = String::from_utf8(names.stdout).expect("names are text");
-    let fields = names.lines().map(|line| line.split(' ').collect::<Vec<_>>());
-    let symbols = fields.filter_map(|fields| match fields[..] {
+    let symbols = names.lines().filter_map(|line| match line.split(' ').collect::<Vec<_>>()[..] {
         [_, _, name] => Some(name.to_string()),
         _ => None,
     });
@@ -36,23 +33,19 @@ fn exported() -> BTreeSet<String> {
 #[test]
 fn the_archive_exports_the_header_s_functions() {
     let prototypes = prototypes();
-    let exported = exported();
-    let exported: BTreeSet<&str> = exported.iter().map(String::as_str).collect();
-    assert_eq!(exported, prototypes);
+    assert_eq!(exported(), prototypes);
     assert_eq!(prototypes.len(), 19);
 }
 
 #[test]
 fn the_library_has_the_header_s_version() {
-    let macros = ["MAJOR", "MINOR", "PATCH"].map(|part| {
+    let [major, minor, patch] = ["MAJOR", "MINOR", "PATCH"].map(|part| {
         let defined = format!("#define GELMUSZTA_VERSION_{part} ");
         let (_, rest) = HEADER.split_once(&defined).expect("it is defined");
         let (number, _) = rest.split_once('\n').expect("a line ends");
         number.parse::<u32>().expect("it is a number")
     });
-    let [major, minor, patch] = macros;
-    let text = format!("#define GELMUSZTA_VERSION \"{major}.{minor}.{patch}\"\n");
-    assert!(HEADER.contains(&text));
+    assert!(HEADER.contains(&format!("#define GELMUSZTA_VERSION \"{major}.{minor}.{patch}\"\n")));
     assert_eq!(guard::version(), major * 10000 + minor * 100 + patch);
     assert_eq!(guard::version(), 900);
 }

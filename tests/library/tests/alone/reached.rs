@@ -16,8 +16,7 @@ fn looks_and_freezes_at_the_edges() {
 /// Four nodes, two modes, three widths and five pairs of handles; of 89 rows of arguments one is right.
 #[test]
 fn joins_at_the_edges() {
-    let joins = edges::joins(&guard::ask, 3);
-    assert_eq!(joins, Ok((4 * 2 * 3 * 5 * 89, 4 * 2 * 3 * 5)));
+    assert_eq!(edges::joins(&guard::ask, 3), Ok((4 * 2 * 3 * 5 * 89, 4 * 2 * 3 * 5)));
 }
 
 #[test]
@@ -30,10 +29,8 @@ fn widths_at_the_edges() {
     let (calls, done) = edges::segments(&guard::ask, 5).expect("no difference");
     assert_eq!(calls, 3 * 3 * 2 * (6 * 24 + 6));
     assert!(done > 50, "{done}");
-    let (calls, done) = edges::new_clusters(&guard::ask, 5).expect("no difference");
-    assert_eq!((calls, done), (3 * 4 * 306, 3 * 3));
-    let batches = batch::every_width(&guard::validate_all, 5).expect("no difference");
-    assert_eq!(batches, 3 * 38 + (43 + 47 + 55));
+    assert_eq!(edges::new_clusters(&guard::ask, 5), Ok((3 * 4 * 306, 3 * 3)));
+    assert_eq!(batch::every_width(&guard::validate_all, 5).expect("no difference"), 3 * 38 + (43 + 47 + 55));
 }
 
 /// Often enough that another seed would do.
@@ -71,6 +68,5 @@ fn laws_come_to_all() {
     let met = untold::compare(&guard::ask, 3, 400).expect("the replies are the same");
     let guessed = ["Read", "Write"].map(|mode| format!("the {mode} password taken for the other mode"));
     has_met(&met, &[(&guessed[0], 100), (&guessed[1], 100)]);
-    let met = writers::compare(&guard::ask, 6, 200).expect("the copies agree");
-    has_met(&met, &[]);
+    has_met(&writers::compare(&guard::ask, 6, 200).expect("the copies agree"), &[]);
 }

@@ -1,7 +1,7 @@
 //! A store with a cluster of each width, and what the library says to calls about them.
 
 use crate::support::every::Rest;
-use library::{guard, words::*};
+use library::words::*;
 
 pub const READ: Password = [0x11; 16];
 pub const WRITE: Password = [0x22; 16];

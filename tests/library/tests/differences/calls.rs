@@ -1,11 +1,12 @@
 //! Document 01: wrong answers, wrong bytes left, arguments that are cut, batches, two copies, published handles.
 
+use crate::damage::{absent, records};
 use crate::words::*;
 use library::published;
 
 #[test]
 fn the_library_is_not_found_out() {
-    run("the library", &right(), &not_by([By::Single, By::Runs]));
+    run("the library", (right(), not_by([By::Single, By::Runs])));
 }
 
 table! {
@@ -41,26 +42,13 @@ fn imaging(change: fn(&mut Image)) -> Wrong {
     })
 }
 
-fn active_bytes_mended(image: &mut Image) {
-    for record in image.chunks_exact_mut(RECORD_BYTES) {
-        record[0] = record[0].min(1);
-    }
-}
-
-fn bases_of_absent_segments_cleared(image: &mut Image) {
-    for record in image.chunks_exact_mut(RECORD_BYTES) {
-        for place in record[SEGMENTS_AT..].chunks_exact_mut(SEGMENT_BYTES) {
-            if place[LENGTH_AT..MARK_AT] == [0, 0] {
-                place[..LENGTH_AT].fill(0);
-            }
-        }
-    }
-}
-
 // Damage that is overlooked, and arguments that are cut.
 table! {
-    any_active_byte_taken_for_active: imaging(active_bytes_mended) => by(By::Single, [Says("differ")]);
-    bases_of_absent_segments_overlooked: imaging(bases_of_absent_segments_cleared) => by(By::Single, [Says("differ")]);
+    any_active_byte_taken_for_active:
+        imaging(|image| records(image).for_each(|record| record[0] = record[0].min(1)))
+        => by(By::Single, [Says("differ")]);
+    bases_of_absent_segments_overlooked: imaging(|image| absent(image).for_each(|place| place[..LENGTH_AT].fill(0)))
+        => by(By::Single, [Says("differ")]);
     numbers_cut_to_four_bytes: cut_to(4) => told([REPLIES]);
     numbers_cut_to_six_bytes: cut_to(6) => told([REPLIES]);
     segments_cut_to_one_byte: asking(|question| {
@@ -71,45 +59,30 @@ table! {
 }
 
 /// Modes of one call that are cut: to one byte, and to four where no four bytes hold them.
-mod modes {
-    use super::*;
+fn one_byte(code: u8) -> Row {
+    let wrong = asking(move |question| match (question.code() == code, question.numbers_mut()) {
+        (true, [.., Some(mode)]) => in_one_byte(mode),
+        _ => {}
+    });
+    (wrong, told([REPLIES, Right(3), Asks(code)]))
+}
 
-    fn one_byte(code: u8) -> Wrong {
-        asking(move |question| match (question.code(), &mut question.call) {
-            (own, Call::Reduce { mode, .. } | Call::NewPassword { mode, .. })
-            | (own, Call::Join { mode, .. } | Call::Validate { mode, .. })
-                if own == code && *mode != BEYOND =>
-            {
-                *mode &= 0xff;
-            }
-            _ => {}
-        })
-    }
+fn four_bytes(code: u8) -> Row {
+    (in_four_bytes(code), told([REPLIES, Right(3), Asks(code)]))
+}
 
-    fn four_bytes(code: u8) -> Wrong {
-        asking(move |question| {
-            if question.code() == code {
-                question.beyond &= 0xffff_ffff;
-            }
-        })
-    }
-
-    fn batch_mode(mask: usize) -> Wrong {
-        batch(move |held, (mode, width), handles, numbers| validate_all(held, (mode & mask, width), handles, numbers))
-    }
-
-    table! {
-        of_a_reduction_in_one_byte: one_byte(REDUCE) => told([REPLIES, Right(3), Asks(REDUCE)]);
-        of_a_reduction_in_four_bytes: four_bytes(REDUCE) => told([REPLIES, Right(3), Asks(REDUCE)]);
-        of_a_new_password_in_one_byte: one_byte(NEW_PASSWORD) => told([REPLIES, Right(3), Asks(NEW_PASSWORD)]);
-        of_a_new_password_in_four_bytes: four_bytes(NEW_PASSWORD) => told([REPLIES, Right(3), Asks(NEW_PASSWORD)]);
-        of_a_join_in_one_byte: one_byte(JOIN) => told([REPLIES, Right(3), Asks(JOIN)]);
-        of_a_join_in_four_bytes: four_bytes(JOIN) => told([REPLIES, Right(3), Asks(JOIN)]);
-        of_a_validation_in_one_byte: one_byte(VALIDATION) => told([REPLIES, Right(3), Asks(VALIDATION)]);
-        of_a_validation_in_four_bytes: four_bytes(VALIDATION) => told([REPLIES, Right(3), Asks(VALIDATION)]);
-        of_a_batch_in_one_byte: batch_mode(0xff) => by(By::Batches, [BATCH]);
-        of_a_batch_in_four_bytes: batch_mode(0xffff_ffff) => by(By::Batches, [BATCH]);
-    }
+table! {
+    mod modes;
+    of_a_reduction_in_one_byte: one_byte(REDUCE);
+    of_a_reduction_in_four_bytes: four_bytes(REDUCE);
+    of_a_new_password_in_one_byte: one_byte(NEW_PASSWORD);
+    of_a_new_password_in_four_bytes: four_bytes(NEW_PASSWORD);
+    of_a_join_in_one_byte: one_byte(JOIN);
+    of_a_join_in_four_bytes: four_bytes(JOIN);
+    of_a_validation_in_one_byte: one_byte(VALIDATION);
+    of_a_validation_in_four_bytes: four_bytes(VALIDATION);
+    of_a_batch_in_one_byte: batch_taking(|mode, width| (mode & 0xff, width)) => by(By::Batches, [BATCHED]);
+    of_a_batch_in_four_bytes: batch_taking(|mode, width| (mode & 0xffff_ffff, width)) => by(By::Batches, [BATCHED]);
 }
 
 /// Two copies, batches and published handles, each for its own reason.
@@ -130,7 +103,7 @@ mod copies {
         a_batch_that_clears_the_other_places: batch(|held, how, handles, numbers| {
             numbers.fill(0);
             validate_all(held, how, handles, numbers)
-        }) => by(By::Batches, [BATCH]);
+        }) => by(By::Batches, [BATCHED]);
         a_batch_that_counts_a_handle_cut_short:
             batch(|held, how, handles, numbers| validate_all(held, how, handles, numbers).max(1))
             => by(By::Batches, [Says("0 are due")]);
@@ -142,8 +115,7 @@ mod copies {
         for line in published::TEXT.lines().filter(|line| line.contains('=')) {
             let (rest, last) = line.split_at(line.len() - 1);
             let other = if last == "0" { "1" } else { "0" };
-            let told = published::confirm(&format!("{rest}{other}"));
-            assert!(told.is_err(), "{line}");
+            assert!(published::confirm(&format!("{rest}{other}")).is_err(), "{line}");
         }
     }
 }

@@ -1,11 +1,8 @@
 //! Who finds a wrong library out, in which words, and the driver that sees to it.
 
 use crate::wrong::{on, right, Wrong};
-use library::question::{Held, LOOK, VALIDATION};
-use library::tally::Tally;
+use library::words::*;
 use library::{batch, copies, edges, laws, runs, single, stays, untold, writers};
-use model::call::{READ, WRITE};
-use model::listed;
 
 const SEED: u64 = 7;
 
@@ -74,12 +71,12 @@ pub const SHOWN: Word = Word::Says("the bytes shown differ");
 pub const RECORDS: Word = Word::Says("records of the copies differ");
 pub const MORE: Word = Word::Says("a refusal gives more than its number");
 pub const REFUSAL_CHANGES: Word = Word::Says("a refusal changes something");
-pub const BATCH: Word = Word::Says("numbers of a batch differ");
+pub const BATCHED: Word = Word::Says("numbers of a batch differ");
 
 impl Word {
     fn is_in(self, told: &str) -> bool {
         match self {
-            Word::Call(code) => told.contains(&format!("asked: {} ", name(code))),
+            Word::Call(code) => told.contains(&format!("asked: {} ", named(code))),
             Word::Right(number) => told.contains(&format!("model: number {number},")),
             Word::Gives(number) => told.contains(&format!("library: number {number},")),
             Word::Says(words) => told.contains(words),
@@ -89,19 +86,13 @@ impl Word {
 }
 
 /// What a call is named where it is told.
-fn name(code: u8) -> &'static str {
+fn named(code: u8) -> String {
+    let capital = |word: &str| word[..1].to_uppercase() + &word[1..];
     match code {
-        LOOK => "Look",
-        VALIDATION => "Validate",
-        _ => NAMES[usize::from(code) - 1],
+        VALIDATION => "Validate".to_string(),
+        _ => name(code).split(' ').map(capital).collect(),
     }
 }
-
-#[rustfmt::skip]
-const NAMES: [&str; 11] = [
-    "NewCluster", "DeleteCluster", "NewSegment", "DeleteSegment", "Read", "Write", "Weaken", "Reduce", "NewPassword",
-    "Freeze", "Join",
-];
 
 /// Who has to find a library out, each in these words, and who has not.
 #[derive(Default)]
@@ -124,18 +115,15 @@ impl Complaint {
     /// `Err` tells who did not find the library out, or in other words, or who did and should not.
     fn judge(&self, wrong: &Wrong, one_of: u64) -> Result<(), String> {
         for (by, words) in &self.found {
-            let told = by.compare(wrong, one_of).err();
-            let told = told.ok_or(format!("not found out by {by:?}"))?;
-            let plain: Vec<&str> = told.split_whitespace().collect();
-            let plain = plain.join(" ");
+            let told = by.compare(wrong, one_of).err().ok_or(format!("not found out by {by:?}"))?;
+            let plain = told.split_whitespace().collect::<Vec<_>>().join(" ");
             let in_cases = !matches!(by, By::Single | By::Runs) || plain.starts_with("case ");
             if !in_cases || !words.iter().all(|word| word.is_in(&plain)) {
                 return Err(format!("found out by {by:?} in other words: {told}"));
             }
         }
         for by in &self.not_found {
-            let compared = by.compare(wrong, one_of);
-            compared.map_err(|told| format!("found out by {by:?}: {told}"))?;
+            by.compare(wrong, one_of).map_err(|told| format!("found out by {by:?}: {told}"))?;
         }
         Ok(())
     }
@@ -157,14 +145,15 @@ pub fn numbers(code: u8, right: u8, wrong: u8) -> Complaint {
 
 /// By none of these.
 pub fn not_by<const N: usize>(finders: [By; N]) -> Complaint {
-    let not_found = finders.to_vec();
-    let found = Vec::new();
-    Complaint { found, not_found }
+    Complaint { not_found: finders.to_vec(), ..Complaint::default() }
 }
 
+/// What is wrong, and who has to find it out.
+pub type Row = (Wrong, Complaint);
+
 /// Runs one row.
-pub fn run(name: &str, wrong: &Wrong, complaint: &Complaint) {
-    if let Err(what) = complaint.judge(wrong, 1) {
+pub fn run(name: &str, (wrong, complaint): Row) {
+    if let Err(what) = complaint.judge(&wrong, 1) {
         panic!("{name}: {what}");
     }
 }
@@ -177,15 +166,14 @@ pub fn run(name: &str, wrong: &Wrong, complaint: &Complaint) {
 fn nothing_wrong_is_no_row() {
     let long = [By::EveryByte, By::AtWords, By::Masks];
     for finder in By::ALL.into_iter().filter(|by| !long.contains(by)) {
-        let told = by(finder, []).judge(&right(), 20);
-        assert_eq!(told, Err(format!("not found out by {finder:?}")));
+        assert_eq!(by(finder, []).judge(&right(), 20), Err(format!("not found out by {finder:?}")));
     }
 }
 
 #[test]
 #[should_panic(expected = "its_name: not found out by Laws")]
 fn a_row_that_fails_is_named() {
-    run("its_name", &right(), &by(By::Laws, []));
+    run("its_name", (right(), by(By::Laws, [])));
 }
 
 /// Other words, another number or another call than what is told, and a library found out that should not be.

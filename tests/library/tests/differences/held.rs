@@ -1,14 +1,13 @@
 //! Handles in 28 bytes: wrong about the length, about what lies behind it, and about bytes that came from elsewhere.
 
 use crate::words::*;
-use library::edges;
-use library::ffi::{gelmuszta_handle, HANDLE_MAX};
+use library::{edges, ffi::gelmuszta_handle, ffi::HANDLE_MAX};
 
 /// Takes the handles for others.
 fn taking(change: fn(&Question, &mut HandleBytes)) -> Wrong {
     asked(move |held, question| {
         let mut changed = question.clone();
-        for handle in changed.presented_mut() {
+        for handle in changed.call.presented_mut() {
             change(question, handle);
         }
         guard::ask(held, &changed)

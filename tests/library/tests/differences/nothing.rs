@@ -1,7 +1,6 @@
 //! §1, handles to nothing: libraries that give them, that refuse too much, or that look at 21 in another place.
 
 use crate::words::*;
-use library::compare::is_sound;
 
 /// A weakening, and what it got.
 pub struct Weakened {
@@ -49,39 +48,30 @@ pub fn weakening(other: impl Fn(&Weakened) -> Option<Reply> + 'static) -> Wrong 
 }
 
 /// Gives a handle in the place of 21, where this applies.
-fn giving(applies: fn(&Weakened) -> bool) -> Wrong {
-    weakening(move |it| (it.reply.number == 21 && applies(it)).then(|| it.to_nothing()))
+fn giving(applies: fn(&Weakened) -> bool) -> Row {
+    let wrong = weakening(move |it| (it.reply.number == 21 && applies(it)).then(|| it.to_nothing()));
+    (wrong, numbers(WEAKEN, 21, 0))
 }
 
 /// Gives this number in the place of another, where this applies.
-fn refusing(right: u8, wrong: u8, applies: fn(&Weakened) -> bool) -> Wrong {
-    weakening(move |it| refused_if(it.reply.number == right && applies(it), wrong))
-}
-
-/// Refuses a call with this code by a handle that references nothing.
-fn refused_to_nothing(code: u8) -> Wrong {
-    on(code, 0, |it| {
-        let handle = it.question.call.handle();
-        if handle.is_some_and(|handle| handle.selector.count() == 0) {
-            it.reply = Reply::refused(21);
-        }
-    })
+fn refusing(right: u8, wrong: u8, applies: fn(&Weakened) -> bool) -> Row {
+    let refusing = weakening(move |it| refused_if(it.reply.number == right && applies(it), wrong));
+    (refusing, numbers(WEAKEN, right, wrong))
 }
 
 table! {
-    nothing_left_and_a_handle_given: giving(|it| it.handle.selector.referenced() != 0) => numbers(WEAKEN, 21, 0);
-    nothing_left_looked_for_in_mask_0_alone: giving(|it| it.mask != 0) => numbers(WEAKEN, 21, 0);
-    nothing_excluded_and_the_handle_given_back: giving(Weakened::excludes_nothing) => numbers(WEAKEN, 21, 0);
-    spent_first: refusing(21, 17, |it| !it.excludes_nothing() && it.is_spent()) => numbers(WEAKEN, 21, 17);
-    empty_before_gapped: refusing(4, 21, Weakened::is_empty) => numbers(WEAKEN, 4, 21);
-    empty_before_no_such_place: refusing(2, 21, Weakened::is_empty) => numbers(WEAKEN, 2, 21);
+    nothing_left_and_a_handle_given: giving(|it| it.handle.selector.referenced() != 0);
+    nothing_left_looked_for_in_mask_0_alone: giving(|it| it.mask != 0);
+    nothing_excluded_and_the_handle_given_back: giving(Weakened::excludes_nothing);
+    spent_first: refusing(21, 17, |it| !it.excludes_nothing() && it.is_spent());
+    empty_before_gapped: refusing(4, 21, Weakened::is_empty);
+    empty_before_no_such_place: refusing(2, 21, Weakened::is_empty);
     a_damaged_store_looked_at_first: at(21, |it| it.reply.number -= 20 * u8::from(!is_sound(it.held)))
         => by(By::Single, [Right(21), Gives(1)]);
-    one_segment_left_taken_for_none: refusing(0, 21, |it| it.reply.count == 1) => numbers(WEAKEN, 0, 21);
-    a_reduction_refused: refused_to_nothing(REDUCE) => numbers(REDUCE, 0, 21);
-    a_validation_refused: refused_to_nothing(VALIDATION) => numbers(VALIDATION, 0, 21);
+    one_segment_left_taken_for_none: refusing(0, 21, |it| it.reply.count == 1);
+    a_reduction_refused: refused(REDUCE, 0, 21, |seen| seen.handle.selector.count() == 0);
+    a_validation_refused: refused(VALIDATION, 0, 21, |seen| seen.handle.selector.count() == 0);
     a_refusal_that_gives_the_old_handle: weakening(|it| {
-        let given = Reply::with_handle(&it.handle);
-        (it.reply.number == 21).then_some(Reply { number: 21, ..given })
+        (it.reply.number == 21).then_some(Reply { number: 21, ..Reply::with_handle(&it.handle) })
     }) => by(By::Single, [MORE]);
 }

@@ -1,10 +1,8 @@
 //! A question as a wrong library sees it.
 
-use library::guard;
-use library::image::{decode, encode};
-use library::pairs::parts_of;
-use library::question::{Held, Question};
-use model::words::*;
+use crate::wrong::in_one_byte;
+use library::{pairs::parts_of, words::*};
+use std::ops::Range;
 
 /// A question by a handle of one of the three lengths, and what it is put to.
 pub struct Seen {
@@ -31,7 +29,7 @@ impl Seen {
     }
 
     /// Node and local number of the cluster that the handle names.
-    fn place(&self) -> (usize, usize) {
+    pub fn place(&self) -> (usize, usize) {
         (self.handle.node.into(), self.handle.local.into())
     }
 
@@ -47,27 +45,19 @@ impl Seen {
 
     /// The segment of that cluster.
     pub fn own(&self) -> Option<Segment> {
-        let segments = self.cluster()?.segments;
-        segments.get(self.segment as usize).copied()
+        self.cluster()?.segments.get(self.segment as usize).copied()
     }
 
     /// The bytes of that segment, where it is present.
     pub fn there(&self) -> Option<&[u8]> {
-        let part = self.own()?.extent()?.in_memory(self.handle.node.into());
-        self.held.memory.get(part)
+        self.held.memory.get(self.own()?.extent()?.in_memory(self.handle.node.into()))
     }
 
     /// Those of all segments of that cluster.
     pub fn in_the_cluster(&self) -> Vec<&[u8]> {
         let store = self.store.as_ref().filter(|_| self.cluster().is_some());
         let parts = store.map(|store| parts_of(store, self.place()));
-        let parts = parts.into_iter().flatten();
-        parts.map(|part| &self.held.memory[part]).collect()
-    }
-
-    pub fn is_nowhere(&self) -> bool {
-        let (node, local) = self.place();
-        node >= NODES || local >= CLUSTERS
+        parts.into_iter().flatten().map(|part| &self.held.memory[part]).collect()
     }
 
     pub fn is_no_segment(&self) -> bool {
@@ -84,7 +74,8 @@ impl Seen {
 
     /// The handle's place is one, and the current node is none.
     pub fn is_in_no_node(&self) -> bool {
-        !self.is_nowhere() && self.node as usize >= NODES
+        let (node, local) = self.place();
+        node < NODES && local < CLUSTERS && self.node as usize >= NODES
     }
 
     pub fn is_not_primary(&self) -> bool {
@@ -112,52 +103,49 @@ impl Seen {
     }
 
     pub fn has_equal_passwords(&self) -> bool {
-        let cluster = self.cluster();
-        cluster.is_some_and(|cluster| cluster.has_equal_passwords())
+        self.cluster().is_some_and(|cluster| cluster.has_equal_passwords())
     }
 
     pub fn mode(&self) -> Option<Mode> {
         self.question.call.needed_mode()
     }
 
-    /// The handle is not made from the password of the call's mode.
+    /// The password of the call's mode.
+    pub fn primary(&self) -> Option<Password> {
+        Some(*self.cluster()?.primary(self.mode()?))
+    }
+
     pub fn is_forged(&self) -> bool {
-        let needed = self.mode().zip(self.cluster());
-        needed.is_some_and(|(mode, own)| !self.handle.is_made_from(own.primary(mode)))
+        self.primary().is_some_and(|primary| !self.handle.is_made_from(&primary))
     }
 
     pub fn has_another_width(&self) -> bool {
-        let active = self.active();
-        active.is_some_and(|cluster| !cluster.has_width(self.handle.width()))
+        self.active().is_some_and(|cluster| !cluster.has_width(self.handle.width()))
     }
 
     /// What the library replies to the same call in the node of its handle.
     pub fn at_home(&self) -> Reply {
         self.asked(|_, question| {
-            if let Call::Look { node, .. } | Call::Freeze { node, .. } = &mut question.call {
+            if let [Some(node), ..] = question.numbers_mut() {
                 *node = self.handle.node.into();
             }
         })
-    }
-
-    pub fn is_violated_at_home(&self) -> bool {
-        self.at_home().number == 9
     }
 
     pub fn done_at_home(&self) -> Option<Reply> {
         Some(self.at_home()).filter(Reply::is_done)
     }
 
+    /// What it replies where some of its numbers are taken in their lowest byte alone, if that is done.
+    pub fn done_in_one_byte(&self, numbers: Range<usize>) -> Option<Reply> {
+        self.done(|_, question| question.numbers_mut()[numbers].iter_mut().flatten().for_each(|cut| in_one_byte(cut)))
+    }
+
     /// What it replies where the call is by the primary handle of its mode, if that is done.
     pub fn done_by_the_primary_handle(&self) -> Option<Reply> {
-        let password = *self.cluster()?.primary(self.mode()?);
         let (node, local) = self.handle.name();
-        let primary = Handle::primary(self.handle.width(), node, local, password);
-        self.done(|_, question| {
-            if let Some(handle) = question.handle_mut() {
-                *handle = primary.to_bytes();
-            }
-        })
+        let primary = Handle::primary(self.handle.width(), node, local, self.primary()?);
+        self.done(|_, question| *question.handle_mut().expect("there is one") = primary.to_bytes())
     }
 
     /// What it replies where the password of the call's mode is the other's, if that is done.

@@ -3,7 +3,6 @@
 
 use crate::renewals::{compared, giving, is_either, Asked};
 use crate::words::*;
-use library::chance::stores::{gaps, present};
 
 /// By a call with this code and in this word.
 fn told_by(code: u8, word: Word) -> Complaint {
@@ -22,17 +21,12 @@ fn is_zero(bytes: &[u8]) -> bool {
 }
 
 fn is_odd(seen: &Seen) -> bool {
-    let first = seen.there().and_then(|there| there.first());
-    first.is_some_and(|byte| byte % 2 == 1)
-}
-
-fn is_not_zero(seen: &Seen) -> bool {
-    seen.there().is_some_and(|there| !is_zero(there))
+    seen.there().and_then(|there| there.first()).is_some_and(|byte| byte % 2 == 1)
 }
 
 /// Refuses with 22, for what lies there, what would be done.
-fn kept_by(code: u8, applies: fn(&Seen) -> bool) -> Wrong {
-    refusing(code, 0, 22, applies)
+fn kept_by(code: u8, applies: fn(&Seen) -> bool) -> Row {
+    (refusing(code, 0, 22, applies), writers(code, REPLIES))
 }
 
 /// A write that is done comes to something else by what lay there.
@@ -61,23 +55,15 @@ fn in_either_mode(held: &mut Held, question: &Question, code: u8, meant: Mode) -
     guard::ask(held, &other)
 }
 
-/// The number is right, and what is there is in the buffer all the same.
-fn reading_and_refusing(held: &mut Held, question: &Question) -> Answer {
-    let reading = in_either_mode(held, question, READ, Mode::Read);
-    let reply = guard::ask(held, question).reply;
-    Answer { reply, ..reading }
-}
-
 // What hangs on the bytes of the segment, or of the cluster's segments.
 table! {
-    a_refusal_for_the_byte_that_is_there_write: kept_by(WRITE, is_odd) => writers(WRITE, REPLIES);
-    a_refusal_for_the_byte_that_is_there_delete: kept_by(DELETE_SEGMENT, is_odd) => writers(DELETE_SEGMENT, REPLIES);
-    a_refusal_for_the_byte_that_is_there_freeze: kept_by(FREEZE, is_odd) => writers(FREEZE, REPLIES);
+    a_refusal_for_the_byte_that_is_there_write: kept_by(WRITE, is_odd);
+    a_refusal_for_the_byte_that_is_there_delete: kept_by(DELETE_SEGMENT, is_odd);
+    a_refusal_for_the_byte_that_is_there_freeze: kept_by(FREEZE, is_odd);
     a_cluster_that_is_not_deleted_while_something_lies_there:
-        kept_by(DELETE_CLUSTER, |seen| !seen.in_the_cluster().into_iter().all(is_zero))
-        => writers(DELETE_CLUSTER, REPLIES);
-    a_segment_that_is_not_deleted_while_something_lies_there: kept_by(DELETE_SEGMENT, is_not_zero)
-        => writers(DELETE_SEGMENT, REPLIES);
+        kept_by(DELETE_CLUSTER, |seen| !seen.in_the_cluster().into_iter().all(is_zero));
+    a_segment_that_is_not_deleted_while_something_lies_there:
+        kept_by(DELETE_SEGMENT, |seen| seen.there().is_some_and(|there| !is_zero(there)));
     a_write_that_gives_back_what_was_there: written(|it, there| it.buffer[..there.len()].copy_from_slice(there))
         => writers(WRITE, BUFFERS);
     /// The data of some writes is what lies there in one of the copies.
@@ -91,34 +77,37 @@ table! {
         => writers(FREEZE, RECORDS);
     a_write_handle_that_reads_copying: either_mode(READ, Mode::Read) => writers(READ, BUFFERS);
     a_write_handle_that_reads_looking: either_mode(LOOK, Mode::Read) => writers(LOOK, SHOWN);
-    a_refusal_that_reads_by_a_write_handle: asked(reading_and_refusing) => writers(READ, BUFFERS);
+    /// The number is right, and what is there is in the buffer all the same.
+    a_refusal_that_reads_by_a_write_handle: asked(|held, question| {
+        let reading = in_either_mode(held, question, READ, Mode::Read);
+        Answer { reply: guard::ask(held, question).reply, ..reading }
+    }) => writers(READ, BUFFERS);
 }
 
 /// The new segment of a call 3 that was done, in its node.
 fn new_segment(it: &After) -> (usize, Extent) {
     let after = Seen::of(it.held, it.question);
-    let own = after.and_then(|seen| Some((seen.handle.node.into(), seen.own()?.extent()?)));
-    own.expect("it is done")
+    after.and_then(|seen| Some((seen.handle.node.into(), seen.own()?.extent()?))).expect("it is done")
 }
 
 /// Leaves some bytes of a new segment as they had been: those at these places, of so many.
-fn not_cleared(kept: fn(usize, usize) -> bool) -> Wrong {
-    on(NEW_SEGMENT, 0, move |it| {
+fn not_cleared(kept: fn(usize, usize) -> bool) -> Row {
+    let wrong = on(NEW_SEGMENT, 0, move |it| {
         let (node, extent) = new_segment(it);
         for (at, place) in extent.in_memory(node).enumerate() {
             if kept(at, extent.length) {
                 it.held.memory[place] = it.before.memory[place];
             }
         }
-    })
+    });
+    (wrong, writers(NEW_SEGMENT, SEGMENTS))
 }
 
 /// The least base at which so many zeros lie in memory that is no segment's.
 fn clean(held: &Held, store: &Store, node: usize, size: usize) -> Option<usize> {
     gaps(store, node).into_iter().find_map(|gap| {
         let mut zeros = 0;
-        let bytes = held.memory[gap.in_memory(node)].iter();
-        let last = bytes.enumerate().find(|(_, byte)| {
+        let last = held.memory[gap.in_memory(node)].iter().enumerate().find(|(_, byte)| {
             zeros = if **byte == 0 { zeros + 1 } else { 0 };
             zeros == size
         });
@@ -148,7 +137,7 @@ fn no_room(seen: &Seen) -> Option<Reply> {
 
 /// A new cluster has a segment already, which is cleared and as long as the first byte said that lay there.
 fn taken_over(it: &mut After) {
-    let (node, local) = it.cluster().expect("it is done");
+    let (node, local) = it.cluster();
     let mut store = decode(&it.held.image).expect("it was sound");
     if let Some(gap) = gaps(&store, node).first() {
         let memory = &mut it.held.memory[gap.in_memory(node)];
@@ -168,11 +157,10 @@ fn a_byte_more(it: &mut After) {
 
 // What hangs on memory that is no segment's, and that may have been one of the cluster's.
 table! {
-    a_new_segment_that_is_not_cleared: not_cleared(|_, _| true) => writers(NEW_SEGMENT, SEGMENTS);
-    a_new_segment_that_is_not_cleared_first: not_cleared(|at, _| at == 0) => writers(NEW_SEGMENT, SEGMENTS);
-    a_new_segment_that_is_not_cleared_last:
-        not_cleared(|at, length| at + 1 == length) => writers(NEW_SEGMENT, SEGMENTS);
-    a_new_segment_that_is_not_cleared_from_64_on: not_cleared(|at, _| at >= 64) => writers(NEW_SEGMENT, SEGMENTS);
+    a_new_segment_that_is_not_cleared: not_cleared(|_, _| true);
+    a_new_segment_that_is_not_cleared_first: not_cleared(|at, _| at == 0);
+    a_new_segment_that_is_not_cleared_last: not_cleared(|at, length| at + 1 == length);
+    a_new_segment_that_is_not_cleared_from_64_on: not_cleared(|at, _| at >= 64);
     a_new_segment_that_keeps_off_what_lies_there: on(NEW_SEGMENT, 0, in_clean_memory) => writers(NEW_SEGMENT, RECORDS);
     a_new_segment_that_keeps_off_what_lies_there_refused: instead(NEW_SEGMENT, 0, no_room)
         => writers(NEW_SEGMENT, REPLIES);
@@ -188,10 +176,6 @@ fn from_the_read_password(seen: &Seen, made: impl FnOnce(&Password) -> Handle) -
     Some(Reply::with_handle(&made(&cluster.read)))
 }
 
-fn reduced(seen: &Seen) -> Option<Reply> {
-    from_the_read_password(seen, |read| seen.handle.reduce(read))
-}
-
 fn joined(seen: &Seen) -> Option<Reply> {
     let other = seen.question.call.presented().nth(1)?;
     from_the_read_password(seen, |read| seen.handle.join(&other, read))
@@ -202,7 +186,9 @@ table! {
     /// So that 12 tells a guess at it.
     a_new_password_compared_with_both: compared(is_either) => writers(NEW_PASSWORD, REPLIES);
     a_new_password_that_is_answered_with_the_other: giving(Asked::other) => writers(NEW_PASSWORD, REPLIES);
-    a_handle_in_mode_2_made_from_the_read_password_reduced: instead(REDUCE, 0, reduced) => writers(REDUCE, REPLIES);
+    a_handle_in_mode_2_made_from_the_read_password_reduced:
+        instead(REDUCE, 0, |seen| from_the_read_password(seen, |read| seen.handle.reduce(read)))
+        => writers(REDUCE, REPLIES);
     a_handle_in_mode_2_made_from_the_read_password_joined: instead(JOIN, 0, joined) => writers(JOIN, REPLIES);
     a_write_handle_that_gets_a_read_handle_reduced: either_mode(REDUCE, Mode::Read) => writers(REDUCE, REPLIES);
     a_write_handle_that_gets_a_read_handle_joined: either_mode(JOIN, Mode::Read) => writers(JOIN, REPLIES);
@@ -211,25 +197,22 @@ table! {
         => writers(NEW_PASSWORD, REPLIES);
 }
 
-// A handle that reads in one copy alone writes there alone.
-mod a_read_handle_that_writes {
-    use super::*;
+/// A handle that reads in one copy alone writes there alone.
+fn writes(code: u8) -> Row {
+    (either_mode(code, Mode::Write), writers(code, REPLIES))
+}
 
-    fn writes(code: u8) -> Wrong {
-        either_mode(code, Mode::Write)
-    }
-
-    table! {
-        delete_cluster: writes(DELETE_CLUSTER) => writers(DELETE_CLUSTER, REPLIES);
-        new_segment: writes(NEW_SEGMENT) => writers(NEW_SEGMENT, REPLIES);
-        delete_segment: writes(DELETE_SEGMENT) => writers(DELETE_SEGMENT, REPLIES);
-        write: writes(WRITE) => writers(WRITE, REPLIES);
-        reduce: writes(REDUCE) => writers(REDUCE, REPLIES);
-        new_password: writes(NEW_PASSWORD) => writers(NEW_PASSWORD, REPLIES);
-        freeze: writes(FREEZE) => writers(FREEZE, REPLIES);
-        join: writes(JOIN) => writers(JOIN, REPLIES);
-        validation: writes(VALIDATION) => writers(VALIDATION, REPLIES);
-    }
+table! {
+    mod a_read_handle_that_writes;
+    delete_cluster: writes(DELETE_CLUSTER);
+    new_segment: writes(NEW_SEGMENT);
+    delete_segment: writes(DELETE_SEGMENT);
+    write: writes(WRITE);
+    reduce: writes(REDUCE);
+    new_password: writes(NEW_PASSWORD);
+    freeze: writes(FREEZE);
+    join: writes(JOIN);
+    validation: writes(VALIDATION);
 }
 
 /// Tells something of the read password of a handle's cluster: to those whose call is in this mode, and who present a
@@ -240,15 +223,10 @@ fn telling(mode: Mode, has_to_open: bool) -> Wrong {
         let cluster = seen.as_ref().and_then(Seen::active);
         if let (Some(seen), Some(cluster)) = (seen, cluster) {
             if !has_to_open || !seen.is_gapped() && seen.handle.validates(&cluster, mode) {
-                let read = cluster.read.iter();
-                it.reply.count = read.fold(0, |sum, byte| (sum * 31 + u32::from(*byte)) % 65_521);
+                it.reply.count = sum_of(&cluster.read);
             }
         }
     })
-}
-
-fn refuse(_: &mut Held, question: &Question) -> Answer {
-    Answer { reply: Reply::refused(9), buffer: question.buffer.clone() }
 }
 
 // What is told to those who read is not found out: no list has a call that asks for reading by a handle that reads.
@@ -264,9 +242,9 @@ table! {
 /// These are wrong and tell nothing. The last one validates a write handle for reading, in both copies.
 #[test]
 fn what_tells_nothing_is_not_found_out() {
+    let refusing = asked(|_, question| Answer { reply: Reply::refused(9), buffer: question.buffer.clone() });
     let clearing = after(|it| it.buffer.fill(0));
-    let validating = either_mode(VALIDATION, Mode::Read);
-    for wrong in [right(), asked(refuse), clearing, validating] {
-        run("nothing told", &wrong, &not_by([By::Writers]));
+    for wrong in [right(), refusing, clearing, either_mode(VALIDATION, Mode::Read)] {
+        run("nothing told", (wrong, not_by([By::Writers])));
     }
 }

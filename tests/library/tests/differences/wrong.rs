@@ -1,26 +1,18 @@
 //! Ways to be wrong that tables put together: another question, another answer, something left behind.
 
+use crate::driver::{numbers, Row};
 use crate::seen::Seen;
-use library::ffi::gelmuszta_handle;
-use library::guard;
-use library::image::{record_at, segment_at, Image};
-use library::question::{Answer, Held, Question};
-use model::call::{Call, Reply};
+use library::{ffi::gelmuszta_handle, words::*};
 use std::{ops::Range, rc::Rc};
 
-pub type Ask = dyn Fn(&mut Held, &Question) -> Answer;
-/// Mode and width are one argument.
-pub type Batch = dyn Fn(&mut Held, (usize, usize), &[u8], &mut [u8]) -> usize;
-pub type Judge = dyn Fn(&mut Image) -> bool;
-pub type Make = dyn Fn(&[u8]) -> (u8, gelmuszta_handle);
-
 /// A library: what it answers, how it judges many handles, which images it holds for sound, and what it makes of bytes.
+/// Mode and width of many handles are one argument.
 #[derive(Clone)]
 pub struct Wrong {
-    pub ask: Rc<Ask>,
-    pub batch: Rc<Batch>,
-    pub judge: Rc<Judge>,
-    pub make: Rc<Make>,
+    pub ask: Rc<dyn Fn(&mut Held, &Question) -> Answer>,
+    pub batch: Rc<dyn Fn(&mut Held, (usize, usize), &[u8], &mut [u8]) -> usize>,
+    pub judge: Rc<dyn Fn(&mut Image) -> bool>,
+    pub make: Rc<dyn Fn(&[u8]) -> (u8, gelmuszta_handle)>,
 }
 
 /// The library as it is.
@@ -71,6 +63,27 @@ pub fn cut_to(bytes: usize) -> Wrong {
     asking(move |question| question.beyond &= (1 << (8 * bytes)) - 1)
 }
 
+/// The same in calls with this code alone, for the lowest four.
+pub fn in_four_bytes(code: u8) -> Wrong {
+    asking(move |question| {
+        if question.code() == code {
+            question.beyond &= 0xffff_ffff;
+        }
+    })
+}
+
+/// Takes a number that four bytes hold for what its lowest says.
+pub fn in_one_byte(number: &mut u32) {
+    if *number != BEYOND {
+        *number &= 0xff;
+    }
+}
+
+/// Takes mode and width of a batch for others.
+pub fn batch_taking(taken: impl Fn(usize, usize) -> (usize, usize) + 'static) -> Wrong {
+    batch(move |held, (mode, width), handles, numbers| validate_all(held, taken(mode, width), handles, numbers))
+}
+
 /// What a call was asked of, what it was, and what has come of it.
 pub struct After<'a> {
     pub before: &'a Held,
@@ -85,28 +98,20 @@ impl After<'_> {
         self.question.code() == code && !self.reply.is_done()
     }
 
-    /// Node and local number of the cluster that it is about, if it names one.
-    pub fn cluster(&self) -> Option<(usize, usize)> {
-        match self.question.call {
-            Call::NewCluster { node, local, .. } => Some((node as usize, local as usize)),
-            _ => {
-                let handle = self.question.call.handle()?;
-                Some((handle.node.into(), handle.local.into()))
-            }
-        }
+    /// Node and local number of the cluster that it is about.
+    pub fn cluster(&self) -> (usize, usize) {
+        self.question.place().expect("it names one")
     }
 
     /// Where the record of a call that is done lies.
     pub fn record(&self) -> Range<usize> {
-        let (node, local) = self.cluster().expect("it is done to one");
-        record_at(node, local)
+        record_at(self.cluster().0, self.cluster().1)
     }
 
     /// Where its segment's place and mark lie; of segment 0 where it names none.
     pub fn place(&self) -> Range<usize> {
-        let (node, local) = self.cluster().expect("it is done to one");
-        let segment = self.question.call.segment().unwrap_or(0);
-        segment_at(node, local, segment as usize)
+        let (node, local) = self.cluster();
+        segment_at(node, local, self.question.call.segment().unwrap_or(0) as usize)
     }
 
     /// The bytes of its record, and of its segment's place and mark.
@@ -148,21 +153,20 @@ fn after_some(meant: impl Fn(&Question) -> bool + 'static, change: impl Fn(&mut 
 
 /// The same for calls that get this number.
 pub fn at(number: u8, change: impl Fn(&mut After) + 'static) -> Wrong {
-    after(move |after| {
-        if after.reply.number == number {
-            change(after);
-        }
-    })
+    after(getting(number, change))
 }
 
 /// The same for calls with this code that get this number.
 pub fn on(code: u8, number: u8, change: impl Fn(&mut After) + 'static) -> Wrong {
-    let meant = move |question: &Question| question.code() == code;
-    after_some(meant, move |after| {
+    after_some(move |question| question.code() == code, getting(number, change))
+}
+
+fn getting(number: u8, change: impl Fn(&mut After) + 'static) -> impl Fn(&mut After) + 'static {
+    move |after| {
         if after.reply.number == number {
             change(after);
         }
-    })
+    }
 }
 
 /// Gives calls with this code that get this number what `other` has for them; nothing changes then.
@@ -176,11 +180,35 @@ pub fn instead(code: u8, number: u8, other: impl Fn(&Seen) -> Option<Reply> + 's
     })
 }
 
+/// The same with one that is done, found out by that.
+pub fn done(code: u8, right: u8, other: impl Fn(&Seen) -> Option<Reply> + 'static) -> Row {
+    (instead(code, right, other), numbers(code, right, 0))
+}
+
 /// Refuses with `wrong` what gets `right`, where this applies.
 pub fn refusing(code: u8, right: u8, wrong: u8, applies: impl Fn(&Seen) -> bool + 'static) -> Wrong {
     instead(code, right, move |seen| refused_if(applies(seen), wrong))
 }
 
+/// The same, found out by the two numbers.
+pub fn refused(code: u8, right: u8, wrong: u8, applies: impl Fn(&Seen) -> bool + 'static) -> Row {
+    (refusing(code, right, wrong, applies), numbers(code, right, wrong))
+}
+
 pub fn refused_if(applies: bool, number: u8) -> Option<Reply> {
     applies.then_some(Reply::refused(number))
+}
+
+/// Takes any password in calls with this code.
+pub fn by_any_password(code: u8) -> Wrong {
+    on(code, 9, |it| {
+        let primary = it.seen().and_then(|seen| seen.primary()).expect("9 comes after 2");
+        let other = it.question.with_handles(|handle| handle.password = derive(&primary, &handle.selector));
+        it.reply = guard::ask(it.held, &other).reply;
+    })
+}
+
+/// A number that hangs on all of these bytes.
+pub fn sum_of(bytes: &[u8]) -> u32 {
+    bytes.iter().fold(0, |sum, byte| (sum * 31 + u32::from(*byte)) % 65_521)
 }

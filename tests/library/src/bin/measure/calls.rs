@@ -20,28 +20,14 @@ pub struct Row {
     pub place: (usize, usize),
 }
 
-/// The lines of one store, under its name.
-pub struct Group {
-    pub name: &'static str,
-    pub rows: Vec<Row>,
-}
-
-fn width_of(store: &Store, (node, local): (usize, usize)) -> Width {
-    let known = store.clusters[node][local].known_width();
-    known.expect("the cluster is active")
-}
-
-fn primary(store: &Store, place: (usize, usize), mode: Mode) -> Handle {
-    let (node, local) = place;
-    let password = *store.clusters[node][local].primary(mode);
-    Handle::primary(width_of(store, place), node as u16, local as u8, password)
+fn width_of(store: &Store) -> Width {
+    primary(store, PLACE, Mode::Read).width()
 }
 
 /// The handle with no subselector that is flat; two segments are taken away.
 fn weakest(primary: Handle) -> Handle {
     let flat = primary.width().flat();
-    let parts = [flat & !0x08, flat & !0x04, flat & !0x08, flat & !0x04];
-    let selector = Selector::new(primary.width(), parts);
+    let selector = Selector::new(primary.width(), [flat & !0x08, flat & !0x04, flat & !0x08, flat & !0x04]);
     Handle::converted(primary.node, primary.local, &primary.password, selector)
 }
 
@@ -52,78 +38,58 @@ pub fn many_handles(store: &Store, count: usize) -> Vec<u8> {
     all.into_iter().cycle().take(count).flatten().collect()
 }
 
-pub fn groups() -> [Group; 8] {
-    let (lone, eight, sixteen) = (lone(), typical(Width::Eight), typical(Width::Sixteen));
+/// The lines of each store, under its name.
+pub fn groups() -> [(&'static str, Vec<Row>); 8] {
+    let falling = |width: Width| new_segment(falling(width), width.segments() - 1);
     [
-        Group { name: "empty store", rows: vec![new_cluster(Store::starting(), Width::Eight)] },
-        Group {
-            name: "one cluster with two segments of 400 bytes, all others inactive",
-            rows: rows(&lone, lone.clone(), lone.clone(), THIRD),
-        },
-        Group { name: "typical store", rows: rows(&eight, eight.clone(), eight.clone(), THIRD) },
-        Group {
-            name: "the same with clusters of sixteen",
-            rows: rows(&sixteen, sixteen.clone(), sixteen.clone(), THIRD),
-        },
-        Group {
-            name: "full store; for calls 1 and 3 one cluster or one segment short of it",
-            rows: when_full(Width::Eight),
-        },
-        Group { name: "full store with clusters of sixteen, likewise", rows: when_full(Width::Sixteen) },
-        Group {
-            name: "the two full ones, segments from the highest base down and the free bytes highest",
-            rows: [Width::Eight, Width::Sixteen].map(|width| new_segment(falling(width), width.segments() - 1)).into(),
-        },
-        Group {
-            name: "a look beside a read of 4,096 bytes: one segment fills the node, the rest is typical",
-            rows: on_a_large_segment(&one_large()).into(),
-        },
+        ("empty store", vec![new_cluster(Store::starting(), Width::Eight)]),
+        ("one cluster with two segments of 400 bytes, all others inactive", when_there_is_room(lone())),
+        ("typical store", when_there_is_room(typical(Width::Eight))),
+        ("the same with clusters of sixteen", when_there_is_room(typical(Width::Sixteen))),
+        ("full store; for calls 1 and 3 one cluster or one segment short of it", when_full(Width::Eight)),
+        ("full store with clusters of sixteen, likewise", when_full(Width::Sixteen)),
+        (
+            "the two full ones, segments from the highest base down and the free bytes highest",
+            [Width::Eight, Width::Sixteen].map(falling).into(),
+        ),
+        (
+            "a look beside a read of 4,096 bytes: one segment fills the node, the rest is typical",
+            on_a_large_segment(&one_large()).into(),
+        ),
     ]
 }
 
+fn when_there_is_room(store: Store) -> Vec<Row> {
+    rows(&store, store.clone(), store.clone(), THIRD)
+}
+
 fn when_full(width: Width) -> Vec<Row> {
-    let last = width.segments() - 1;
-    let (for_cluster, for_segment) = (full_but_a_cluster(width), full_but_a_segment(width));
-    rows(&full(width), for_cluster, for_segment, last)
+    rows(&full(width), full_but_a_cluster(width), full_but_a_segment(width), width.segments() - 1)
 }
 
 /// Calls on a store; those that make something are done on stores that have room for it.
 fn rows(store: &Store, for_cluster: Store, for_segment: Store, segment: usize) -> Vec<Row> {
-    let made = [new_cluster(for_cluster, width_of(store, PLACE)), new_segment(for_segment, segment)];
+    let made = [new_cluster(for_cluster, width_of(store)), new_segment(for_segment, segment)];
     made.into_iter().chain(on_what_is_there(store)).collect()
 }
 
 fn new_cluster(store: Store, width: Width) -> Row {
     let (node, local) = FREE_PLACE;
-    let call = Call::NewCluster {
-        node: node as u32,
-        local: local as u32,
-        width: width.segments(),
-        read: [1; 16],
-        write: [2; 16],
-    };
+    let (node, local, width) = (node as u32, local as u32, width.segments());
+    let call = Call::NewCluster { node, local, width, read: [1; 16], write: [2; 16] };
     Row { name: "1 new cluster", store, call, place: FREE_PLACE }
 }
 
 /// As long as those that a full store has.
 fn new_segment(store: Store, segment: usize) -> Row {
-    let width = width_of(&store, PLACE);
-    let call = Call::new_segment(
-        PLACE.0 as u32,
-        segment as u32,
-        full_length(width) as u32,
-        primary(&store, PLACE, Mode::Write).to_bytes(),
-    );
-    Row {
-        name: match width {
-            Width::Four => "3 new segment, 128 bytes",
-            Width::Eight => "3 new segment, 64 bytes",
-            Width::Sixteen => "3 new segment, 32 bytes",
-        },
-        store,
-        call,
-        place: PLACE,
-    }
+    let (width, handle) = (width_of(&store), primary(&store, PLACE, Mode::Write));
+    let name = match width {
+        Width::Four => "3 new segment, 128 bytes",
+        Width::Eight => "3 new segment, 64 bytes",
+        Width::Sixteen => "3 new segment, 32 bytes",
+    };
+    let call = Call::new_segment(PLACE.0 as u32, segment as u32, full_length(width) as u32, handle);
+    Row { name, store, call, place: PLACE }
 }
 
 fn on_what_is_there(store: &Store) -> impl Iterator<Item = Row> + '_ {
@@ -169,6 +135,6 @@ fn row(store: &Store, (name, call): (&'static str, Call)) -> Row {
 /// It sees no store.
 pub fn weakening(name: &'static str, width: Width) -> Row {
     let store = typical(width);
-    let call = Call::weaken(MASK, primary(&store, PLACE, Mode::Read).to_bytes());
+    let call = Call::weaken(MASK, primary(&store, PLACE, Mode::Read));
     Row { name, store, call, place: PLACE }
 }

@@ -6,8 +6,8 @@ mod repeated;
 mod stores;
 
 use calls::{groups, many_handles, weakening, Row};
-use library::{guard, words::*};
-use repeated::{OnImage, OnRecords};
+use library::words::*;
+use repeated::Repeated;
 use std::{hint::black_box, time::Instant};
 use stores::{full, held, typical};
 
@@ -35,9 +35,8 @@ fn beside(
 ) -> Times {
     let mut best = [f64::MAX; 3];
     for _ in 0..rounds {
-        best[0] = best[0].min(round(calls, &mut library));
-        best[1] = best[1].min(round(calls, &mut on_image));
-        best[2] = best[2].min(round(calls, &mut on_records));
+        let times = [round(calls, &mut library), round(calls, &mut on_image), round(calls, &mut on_records)];
+        best = std::array::from_fn(|at| best[at].min(times[at]));
     }
     best
 }
@@ -92,19 +91,18 @@ fn soundness(name: &str, store: &Store) {
 /// how long it is; where the memories are the same too, so are the bytes shown.
 fn one_call(row: &Row) {
     let Row { name, call, .. } = row;
-    let [mut first, mut second] = [(); 2].map(|()| OnImage::new(&row.store, row.place, call));
-    let mut third = OnRecords::new(&row.store, row.place);
+    let [mut first, mut second, mut third] = [(); 3].map(|()| Repeated::new(row));
     let times = beside(
         ROUNDS,
         CALLS,
         || first.by_library(black_box(call)),
-        || second.by_model(black_box(call)),
-        || third.by_model(black_box(call)),
+        || second.on_image(black_box(call)),
+        || third.on_records(black_box(call)),
     );
     assert_eq!(first.reply.number, DONE, "{name} is done");
     assert!(first.reply == second.reply && second.reply == third.reply, "all reply the same");
     assert!(first.buffer == second.buffer && second.buffer == third.buffer);
-    assert!(first.held.memory == second.held.memory && second.held.memory == third.memory);
+    assert!(first.held.memory == second.held.memory && second.held.memory == third.held.memory);
     report(name, times);
 }
 
@@ -113,10 +111,8 @@ fn one_call(row: &Row) {
 fn validate_all(store: &Store, mode: u32, width: Width, handles: &[u8], numbers: &mut [u8]) {
     let found = Found::whole(store, 0);
     let sound = store.is_sound(found.memory_bytes);
-    let handles = handles.chunks_exact(width.handle_bytes());
-    for (number, bytes) in numbers.iter_mut().zip(handles) {
-        let handle = bytes.to_vec();
-        let call = Call::Validate { mode, handle };
+    for (number, bytes) in numbers.iter_mut().zip(handles.chunks_exact(width.handle_bytes())) {
+        let call = Call::validate(mode, bytes.to_vec());
         *number = if sound { refusal_below(UNSOUND, &call, &found).unwrap_or(DONE) } else { UNSOUND };
     }
 }
@@ -133,8 +129,7 @@ fn batch(name: &str, width: Width) {
         BATCH_ROUNDS,
         1,
         || {
-            let (mode, segments) = (READ_MODE as usize, width.segments());
-            guard::validate_all(&mut held, mode, segments, black_box(&handles), first);
+            guard::validate_all(&mut held, READ_MODE as usize, width.segments(), black_box(&handles), first);
         },
         || {
             let store = decode(black_box(&image)).expect("the image is not damaged");
@@ -142,10 +137,8 @@ fn batch(name: &str, width: Width) {
         },
         || validate_all(store, READ_MODE, width, black_box(&handles), third),
     );
-    let done = |numbers: &Vec<u8>| numbers.iter().all(|&number| number == DONE);
-    assert!(numbers.iter().all(done), "every handle validates");
-    let each = times.map(|time| time / BATCH_HANDLES as f64);
-    report(name, each);
+    assert!(numbers.iter().flatten().all(|&number| number == DONE), "every handle validates");
+    report(name, times.map(|time| time / BATCH_HANDLES as f64));
 }
 
 fn main() {
@@ -163,8 +156,8 @@ fn main() {
     batch("batch of 10,000, 4 not flat, for each handle", Width::Eight);
     batch("the same, of four", Width::Four);
     batch("the same, of sixteen", Width::Sixteen);
-    for group in groups() {
-        println!("{}", group.name);
-        group.rows.iter().for_each(one_call);
+    for (name, rows) in groups() {
+        println!("{name}");
+        rows.iter().for_each(one_call);
     }
 }

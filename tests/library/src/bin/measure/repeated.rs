@@ -1,37 +1,36 @@
 //! The same call done again and again: afterwards the record of its cluster is put back.
 
-use crate::stores::{held, memory};
+use crate::{calls::Row, stores::held};
 use library::{ffi::HANDLE_MAX, guard::handles::Presented, guard::Lent, words::*};
 use model::model::run;
-use std::{hint::black_box, ops::Range};
+use std::hint::black_box;
 
-/// A store as an image, for the library and for the model.
-pub struct OnImage {
+/// A store as an image, for the library and for the model, and as the model keeps it.
+pub struct Repeated {
     pub held: Held,
     pub reply: Reply,
     pub buffer: [u8; NODE_BYTES],
+    store: Store,
     /// As the library takes them.
     handles: Presented,
-    /// What weakening gets, which looks at no store.
-    unused: Store,
-    record: Range<usize>,
-    saved: [u8; RECORD_BYTES],
+    place: (usize, usize),
+    /// The record, and the cluster that it is of.
+    record: [u8; RECORD_BYTES],
+    cluster: Cluster,
 }
 
-impl OnImage {
-    pub fn new(store: &Store, (node, local): (usize, usize), call: &Call) -> OnImage {
-        let held = held(store);
-        let record = record_at(node, local);
-        let mut saved = [0; RECORD_BYTES];
-        saved.copy_from_slice(&held.image[record.clone()]);
-        OnImage {
-            held,
+impl Repeated {
+    pub fn new(row: &Row) -> Repeated {
+        let (held, (node, local)) = (held(&row.store), row.place);
+        Repeated {
             reply: Reply::DONE,
             buffer: [0; NODE_BYTES],
-            handles: Presented::of(call, &[0; HANDLE_MAX]),
-            unused: Store::starting(),
-            record,
-            saved,
+            store: row.store.clone(),
+            handles: Presented::of(&row.call, &[0; HANDLE_MAX]),
+            place: row.place,
+            record: held.image[record_at(node, local)].try_into().expect("a record has so many bytes"),
+            cluster: row.store.clusters[node][local],
+            held,
         }
     }
 
@@ -41,11 +40,11 @@ impl OnImage {
         self.put_back();
     }
 
-    /// The image is written only by calls that change records, and not even read by weakening.
-    pub fn by_model(&mut self, call: &Call) {
+    /// The image is written only by calls that change records, and not even read by weakening, which looks at no store.
+    pub fn on_image(&mut self, call: &Call) {
         let Held { image, memory } = &mut self.held;
         if let Call::Weaken { .. } = call {
-            self.reply = run(&mut self.unused, memory, &mut self.buffer, call);
+            self.reply = run(&mut self.store, memory, &mut self.buffer, call);
             return;
         }
         let mut store = decode(image).expect("the image is not damaged");
@@ -56,35 +55,12 @@ impl OnImage {
         self.put_back();
     }
 
+    pub fn on_records(&mut self, call: &Call) {
+        self.reply = run(&mut self.store, &mut self.held.memory, &mut self.buffer, call);
+        self.store.clusters[self.place.0][self.place.1] = self.cluster;
+    }
+
     fn put_back(&mut self) {
-        self.held.image[self.record.clone()].copy_from_slice(&self.saved);
-    }
-}
-
-/// A store as the model keeps it.
-pub struct OnRecords {
-    pub memory: Memory,
-    pub reply: Reply,
-    pub buffer: [u8; NODE_BYTES],
-    store: Store,
-    place: (usize, usize),
-    saved: Cluster,
-}
-
-impl OnRecords {
-    pub fn new(store: &Store, place: (usize, usize)) -> OnRecords {
-        OnRecords {
-            memory: memory(),
-            reply: Reply::DONE,
-            buffer: [0; NODE_BYTES],
-            store: store.clone(),
-            place,
-            saved: store.clusters[place.0][place.1],
-        }
-    }
-
-    pub fn by_model(&mut self, call: &Call) {
-        self.reply = run(&mut self.store, &mut self.memory, &mut self.buffer, call);
-        self.store.clusters[self.place.0][self.place.1] = self.saved;
+        self.held.image[record_at(self.place.0, self.place.1)].copy_from_slice(&self.record);
     }
 }

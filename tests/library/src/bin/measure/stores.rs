@@ -29,31 +29,16 @@ pub fn held(store: &Store) -> Held {
     Held { image: encode(store), memory: memory() }
 }
 
-/// Active, with passwords that no other cluster has.
-fn cluster(width: Width, node: usize, local: usize) -> Cluster {
-    let number = (node * CLUSTERS + local) as u8;
-    Cluster {
-        active: true,
-        width: width.number(),
-        read: [0x10 + number; 16],
-        write: [0x80 + number; 16],
-        ..Cluster::INACTIVE
-    }
-}
-
-fn present(base: usize, length: usize) -> Segment {
-    Segment::present(base as u16, length as u16)
-}
-
-/// Every node has `clusters` active clusters of this width with `segments` segments each, one after the other.
+/// Every node has `clusters` active clusters of this width with `segments` segments each, one after the other. No two
+/// have the same passwords.
 fn store(width: Width, clusters: usize, segments: usize, length: usize) -> Store {
     let mut store = Store::starting();
-    for (node, records) in store.clusters.iter_mut().enumerate() {
-        for (local, record) in records[..clusters].iter_mut().enumerate() {
-            *record = cluster(width, node, local);
-            for (at, segment) in record.segments[..segments].iter_mut().enumerate() {
-                *segment = present((local * segments + at) * length, length);
-            }
+    for (node, local) in everywhere().filter(|(_, local)| *local < clusters) {
+        let number = (node * CLUSTERS + local) as u8;
+        let cluster = &mut store.clusters[node][local];
+        *cluster = Cluster::new(width, [0x10 + number; 16], [0x80 + number; 16]);
+        for (at, segment) in cluster.segments[..segments].iter_mut().enumerate() {
+            *segment = present((local * segments + at) * length, length);
         }
     }
     store
@@ -104,11 +89,9 @@ pub fn full_but_a_segment(width: Width) -> Store {
 pub fn falling(width: Width) -> Store {
     let mut store = full_but_a_segment(width);
     let length = full_length(width);
-    for node in 0..NODES {
-        let segments = store.clusters[node].iter_mut();
-        let present_ones: Vec<&mut Segment> =
-            segments.flat_map(|cluster| &mut cluster.segments).filter(|segment| segment.is_present()).collect();
-        for (at, segment) in present_ones.into_iter().rev().enumerate() {
+    for clusters in &mut store.clusters {
+        let segments = clusters.iter_mut().rev().flat_map(|cluster| cluster.segments.iter_mut().rev());
+        for (at, segment) in segments.filter(|segment| segment.is_present()).enumerate() {
             *segment = present(at * length, length);
         }
     }

@@ -6,7 +6,6 @@ mod orders;
 mod rows;
 
 use crate::words::*;
-use library::compare::is_sound;
 
 /// A join, and what it is put to.
 pub struct Asked {
@@ -42,8 +41,7 @@ impl Asked {
 
     /// A primary password of that cluster; of the other mode, too.
     fn password(&self, at: usize, mode: Mode) -> Password {
-        let cluster = self.cluster(at).unwrap_or(&Cluster::INACTIVE);
-        *cluster.primary(mode)
+        *self.cluster(at).unwrap_or(&Cluster::INACTIVE).primary(mode)
     }
 
     fn primary(&self, at: usize) -> Password {
@@ -113,10 +111,10 @@ fn of_eight(bytes: &[u8]) -> Handle {
 }
 
 /// A number, and when it is given.
-pub type Row = (u8, fn(&Asked) -> bool);
+pub type JoinRow = (u8, fn(&Asked) -> bool);
 
 /// As the table has them.
-const RIGHT: [Row; 16] = [
+const RIGHT: [JoinRow; 16] = [
     (25, |it| !it.known[0]),
     (25, |it| !it.known[1]),
     (1, |it| !it.sound),
@@ -140,8 +138,7 @@ fn noting(handle: Handle, password: &Password, segments: u16) -> HandleBytes {
     let mut selector = Selector::primary(handle.width());
     selector.subselectors[0] = segments;
     let password = guard::convert(password, segments);
-    let noting = Handle { password, selector, ..handle };
-    noting.to_bytes()
+    Handle { password, selector, ..handle }.to_bytes()
 }
 
 /// What a join that is done gives.
@@ -150,48 +147,39 @@ pub type Given = fn(&Asked) -> HandleBytes;
 const RIGHTLY: Given = |it| noting(it.handles[0], &it.primary(0), it.union());
 
 /// What joining by these rows comes to, the first that applies.
-fn by_rows(held: &mut Held, question: &Question, rows: &[Row], given: Given) -> Answer {
+fn by_rows(held: &mut Held, question: &Question, rows: &[JoinRow], given: Given) -> Answer {
     let Some(asked) = Asked::of(held, question) else { return guard::ask(held, question) };
-    let refusal = rows.iter().find(|(_, applies)| applies(&asked));
-    let reply = match refusal {
+    let reply = match rows.iter().find(|(_, applies)| applies(&asked)) {
         Some((number, _)) => Reply::refused(*number),
         None => Reply { first: given(&asked), ..Reply::DONE },
     };
-    let buffer = question.buffer.clone();
-    Answer { reply, buffer }
+    Answer { reply, buffer: question.buffer.clone() }
 }
 
-fn joined(rows: Vec<Row>, given: Given) -> Wrong {
+fn joined(rows: Vec<JoinRow>, given: Given) -> Wrong {
     asked(move |held, question| by_rows(held, question, &rows, given))
 }
 
 /// The right rows but these.
-fn without(left_out: &[usize]) -> Vec<Row> {
-    let rows = RIGHT.iter().enumerate();
-    let kept = rows.filter(|(at, _)| !left_out.contains(at));
-    kept.map(|(_, row)| *row).collect()
+fn without(left_out: &[usize]) -> Vec<JoinRow> {
+    RIGHT.iter().enumerate().filter(|(at, _)| !left_out.contains(at)).map(|(_, row)| *row).collect()
 }
 
 /// By a join to which the model gives this.
 fn joins(right: u8) -> Complaint {
-    told([Word::Call(JOIN), Word::Right(right)])
-}
-
-fn orders(right: u8, wrong: u8) -> Complaint {
-    numbers(JOIN, right, wrong)
+    told([Asks(JOIN), Right(right)])
 }
 
 /// Joins that are put together rightly are not found out, be it without a row that nothing hangs on: where 24 does not
 /// apply, the two name one cluster.
 #[test]
 fn the_right_rows_are_not_found_out() {
-    let none = not_by([By::Single, By::Runs, By::Joins]);
-    run("right rows", &joined(RIGHT.to_vec(), RIGHTLY), &none);
-    run("no row 10", &joined(without(&[10]), RIGHTLY), &none);
+    for (name, rows) in [("right rows", RIGHT.to_vec()), ("no row 10", without(&[10]))] {
+        run(name, (joined(rows, RIGHTLY), not_by([By::Single, By::Runs, By::Joins])));
+    }
 }
 
 #[test]
 fn rows_stand_where_they_are_cut() {
-    let numbers = [25, 25, 1, 2, 2, 3, 4, 4, 24, 8, 8, 25, 25, 9, 9, 23];
-    assert_eq!(RIGHT.map(|(number, _)| number), numbers);
+    assert_eq!(RIGHT.map(|(number, _)| number), [25, 25, 1, 2, 2, 3, 4, 4, 24, 8, 8, 25, 25, 9, 9, 23]);
 }

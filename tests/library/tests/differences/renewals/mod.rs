@@ -17,7 +17,7 @@ pub struct Asked {
 impl Asked {
     /// Whether this new password comes as far as 12 is seen by another one, which the cluster has in neither mode.
     fn of(held: &Held, question: &Question) -> Option<Asked> {
-        let Call::NewPassword { mode, password, .. } = question.call else { return None };
+        let Call::NewPassword { password, .. } = question.call else { return None };
         let seen = Seen::of(held, question)?;
         let (cluster, handle) = (seen.cluster()?, seen.handle);
         let strange =
@@ -27,8 +27,7 @@ impl Asked {
                 *password = strange;
             }
         })?;
-        let mode = Mode::from_number(mode)?;
-        Some(Asked { cluster, mode, handle, password })
+        Some(Asked { cluster, mode: seen.mode()?, handle, password })
     }
 
     /// The current passwords of the mode and of the other one.
@@ -47,10 +46,6 @@ impl Asked {
     fn is_other(&self) -> bool {
         self.password == self.other()
     }
-
-    fn has_equal(&self) -> bool {
-        self.own() == self.other()
-    }
 }
 
 /// What becomes of a new password: the cluster and the password of the handle that is given, or a number.
@@ -68,8 +63,7 @@ fn renewed(outcome: impl Fn(&Asked) -> Outcome + 'static) -> Wrong {
                 Reply::with_handle(&Handle { password, ..asked.handle })
             }
         };
-        let buffer = question.buffer.clone();
-        Answer { reply, buffer }
+        Answer { reply, buffer: question.buffer.clone() }
     })
 }
 
@@ -128,23 +122,14 @@ fn not_made_equal(number: u8) -> Wrong {
 
 #[test]
 fn the_right_way_is_not_found_out() {
-    run("right", &renewed(rightly), &not_by([By::Single, By::Runs]));
-}
-
-/// Found out by a new password that is done or refused with 12: which of the two comes first hangs on chance.
-fn either_way() -> Complaint {
-    told([Asks(NEW_PASSWORD), Either(&["model: number 0,", "model: number 12,"])])
-}
-
-fn renewals(right: u8, wrong: u8) -> Complaint {
-    numbers(NEW_PASSWORD, right, wrong)
+    run("right", (renewed(rightly), not_by([By::Single, By::Runs])));
 }
 
 /// 12 where the new password is the mode's own, in the place of this number.
 fn old_before(number: u8) -> Wrong {
-    refusing(NEW_PASSWORD, number, 12, |seen| {
-        let own = seen.cluster().zip(seen.mode()).map(|(cluster, mode)| *cluster.primary(mode));
-        matches!(seen.question.call, Call::NewPassword { password, .. } if own == Some(password))
+    refusing(NEW_PASSWORD, number, 12, |seen| match seen.question.call {
+        Call::NewPassword { password, .. } => seen.primary() == Some(password),
+        _ => false,
     })
 }
 
@@ -152,21 +137,16 @@ fn old_before(number: u8) -> Wrong {
 fn twins_made() -> Wrong {
     on(NEW_CLUSTER, 7, |it| {
         let Call::NewCluster { width, read, write, .. } = it.question.call else { return };
-        let (node, local) = it.cluster().expect("2 comes before 7");
+        let (node, local) = it.cluster();
         let width = Width::of_segments(width).expect("3 comes before 7");
-        let cluster = Cluster::new(width, read, write);
-        *it.held = with(it.held, (node, local), cluster);
+        *it.held = with(it.held, (node, local), Cluster::new(width, read, write));
         let handle = |password| Handle::primary(width, node as u16, local as u8, password).to_bytes();
         (it.reply, it.reply.first, it.reply.second) = (Reply::DONE, handle(read), handle(write));
     })
 }
 
 fn has_equal(image: &Image) -> bool {
-    let store = decode(image);
-    store.is_some_and(|store| {
-        let clusters = store.clusters.as_flattened();
-        clusters.iter().any(Cluster::has_equal_passwords)
-    })
+    decode(image).is_some_and(|store| store.clusters.as_flattened().iter().any(Cluster::has_equal_passwords))
 }
 
 /// Holds a store for unsound in which they are.
@@ -180,6 +160,10 @@ fn unsound_where_equal() -> Wrong {
     }
 }
 
+fn renewals(right: u8, wrong: u8) -> Complaint {
+    numbers(NEW_PASSWORD, right, wrong)
+}
+
 table! {
     with_both: compared(is_either) => renewals(0, 12);
     with_both_in_mode_1: compared(|it| it.is_own() || it.mode == Mode::Read && it.is_other()) => renewals(0, 12);
@@ -187,13 +171,10 @@ table! {
     with_nothing: compared(|_| false) => renewals(12, 0);
     in_mode_1_alone: compared(|it| it.mode == Mode::Read && it.is_own()) => renewals(12, 0);
     in_mode_2_alone: compared(|it| it.mode == Mode::Write && it.is_own()) => renewals(12, 0);
-    not_where_the_two_are_equal: compared(|it| it.is_own() && !it.has_equal()) => renewals(12, 0);
-    where_the_two_are_equal_alone: compared(|it| it.is_own() && it.has_equal()) => renewals(12, 0);
+    not_where_the_two_are_equal: compared(|it| it.is_own() && !it.is_other()) => renewals(12, 0);
+    where_the_two_are_equal_alone: compared(|it| it.is_own() && it.is_other()) => renewals(12, 0);
     in_the_first_half: compared(|it| it.password[..8] == it.own()[..8]) => renewals(0, 12);
     in_the_second_half: compared(|it| it.password[8..] == it.own()[8..]) => renewals(0, 12);
-    with_the_other_mode_s_instead: compared(Asked::is_other) => either_way();
-    with_the_read_password_always: compared(|it| it.password == it.cluster.read) => either_way();
-    with_the_write_password_always: compared(|it| it.password == it.cluster.write) => either_way();
     before_9_and_before_10_nine: old_before(9) => renewals(9, 12);
     before_9_and_before_10_ten: old_before(10) => renewals(10, 12);
     a_number_for_a_new_password_that_makes_them_equal_7: not_made_equal(7) => renewals(0, 7);
@@ -203,15 +184,22 @@ table! {
         => told([Gives(1)]).and(By::EveryByte, [Says("sound is true in the model, false")]);
 }
 
+// Found out by a new password that is done or refused with 12: which of the two comes first hangs on chance.
+table! {
+    all => told([Asks(NEW_PASSWORD), Either(&["model: number 0,", "model: number 12,"])]);
+    with_the_other_mode_s_instead: compared(Asked::is_other);
+    with_the_read_password_always: compared(|it| it.password == it.cluster.read);
+    with_the_write_password_always: compared(|it| it.password == it.cluster.write);
+}
+
 fn both_replaced(cluster: &mut Cluster, it: &Asked) {
     (cluster.read, cluster.write) = (it.password, it.password);
 }
 
 /// As by a search for the old one.
 fn both_replaced_where_equal(cluster: &mut Cluster, it: &Asked) {
-    let old = it.own();
     for password in [&mut cluster.read, &mut cluster.write] {
-        if *password == old {
+        if *password == it.own() {
             *password = it.password;
         }
     }
@@ -221,14 +209,6 @@ fn both_replaced_where_equal(cluster: &mut Cluster, it: &Asked) {
 fn one_replaced_where_equal(cluster: &mut Cluster, it: &Asked, first: Mode) {
     let mode = if cluster.has_equal_passwords() { first } else { it.mode };
     *cluster.primary_mut(mode) = it.password;
-}
-
-fn read_replaced_where_equal(cluster: &mut Cluster, it: &Asked) {
-    one_replaced_where_equal(cluster, it, Mode::Read);
-}
-
-fn write_replaced_where_equal(cluster: &mut Cluster, it: &Asked) {
-    one_replaced_where_equal(cluster, it, Mode::Write);
 }
 
 fn the_other_replaced(cluster: &mut Cluster, it: &Asked) {
@@ -241,25 +221,20 @@ fn passed_on(cluster: &mut Cluster, it: &Asked) {
     *cluster.primary_mut(it.mode.other()) = it.own();
 }
 
-fn another(word: Word) -> Complaint {
-    told([Asks(NEW_PASSWORD), word])
-}
-
-mod another_password_replaced {
-    use super::*;
-
-    table! {
-        both_replaced: leaving(super::both_replaced) => another(IMAGES);
-        both_replaced_where_equal: leaving(super::both_replaced_where_equal) => another(IMAGES);
-        read_replaced_where_equal: leaving(super::read_replaced_where_equal) => another(IMAGES);
-        write_replaced_where_equal: leaving(super::write_replaced_where_equal) => another(IMAGES);
-        the_other_replaced: leaving(super::the_other_replaced) => another(IMAGES);
-        passed_on: leaving(super::passed_on) => another(IMAGES);
-        nothing_replaced: leaving(|_, _| {}) => another(IMAGES);
-    }
+table! {
+    mod another_password_replaced;
+    all => told([Asks(NEW_PASSWORD), IMAGES]);
+    both_replaced: leaving(super::both_replaced);
+    both_replaced_where_equal: leaving(super::both_replaced_where_equal);
+    read_replaced_where_equal: leaving(|cluster, it| one_replaced_where_equal(cluster, it, Mode::Read));
+    write_replaced_where_equal: leaving(|cluster, it| one_replaced_where_equal(cluster, it, Mode::Write));
+    the_other_replaced: leaving(super::the_other_replaced);
+    passed_on: leaving(super::passed_on);
+    nothing_replaced: leaving(|_, _| {});
 }
 
 table! {
-    another_handle_given_the_old: giving(Asked::own) => another(REPLIES);
-    another_handle_given_the_other: giving(Asked::other) => another(REPLIES);
+    all => told([Asks(NEW_PASSWORD), REPLIES]);
+    another_handle_given_the_old: giving(Asked::own);
+    another_handle_given_the_other: giving(Asked::other);
 }

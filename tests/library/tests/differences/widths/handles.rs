@@ -16,7 +16,7 @@ fn coded(width: Width, code: fn(&mut [u8])) -> Wrong {
     };
     asked(move |held, question| {
         let mut seen = question.clone();
-        seen.presented_mut().into_iter().for_each(coded);
+        seen.call.presented_mut().into_iter().for_each(coded);
         let mut answer = guard::ask(held, &seen);
         coded(&mut answer.reply.first);
         coded(&mut answer.reply.second);
@@ -44,41 +44,28 @@ fn exchange(halves: &mut [u8]) {
 }
 
 // Each but the last is its own opposite, so that such a library reads back what it writes.
-mod laid_out_in_another_way {
-    use super::*;
-
-    table! {
-        halves_exchanged: coded(Width::Four, exchange) => told([REPLIES]);
-        first_halves_exchanged: coded(Width::Four, |selector| exchange(&mut selector[..1])) => told([REPLIES]);
-        second_halves_exchanged: coded(Width::Four, |selector| exchange(&mut selector[1..])) => told([REPLIES]);
-        bytes_exchanged: coded(Width::Four, <[u8]>::reverse) => told([REPLIES]);
-        low_halves_first: coded(Width::Four, super::low_halves_first) => told([REPLIES]);
-        low_byte_first: coded(Width::Sixteen, |selector| selector.chunks_exact_mut(2).for_each(<[u8]>::reverse))
-            => told([REPLIES]);
-        low_byte_first_in_the_last: coded(Width::Sixteen, |selector| selector[6..].reverse()) => told([REPLIES]);
-        high_bytes_first: coded(Width::Sixteen, super::high_bytes_first) => told([REPLIES]);
-    }
+table! {
+    mod laid_out_in_another_way;
+    all => told([REPLIES]);
+    halves_exchanged: coded(Width::Four, exchange);
+    first_halves_exchanged: coded(Width::Four, |selector| exchange(&mut selector[..1]));
+    second_halves_exchanged: coded(Width::Four, |selector| exchange(&mut selector[1..]));
+    bytes_exchanged: coded(Width::Four, <[u8]>::reverse);
+    low_halves_first: coded(Width::Four, super::low_halves_first);
+    low_byte_first: coded(Width::Sixteen, |selector| selector.chunks_exact_mut(2).for_each(<[u8]>::reverse));
+    low_byte_first_in_the_last: coded(Width::Sixteen, |selector| selector[6..].reverse());
+    high_bytes_first: coded(Width::Sixteen, super::high_bytes_first);
 }
 
 // Another parameter, where it has two bytes.
-
-fn low_alone(parameter: u16) -> u16 {
-    parameter & 0x00ff
-}
-
-fn high_alone(parameter: u16) -> u16 {
-    parameter >> 8
-}
 
 /// What is given, if its last conversion of this password was by another parameter.
 fn converted(reply: &Reply, password: &Password, other: fn(u16) -> u16) -> Option<Reply> {
     let mut given = Handle::from_bytes(&reply.first)?;
     let (is_wide, flat) = (given.width() == Width::Sixteen, given.width().flat());
-    let mut noted = given.selector.subselectors.into_iter().rev();
-    let noted = noted.find(|part| *part != flat && is_wide)?;
+    let noted = given.selector.subselectors.into_iter().rev().find(|part| *part != flat && is_wide)?;
     given.password = guard::convert(password, other(noted));
-    let first = given.to_bytes();
-    Some(Reply { first, ..reply.clone() })
+    Some(Reply { first: given.to_bytes(), ..reply.clone() })
 }
 
 /// Weakens by another parameter.
@@ -91,8 +78,7 @@ fn weakens(other: fn(u16) -> u16) -> Wrong {
 
 fn reduces(other: fn(u16) -> u16) -> Wrong {
     on(REDUCE, 0, move |it| {
-        let seen = it.seen().expect("it is done by a handle");
-        let primary = seen.cluster().zip(seen.mode()).map(|(cluster, mode)| *cluster.primary(mode));
+        let primary = it.seen().and_then(|seen| seen.primary());
         let wrong = primary.and_then(|primary| converted(&it.reply, &primary, other));
         it.reply = wrong.unwrap_or(it.reply.clone());
     })
@@ -101,28 +87,26 @@ fn reduces(other: fn(u16) -> u16) -> Wrong {
 fn validates(other: fn(u16) -> u16) -> Wrong {
     on(VALIDATION, 0, move |it| {
         let seen = it.seen().expect("it is done by a handle");
-        let primary = seen.cluster().zip(seen.mode()).map(|(cluster, mode)| *cluster.primary(mode));
-        let (mut handle, primary) = (seen.handle, primary.expect("it is done"));
+        let (mut handle, primary) = (seen.handle, seen.primary().expect("it is done"));
         let flat = handle.width().flat();
-        let parts = handle.selector.subselectors.iter_mut();
-        parts.filter(|part| **part != flat).for_each(|part| *part = other(*part));
-        let is_wide = handle.width() == Width::Sixteen;
-        if is_wide && derive(&primary, &handle.selector) != handle.password {
+        handle.selector.subselectors.iter_mut().filter(|part| **part != flat).for_each(|part| *part = other(*part));
+        if handle.width() == Width::Sixteen && derive(&primary, &handle.selector) != handle.password {
             it.reply = Reply::refused(9);
         }
     })
 }
 
 table! {
-    converted_by_another_parameter_weakening_exchanged: weakens(u16::swap_bytes) => widths(0);
-    converted_by_another_parameter_weakening_low: weakens(low_alone) => widths(0);
-    converted_by_another_parameter_weakening_high: weakens(high_alone) => widths(0);
-    converted_by_another_parameter_reduction_exchanged: reduces(u16::swap_bytes) => widths(0);
-    converted_by_another_parameter_reduction_low: reduces(low_alone) => widths(0);
-    converted_by_another_parameter_reduction_high: reduces(high_alone) => widths(0);
-    validated_by_another_parameter_exchanged: validates(u16::swap_bytes) => widths(0);
-    validated_by_another_parameter_low: validates(low_alone) => widths(0);
-    validated_by_another_parameter_high: validates(high_alone) => widths(0);
+    all => widths(0);
+    converted_by_another_parameter_weakening_exchanged: weakens(u16::swap_bytes);
+    converted_by_another_parameter_weakening_low: weakens(|parameter| parameter & 0x00ff);
+    converted_by_another_parameter_weakening_high: weakens(|parameter| parameter >> 8);
+    converted_by_another_parameter_reduction_exchanged: reduces(u16::swap_bytes);
+    converted_by_another_parameter_reduction_low: reduces(|parameter| parameter & 0x00ff);
+    converted_by_another_parameter_reduction_high: reduces(|parameter| parameter >> 8);
+    validated_by_another_parameter_exchanged: validates(u16::swap_bytes);
+    validated_by_another_parameter_low: validates(|parameter| parameter & 0x00ff);
+    validated_by_another_parameter_high: validates(|parameter| parameter >> 8);
 }
 
 // Masks.
@@ -168,16 +152,16 @@ fn masks(right: u8) -> Complaint {
     widths(right).and(By::Masks, [Right(right)])
 }
 
-fn upper() -> Complaint {
-    told([Asks(WEAKEN)]).and(By::Masks, [REPLIES])
-}
-
 table! {
     bits_above_refused: weakening(|it| refused_if(it.reply.is_done() && it.above().0 != 0, 3)) => masks(0);
     bits_above_taken_for_kept: weakening(kept) => masks(21);
     clear_bits_above_taken_for_excluded: weakening(excluded) => masks(0);
     clear_bits_above_taken_for_spent: weakening(|it| refused_if(it.is_clear_above() && it.is_spent(), 17)) => masks(0);
-    the_upper_byte_not_looked_at_clear: taking(|mask| mask & 0x00ff) => upper();
-    the_upper_byte_not_looked_at_set: taking(|mask| mask | 0xff00) => upper();
-    the_upper_byte_not_looked_at_exchanged: taking(u16::swap_bytes) => upper();
+}
+
+table! {
+    all => told([Asks(WEAKEN)]).and(By::Masks, [REPLIES]);
+    the_upper_byte_not_looked_at_clear: taking(|mask| mask & 0x00ff);
+    the_upper_byte_not_looked_at_set: taking(|mask| mask | 0xff00);
+    the_upper_byte_not_looked_at_exchanged: taking(u16::swap_bytes);
 }

@@ -9,21 +9,28 @@ use crate::words::*;
 
 /// By single calls and by long rows, where the model gives this number.
 fn widths(right: u8) -> Complaint {
-    told([Word::Right(right)])
+    told([Right(right)])
 }
 
 /// Whether every handle has one of the three lengths.
 fn is_known(call: &Call) -> bool {
-    let mut lengths = call.presented_bytes().map(<[u8]>::len);
-    lengths.all(|length| Width::of_handle_bytes(length).is_some())
+    call.presented_bytes().map(<[u8]>::len).all(|length| Width::of_handle_bytes(length).is_some())
 }
 
 fn is_none(width: usize) -> bool {
     Width::of_segments(width).is_none()
 }
 
+/// One width or length taken for another.
+fn one<const FROM: usize, const TO: usize>(number: usize) -> usize {
+    match number == FROM {
+        true => TO,
+        false => number,
+    }
+}
+
 /// Up to the next width that there is.
-fn up_to_the_next(width: usize) -> usize {
+pub fn up_to_the_next(width: usize) -> usize {
     match width {
         1..=4 => 4,
         5..=8 => 8,
@@ -34,21 +41,17 @@ fn up_to_the_next(width: usize) -> usize {
 
 /// Gives what `other` has for 25 at its first place; nothing changes then.
 fn at_first(other: impl Fn(&Held, &Question) -> Option<u8> + 'static) -> Wrong {
-    after(move |it| {
-        if it.reply.number == 25 && !is_known(&it.question.call) {
-            if let Some(number) = other(it.before, it.question) {
-                it.reply = Reply::refused(number);
-            }
-        }
+    at(25, move |it| {
+        let number = other(it.before, it.question).filter(|_| !is_known(&it.question.call));
+        it.reply.number = number.unwrap_or(25);
     })
 }
 
 /// Refuses with this number in the place of 25 at its second place, where this applies.
 fn at_second(number: u8, applies: impl Fn(&Seen) -> bool + 'static) -> Wrong {
-    after(move |it| {
-        let second = it.reply.number == 25 && is_known(&it.question.call);
-        if second && it.seen().is_some_and(|seen| applies(&seen)) {
-            it.reply = Reply::refused(number);
+    at(25, move |it| {
+        if is_known(&it.question.call) && it.seen().is_some_and(|seen| applies(&seen)) {
+            it.reply.number = number;
         }
     })
 }
