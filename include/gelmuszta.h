@@ -55,7 +55,7 @@
  *   - whoever can read the image or the memory needs no handle, and whoever writes to them by other means, or puts an
  *     earlier image in place, can change what is frozen too.
  *
- * What stays on the stack: a call touches less than 2 kilobytes of it (1,904 bytes at most, measured on x86-64) and does
+ * What stays on the stack: a call touches less than 2 kilobytes of it (1,752 bytes at most, measured on x86-64) and does
  * not clear them. Passwords, both primary ones of the cluster among them, stay there until they are written over.
  *
  * What time tells: how long a call takes goes by its number, by what the store holds and by how many subselectors are not
