@@ -1,19 +1,18 @@
--- Call 3 on an image: soundness and the base are told together, and the core comes in two.
+-- Call 3 on an image: its core comes in two, and the base between them was found when the image was judged.
 -- Assumes nothing.
-use mathlib.Core.Path.{_≡_, refl, sym, ap, _∙_}
-use mathlib.Core.Bool.{Bool, true, false, not, _&&_}
+use mathlib.Core.Path.{_≡_, sym, ap, _∙_}
+use mathlib.Core.Bool.{Bool, true, false, not, cond}
 use mathlib.Core.List.{List, []}
 use Prim.Native.Nat.{ℕ}
 use lib.ListN.{length}
 use borrow.Author.Tests.{not-false}
 use Rattle.sizes.specs.Sizes.{memory}
 use Rattle.handle.specs.declared.Handle.{Handle}
-use Rattle.handle.specs.Handles.{nodeOf, noWidth, firstOf, decoded}
+use Rattle.handle.specs.Handles.{nodeOf, firstOf, decoded}
 use Rattle.store.specs.declared.Store.{Store}
 use Rattle.store.specs.declared.Found.{Found}
 use Rattle.store.specs.Records.{tableAt}
-use Rattle.store.specs.Sound.{sound}
-use Rattle.store.specs.Placement.{placement, placedBy}
+use Rattle.store.specs.Placement.{placement, placedBy, noRoom}
 use Rattle.calls.specs.declared.RecordLeft.{RecordLeft}
 use Rattle.calls.specs.Calls.{Call, makingSegment}
 use Rattle.calls.specs.Steps.{plain, aesStep}
@@ -21,50 +20,52 @@ use Rattle.calls.specs.Answers.{copyOf, ended, numberAlone}
 use Rattle.refusals.specs.Given.{Given, recordFound, put}
 use Rattle.cluster.specs.inner.Makes.{makeRows}
 use Rattle.cluster.proofs.MakeLaws.{segment-refused}
-use Rattle.image.specs.Images.{good, storeIn}
-use Rattle.gelmuszta.specs.declared.Located.{Located}
+use Rattle.image.specs.Images.{storeIn}
+use Rattle.image.specs.Verdicts.{soundIn, placementIn}
 use Rattle.gelmuszta.specs.declared.Opened.{Opened}
-use Rattle.gelmuszta.specs.inner.Opened.{Locates, Opens, Kept}
-use Rattle.gelmuszta.specs.Exported.{leaving, early, exported}
+use Rattle.gelmuszta.specs.inner.Opened.{Opens, OpensFor, Sites, Kept}
+use Rattle.gelmuszta.specs.Exported.{leaving, exported}
 use Rattle.gelmuszta.proofs.ReplyLaws.{new-segment-silent}
-use Rattle.gelmuszta.proofs.ExportLaws.{opens-so, refused-of, held-of, given-of, same-silent, kept-silent}
+use Rattle.gelmuszta.proofs.ExportLaws.{held-of, given-of, same-silent, kept-silent}
 
-module _ (b m hb : List ℕ) (current segment size : ℕ) (e : length m ≡ memory) (h : Handle) (eh : h ≡ decoded hb)
-    (v : ℕ) (ev : v ≡ nodeOf h) (l : Located) (found : Locates l b v (h .local)) (none : Bool) (e0 : none ≡ noWidth h)
-    (early-number : ℕ) (er : early-number ≡ early none (l .sound)) where
+-- the base on the node of a handle is that on the node of the one found
+pub sited : (b hb : List ℕ) (size : ℕ) (h : Handle) → h ≡ decoded hb → (v : ℕ) → v ≡ nodeOf h → (f : Found)
+    → placedBy f ≡ placementIn b v size → (o : Opened) → OpensFor o b h → Sites (record { opened = o; found = f }) b hb size
+sited b hb size h eh v ev f ef o all =
+    let w = all hb eh in
+    record {
+      opened = w;
+      base = ef ∙ ap (λ (u : ℕ). placementIn b u size) (ev ∙ ap nodeOf (eh ∙ sym (w .handle)));
+    }
+
+module _ (b m hb : List ℕ) (current segment size : ℕ) (e : length m ≡ memory) (o : Opened)
+    (w : Opens o b hb) (zero : o .refused ≡ 0) (n : ℕ)
+    (en : n ≡ firstOf (makeRows true (o .handle) (o .cluster) current segment size)) where
+  held : not (o .sound) ≡ false
+  held = held-of b hb o w zero
+
   abbrev x : Call
   x = makingSegment current segment size hb
 
-  abbrev o : Opened
-  o = record { handle = h; at = l .at; cluster = l .cluster; sound = l .sound; refused = early-number }
+  pub new-segment-refused : (n ≡ 0 → ⊥) → leaving (plain n []) b m ≡ exported x b m
+  new-segment-refused t =
+      same-silent b m e (o .sound) (w .sound) (w .whole) held x m (numberAlone n) []
+      (segment-refused (storeIn b) m hb current segment size true (o .handle) (o .cluster) (given-of b m hb e o w held) n en t)
+      (new-segment-silent (x .args))
 
-  opens : Opens o b hb
-  opens = opens-so b hb h eh v ev l found none e0 early-number er
-
-  pub new-segment-early : (early-number ≡ 0 → ⊥) → leaving (plain early-number []) b m ≡ exported x b m
-  new-segment-early t = refused-of b hb o opens x refl refl [] refl t m e
-
-  module _ (zero : early-number ≡ 0) (n : ℕ)
-      (en : n ≡ firstOf (makeRows true h (l .cluster) current segment size)) where
-    held : not (l .sound) ≡ false
-    held = held-of b hb o opens zero
-
-    pub new-segment-refused : (n ≡ 0 → ⊥) → leaving (plain n []) b m ≡ exported x b m
-    new-segment-refused t =
-        same-silent b m e (l .sound) (found .sound) (found .whole) held x m (numberAlone n) []
-        (segment-refused (storeIn b) m hb current segment size true h (l .cluster) (given-of b m hb e o opens held) n en t)
-        (new-segment-silent (x .args))
-
-    pub new-segment-kept : n ≡ 0 → (sd : Bool) → sd ≡ (good b && sound (storeIn b) memory) → (f : Found)
-        → (sd ≡ true → placedBy f ≡ placement (tableAt (storeIn b)) v size) → (after : List ℕ) (left : RecordLeft)
-        → ((sd : Bool) (s : Store) (d : List ℕ) (i : ℕ) → Given sd h (l .cluster) s m d
-        → firstOf (makeRows sd h (l .cluster) i segment size) ≡ 0
-        → placedBy f ≡ placement (tableAt s) (nodeOf h) size
-        → ended (put h (left .cluster) s) after (left .answer) [] ≡ aesStep (makingSegment i segment size d) (copyOf s m))
-        → (image : List ℕ) → Kept left (l .at) b image
-        → leaving (plain (left .answer .number) []) image after ≡ exported x b m
-    new-segment-kept z sd es f ef after left core image k =
-        kept-silent b m e (l .sound) (found .sound) (found .whole) held x (l .at) (recordFound h) (opens .at) left after
-        (core true (storeIn b) hb current (given-of b m hb e o opens held) (sym en ∙ z)
-        (ef (es ∙ sym (found .sound) ∙ not-false (l .sound) held) ∙ ap (λ (u : ℕ). placement (tableAt (storeIn b)) u size) ev))
-        image k (new-segment-silent (x .args))
+  pub new-segment-kept : n ≡ 0 → (f : Found) → placedBy f ≡ placementIn b (nodeOf (o .handle)) size
+      → (after : List ℕ) (l : RecordLeft)
+      → ((sd : Bool) (s : Store) (d : List ℕ) (i : ℕ) → Given sd (o .handle) (o .cluster) s m d
+      → firstOf (makeRows sd (o .handle) (o .cluster) i segment size) ≡ 0
+      → placedBy f ≡ placement (tableAt s) (nodeOf (o .handle)) size
+      → ended (put (o .handle) (l .cluster) s) after (l .answer) [] ≡ aesStep (makingSegment i segment size d) (copyOf s m))
+      → (image : List ℕ) → Kept l (o .at) b image
+      → leaving (plain (l .answer .number) []) image after ≡ exported x b m
+  new-segment-kept z f ef after l core image k =
+      kept-silent b m e (o .sound) (w .sound) (w .whole) held x (o .at) (recordFound (o .handle)) (w .at) l after
+      (core true (storeIn b) hb current (given-of b m hb e o w held) (sym en ∙ z)
+      (ef ∙ ap (λ (t : Bool). cond t (placement (tableAt (storeIn b)) (nodeOf (o .handle)) size) noRoom) whole))
+      image k (new-segment-silent (x .args))
+    where
+      whole : soundIn b ≡ true
+      whole = sym (w .sound) ∙ not-false (o .sound) held

@@ -1,8 +1,7 @@
 // Calls 3, 5 and 6, and the look: they clear, read, write or show the bytes of a segment.
-use crate::early;
-use crate::find;
 use crate::keep;
 use crate::look_up;
+use crate::look_up_with_base;
 use codec::HELD;
 use image::IMAGE;
 use sizes::MEMORY;
@@ -36,21 +35,20 @@ pub extern "C" fn gelmuszta_new_segment(
         ≡ exported (calls.makingSegment current segment size (bytesHeld (now (handle .entry)))) (now (image .entry)) (now (memory .entry)) ⌝ }
 {
     sized(memory);
-    let opened = codec::taken(handle);
-    let node = opened.node();
-    let judged = image::sound_and_base(image, node, size);
-    let l = find(image, node, opened.local as usize, judged.sound);
-    let refused = early(opened.has_width(0), l.sound);
+    let sited = look_up_with_base(image, handle, size);
+    let o = sited.opened;
+    let refused = o.refused;
     if refused != 0 {
         return refused;
     }
-    let number = cluster::segment_refusal(true, opened, l.cluster, current, segment, size);
+    let opened = o.handle;
+    let number = cluster::segment_refusal(true, opened, o.cluster, current, segment, size);
     if number != 0 {
         return number;
     }
-    let found = judged.found;
-    let left = cluster::new_segment(found, opened, l.cluster, memory, segment, size);
-    keep(left, l.at, image);
+    let found = sited.found;
+    let left = cluster::new_segment(found, opened, o.cluster, memory, segment, size);
+    keep(left, o.at, image);
     let answer = left.answer;
     answer.number
 }

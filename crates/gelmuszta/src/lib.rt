@@ -10,14 +10,11 @@ use handle::Handle;
 use image::IMAGE;
 use numbers::LENGTH;
 use numbers::UNSOUND;
-use sizes::MEMORY;
 use store::Cluster;
+use store::Found;
 ghost use mathlib.Core.Path.{_≡_};
-ghost use mathlib.Core.Bool.{_&&_};
-ghost use Rattle.sizes.specs.Sizes.{memory};
 ghost use Rattle.codec.specs.Held.{bytesHeld};
-ghost use Rattle.store.specs.Sound as sound-spec;
-ghost use Rattle.image.specs.Images.{good, storeIn};
+ghost use Rattle.image.specs.Verdicts.{soundIn};
 ghost use Rattle.gelmuszta.specs.Version as versions;
 ghost use Rattle.gelmuszta.specs.Exported as exported;
 ghost use Rattle.gelmuszta.specs.inner.Opened as opened;
@@ -65,16 +62,8 @@ struct Located {
     sound: bool,
 }
 
-fn locate(image: &[u8; IMAGE], node: usize, local: usize) -> Located
-    ensures { λ r. ⌜ opened.Locates r (now (image .entry)) node local ⌝ }
-{
-    let sound = image::sound_in(image, MEMORY);
-    find(image, node, local, sound)
-}
-
-// The same where it is known whether the store is sound.
-fn find(image: &[u8; IMAGE], node: usize, local: usize, sound: bool) -> Located
-    requires { ⌜ sound ≡ (good (now image) && sound-spec.sound (storeIn (now image)) memory) ⌝ }
+fn locate(image: &[u8; IMAGE], node: usize, local: usize, sound: bool) -> Located
+    requires { ⌜ sound ≡ soundIn (now image) ⌝ }
     ensures { λ r. ⌜ opened.Locates r (now (image .entry)) node local ⌝ }
 {
     let at = store::record_at(node, local);
@@ -109,7 +98,15 @@ fn look_up(image: &[u8; IMAGE], held: &[u8; HELD]) -> Opened
     ensures { λ r. ⌜ opened.Opens r (now (image .entry)) (bytesHeld (now (held .entry))) ⌝ }
 {
     let handle = codec::taken(held);
-    let l = locate(image, handle.node(), handle.local as usize);
+    opened_by(image, handle, image::sound_in(image))
+}
+
+// The same of a handle that is decoded, where it is known whether the store is sound.
+fn opened_by(image: &[u8; IMAGE], handle: Handle, sound: bool) -> Opened
+    requires { ⌜ sound ≡ soundIn (now image) ⌝ }
+    ensures { λ r. ⌜ opened.OpensFor r (now (image .entry)) handle ⌝ }
+{
+    let l = locate(image, handle.node(), handle.local as usize, sound);
     let cluster = l.cluster;
     let refused = early(handle.has_width(0), l.sound);
     Opened {
@@ -119,6 +116,22 @@ fn look_up(image: &[u8; IMAGE], held: &[u8; HELD]) -> Opened
         sound: l.sound,
         refused,
     }
+}
+
+// The same, and the base of a new segment of `size` bytes on the handle's node.
+struct Sited {
+    opened: Opened,
+    found: Found,
+}
+
+fn look_up_with_base(image: &[u8; IMAGE], held: &[u8; HELD], size: usize) -> Sited
+    ensures { λ r. ⌜ opened.Sites r (now (image .entry)) (bytesHeld (now (held .entry))) size ⌝ }
+{
+    let handle = codec::taken(held);
+    let judged = image::sound_and_base(image, handle.node(), size);
+    let opened = opened_by(image, handle, judged.sound);
+    let found = judged.found;
+    Sited { opened, found }
 }
 
 // Writes the record that a call done leaves; a refusal writes nothing.

@@ -28,7 +28,7 @@ pub extern "C" fn gelmuszta_new_cluster(
     ensures { λ r. ⌜ Gives (calls.makingCluster current local width (now (read .entry)) (now (write .entry))) (now (image .entry))
         (givingBoth r (now (first .exit)) (now (second .exit))) (now (image .exit)) ⌝ }
 {
-    let l = locate(image, current, local);
+    let l = locate(image, current, local, image::sound_in(image));
     let sound = l.sound;
     if !sound {
         *first = [0; HELD];

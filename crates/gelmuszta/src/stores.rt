@@ -1,6 +1,5 @@
 // The starting store, and whether a store is sound.
 use image::IMAGE;
-use sizes::MEMORY;
 ghost use mathlib.Core.Path.{_≡_};
 ghost use mathlib.Core.Bool.{_&&_};
 ghost use Rattle.sizes.specs.Sizes.{memory};
@@ -22,5 +21,5 @@ pub extern "C" fn gelmuszta_start(image: &mut [u8; IMAGE])
 pub extern "C" fn gelmuszta_sound(image: &[u8; IMAGE]) -> bool
     ensures { λ r. ⌜ r ≡ (good (now (image .entry)) && soundness.sound (storeIn (now (image .entry))) memory) ⌝ }
 {
-    image::sound_in(image, MEMORY)
+    image::sound_in(image)
 }

@@ -5,7 +5,6 @@ use codec::HELD;
 use handle::Handle;
 use handle::Width;
 use image::IMAGE;
-use sizes::MEMORY;
 ghost use mathlib.Core.Path.{_≡_};
 ghost use mathlib.Core.List.{[]};
 ghost use Prim.Native.Nat.{_*_, _≤_};
@@ -86,7 +85,7 @@ pub extern "C" fn gelmuszta_validate_all(
     ensures numbers { λ _. ⌜ spec.NumbersAre (now (image .entry)) mode (spec.each width) (now (handles .entry)) (now (numbers .entry)) (now (numbers .exit)) ⌝ }
 {
     let tables = aes::tables();
-    let sound = image::sound_in(image, MEMORY);
+    let sound = image::sound_in(image);
     let kind = Width::from_bits(width);
     let each = kind.length();
     let count = fewer(whole(each, handles.len()), numbers.len());

@@ -4,13 +4,13 @@
 -- the map of one of them tells is that of a new segment.
 -- Assumes nothing.
 use mathlib.Core.Path.{_≡_, refl, sym, ap, ap₂, _∙_, subst}
-use mathlib.Core.Bool.{Bool, true, false, not, _&&_, true≢false}
+use mathlib.Core.Bool.{Bool, true, false, not, _&&_, cond, true≢false}
 use mathlib.Core.List.{List}
 use Prim.Native.Nat.{ℕ, _+_, _/_, _%_, _≤_, _<_}
 use native.Mathlib.Omega.{arith}
 use lib.Dec.{eqb, ltb}
 use lib.ListN.{replicate}
-use borrow.Author.Tests.{eqb-true, eqb-false, ltb-true, ltb-false}
+use borrow.Author.Tests.{not-true, not-false, eqb-true, eqb-false, ltb-true, ltb-false}
 use Rattle.loops.specs.Below.{every}
 use Rattle.loops.proofs.BelowLaws.{and-left, and-right, and-off, tests-equal, every-at, every-in, every-same, every-both}
 use Rattle.loops.proofs.BelowLaws.{every-pair-at, every-pair-in}
@@ -24,13 +24,14 @@ use Rattle.store.specs.declared.Found.{Found}
 use Rattle.store.specs.declared.Found.the-variants.{Nowhere}
 use Rattle.store.specs.Records.{Tables, recordOf, tableOf, tableAt, segmentOf, placeOf, placeOn}
 use Rattle.store.specs.Sound.{settled, sound}
-use Rattle.store.specs.Placement.{placement, placedBy}
+use Rattle.store.specs.Placement.{placement, placedBy, noRoom}
 use Rattle.store.specs.inner.Passes.{Map, mapWords, stampedBy, claims, blank, nodeMap, clusterSound, Based}
 use Rattle.store.proofs.ClaimLaws.{tested-told}
 use Rattle.store.proofs.PlacementLaws.{base-no-node}
 use Rattle.store.proofs.RoomLaws.{placed-mapped}
 use Rattle.image.specs.Parts.{slot}
 use Rattle.image.specs.Images.{recordBytes, clusterIn, goodRecord, storeIn, good}
+use Rattle.image.specs.Verdicts.{soundIn, placementIn}
 use Rattle.image.specs.inner.Claims.{recordSound, RecordClaimed, BaseOn}
 use Rattle.image.proofs.ReadLaws.{cluster-at}
 
@@ -152,27 +153,15 @@ module _ (b : List ℕ) where
       ∙ every-both clusters (fine v) (sounds v))
       ∙ every-both nodes (λ v. every clusters (fine v)) (λ v. every clusters (sounds v))
 
-  swap : (x y z : Bool) → (x && (y && z)) ≡ y && (x && z)
-  swap true y z = refl
-  swap false true z = refl
-  swap false false z = refl
-
-  all-told : (size : ℕ) → (eqb size memory && allSound) ≡ sound (storeIn b) size
-  all-told size =
-      tested-told (storeIn b) size nodes allSound (record { low = omega arith; told = refl }) (omega arith)
+  all-sound : allSound ≡ sound (storeIn b) memory
+  all-sound =
+      tested-told (storeIn b) memory nodes allSound (record { low = omega arith; told = refl }) (omega arith)
 
   -- the loop over the nodes has come to its end
   nodes-told : (node : ℕ) (ok : Bool) → Running nodes (λ v. every clusters (passes v)) node ok → nodes ≤ node
-      → ok ≡ good b && sound (storeIn b) memory
+      → ok ≡ soundIn b
   nodes-told node ok w h =
-      running-all _ _ node ok w h ∙ both ∙ ap₂ (λ (x y : Bool). x && y) all-fine (all-told memory)
-
-  pub sound-told : (size : ℕ) (ok : Bool) → ok ≡ good b && sound (storeIn b) memory
-      → (eqb size memory && ok) ≡ good b && sound (storeIn b) size
-  sound-told size ok e =
-      ap (λ (t : Bool). eqb size memory && t) (e ∙ ap (λ (t : Bool). good b && t) (sym (all-told memory)))
-      ∙ swap (eqb size memory) (good b) allSound
-      ∙ ap (λ (t : Bool). good b && t) (all-told size)
+      running-all _ _ node ok w h ∙ both ∙ ap₂ (λ (x y : Bool). x && y) all-fine all-sound
 
   -- ---- the base on one of them
 
@@ -216,16 +205,26 @@ module _ (b : List ℕ) where
             }
 
     module _ (node : ℕ) (ok : Bool) (found : Found) (w : Sought node ok found) (h : nodes ≤ node) where
-      pub sought-sound : ok ≡ good b && sound (storeIn b) memory
+      pub sought-sound : ok ≡ soundIn b
       sought-sound = nodes-told node ok (w .told) h
 
-      pub sought-base : ok ≡ true → placedBy found ≡ placement (tableAt (storeIn b)) wanted size
-      sought-base t = go (ltb wanted nodes) refl
+      -- what is told where the verdict is that
+      verdict : (t : Bool) → ok ≡ t → cond t (placement tables wanted size) noRoom ≡ placementIn b wanted size
+      verdict t e = ap (λ (u : Bool). cond u (placement tables wanted size) noRoom) (sym e ∙ sought-sound)
+
+      pub sought-nowhere : not ok ≡ true → placedBy Nowhere ≡ placementIn b wanted size
+      sought-nowhere e = verdict false (not-true ok e)
+
+      pub sought-base : not ok ≡ false → placedBy found ≡ placementIn b wanted size
+      sought-base e = go (ltb wanted nodes) refl ∙ verdict true t
         where
+          t : ok ≡ true
+          t = not-false ok e
+
           held : sound (storeIn b) memory ≡ true
           held = and-right (good b) (sound (storeIn b) memory) (sym sought-sound ∙ t)
 
-          go : (q : Bool) → ltb wanted nodes ≡ q → placedBy found ≡ placement (tableAt (storeIn b)) wanted size
+          go : (q : Bool) → ltb wanted nodes ≡ q → placedBy found ≡ placement tables wanted size
           go true q =
               let l = ltb-true wanted nodes q in
               placed-mapped (storeIn b) wanted size (nodeMap tables wanted clusters) found l (λ s. refl)

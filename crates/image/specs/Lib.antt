@@ -1,5 +1,6 @@
 pub mod Parts
 pub mod Images
+pub mod Verdicts
 pub mod inner
 pub mod Ranges
 pub mod Words

@@ -33,7 +33,7 @@ const SEGMENTS_AT: usize = 34;
 // Where the mark stands in a segment, after base and length.
 const MARK_AT: usize = 4;
 
-// What was judged of an image: whether it holds a sound store, and where it does, the base of a new segment.
+// What was judged of an image: whether it holds a sound store, and the base of a new segment, nowhere where it does not.
 pub struct Judged {
     pub sound: bool,
     pub found: Found,

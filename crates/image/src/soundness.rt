@@ -9,21 +9,18 @@ use crate::SEGMENTS_AT;
 use crate::WIDTH_AT;
 use bits::word;
 use sizes::CLUSTERS;
-use sizes::MEMORY;
 use sizes::NODES;
 use store::Found;
 use store::MAP_WORDS;
 ghost use mathlib.Core.Path.{_≡_};
-ghost use mathlib.Core.Bool.{true, _&&_};
 ghost use Prim.Native.Nat.{_*_, _≤_};
 ghost use lib.ListN.{length};
-ghost use Rattle.sizes.specs.Sizes.{segments, memory};
+ghost use Rattle.sizes.specs.Sizes.{segments};
 ghost use Rattle.spans.specs.Spans.{marks};
-ghost use Rattle.store.specs.Placement.{placedBy, placement};
-ghost use Rattle.store.specs.Records.{tableAt};
-ghost use Rattle.store.specs.Sound as sound-spec;
+ghost use Rattle.store.specs.Placement.{placedBy};
 ghost use Rattle.store.specs.inner.Passes.{mapWords};
 ghost use Rattle.image.specs.Images as images;
+ghost use Rattle.image.specs.Verdicts as verdicts;
 ghost use Rattle.image.specs.inner.Claims as claims;
 
 // Whether every byte is zero.
@@ -112,13 +109,11 @@ fn base_on(map: &[u64; MAP_WORDS], here: bool, size: usize, found: Found) -> Fou
     store::base_in(map, size)
 }
 
-// Whether the bytes hold a store that is sound with the whole memory, and if so, the smallest base at which `size` bytes fit on
-// a node: it is found on the map by which the node was judged.
+// Whether the bytes hold a store that is sound with the whole memory, and the smallest base at which `size` bytes fit on a node
+// of it: that is found on the map by which the node was judged. In bytes that hold no such store they fit nowhere.
 pub fn sound_and_base(image: &[u8; IMAGE], wanted: usize, size: usize) -> Judged
-    ensures sound { λ r. ⌜ r .sound
-        ≡ (images.good (now (image .entry)) && sound-spec.sound (images.storeIn (now (image .entry))) memory) ⌝ }
-    ensures base { λ r. ⌜ (r .sound ≡ true
-        → placedBy (r .found) ≡ placement (tableAt (images.storeIn (now (image .entry)))) wanted size) ⌝ }
+    ensures sound { λ r. ⌜ r .sound ≡ verdicts.soundIn (now (image .entry)) ⌝ }
+    ensures base { λ r. ⌜ placedBy (r .found) ≡ verdicts.placementIn (now (image .entry)) wanted size ⌝ }
 {
     let all = &image[..];
     let mut sound = true;
@@ -138,14 +133,19 @@ pub fn sound_and_base(image: &[u8; IMAGE], wanted: usize, size: usize) -> Judged
         found = base_on(&map, node == wanted, size, found);
         node += 1;
     }
+    if !sound {
+        return Judged {
+            sound,
+            found: Found::Nowhere,
+        };
+    }
     Judged { sound, found }
 }
 
-// Whether the bytes hold a store, and one that is sound with a slice of `size` bytes.
-pub fn sound_in(image: &[u8; IMAGE], size: usize) -> bool
-    ensures { λ r. ⌜ r
-        ≡ (images.good (now (image .entry)) && sound-spec.sound (images.storeIn (now (image .entry))) size) ⌝ }
+// The first of these alone.
+pub fn sound_in(image: &[u8; IMAGE]) -> bool
+    ensures { λ r. ⌜ r ≡ verdicts.soundIn (now (image .entry)) ⌝ }
 {
     let judged = sound_and_base(image, NODES, 0);
-    (size == MEMORY) & judged.sound
+    judged.sound
 }

@@ -1,20 +1,16 @@
--- What was found is that of the cluster which the handle names.
+-- The handle is that of the bytes.
 -- Assumes nothing.
-use Rattle.gelmuszta.proofs.ExportLaws.{opens-so}
 use borrow.Author.Needs.{needs}
 use Rattle.gelmuszta.proofs.look_up.Statement.{statement}
 use Rattle.gelmuszta.proofs.look_up.Tie as tie
 
 returns : tie.Need-returns
-returns c = search (needs, opens-so)
+returns c = c .opened-by .ensures _ (search needs)
 
 pub look-up-spec : {M : Type 1} → statement M
 look-up-spec =
     tie.close
     (tie.spec
-    (λ c κs. search needs)
-    (λ c κs. search needs)
-    (λ c. search needs)
     (λ c κs. search needs)
     (λ c κs. search needs)
     (λ c κs. search needs)

@@ -8,7 +8,7 @@ use Rattle.sizes.specs.Sizes.{nodes, clusters}
 use Rattle.spans.specs.Spans.{marks}
 use Rattle.store.specs.inner.Passes.{mapWords}
 use Rattle.image.proofs.JudgeLaws.{Judged, judged-none, judged-more}
-use Rattle.image.proofs.JudgeLaws.{Sought, sought-none, sought-more, sought-sound, sought-base}
+use Rattle.image.proofs.JudgeLaws.{Sought, sought-none, sought-more, sought-sound, sought-nowhere, sought-base}
 use borrow.Author.Needs.{needs}
 use Rattle.image.proofs.soundness.sound_and_base.Statement.{statement}
 use Rattle.image.proofs.soundness.sound_and_base.Tie as tie
@@ -43,7 +43,10 @@ loop-again : tie.Need-loop-again Inv-loop2 μ-loop2 Inv-loop μ-loop
 loop-again c = search (needs, sought-more)
 
 returns : tie.Need-returns Inv-loop2 μ-loop2 Inv-loop μ-loop
-returns c = search (needs, sought-sound, sought-base)
+returns c = search (needs, sought-sound, sought-nowhere)
+
+returns-2 : tie.Need-returns-2 Inv-loop2 μ-loop2 Inv-loop μ-loop
+returns-2 c = search (needs, sought-sound, sought-base)
 
 pub sound-and-base-spec : {M : Type 1} → statement M
 sound-and-base-spec =
@@ -71,4 +74,5 @@ sound-and-base-spec =
     (λ c. search needs)
     (λ c. search needs)
     loop-again
-    returns)
+    returns
+    returns-2)
