@@ -142,7 +142,7 @@ pub fn sound_and_base(image: &[u8; IMAGE], wanted: usize, size: usize) -> Judged
     Judged { sound, found }
 }
 
-// The first of these alone.
+// Whether the bytes hold a store that is sound with the whole memory: the same with no node asked about.
 pub fn sound_in(image: &[u8; IMAGE]) -> bool
     ensures { λ r. ⌜ r ≡ verdicts.soundIn (now (image .entry)) ⌝ }
 {
