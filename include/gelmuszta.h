@@ -100,6 +100,10 @@ typedef struct gelmuszta_memory { uint8_t bytes[16384]; } gelmuszta_memory;
 typedef struct gelmuszta_password { uint8_t bytes[16]; } gelmuszta_password;
 typedef struct gelmuszta_handle { uint8_t bytes[GELMUSZTA_HANDLE_MAX]; uint8_t length; } gelmuszta_handle;
 
+/* An entry of a register has two bytes, and a register no more than 255 entries. */
+#define GELMUSZTA_ENTRY_BYTES 2
+#define GELMUSZTA_ENTRIES_MAX 255
+
 /* A mode and a width are whole words to the library, which no enumeration is bound to be. */
 typedef size_t gelmuszta_mode;
 typedef size_t gelmuszta_width;
@@ -110,7 +114,7 @@ typedef size_t gelmuszta_width;
 #define GELMUSZTA_WIDTH_16 ((gelmuszta_width)16)
 
 /* The numbers in the order in which they are looked at, with their words. 25 and 22 are looked at in two places, and stand
- * at the first. 18 to 20 belong to lists of calls, and no function here gives them. */
+ * at the first. 18 to 20 are given of registers alone. */
 typedef uint8_t gelmuszta_number;
 enum {
     GELMUSZTA_DONE = 0,
@@ -132,8 +136,11 @@ enum {
     GELMUSZTA_OLD_PASSWORD = 12,   /* old password: the new one is the current primary password of the mode */
     GELMUSZTA_PRESENT = 13,        /* present: the segment is present */
     GELMUSZTA_ABSENT = 14,         /* absent: the segment is absent */
-    GELMUSZTA_SHORT = 15,          /* short: buffer or data are shorter than the segment */
+    GELMUSZTA_LIST_LENGTH = 18,    /* list length: a register has a byte too many, or more than 255 entries */
+    GELMUSZTA_SHORT = 15,          /* short: buffer or data are shorter than the segment, or a buffer than all entries need */
     GELMUSZTA_NO_ROOM = 16,        /* no room: the segment fits nowhere in the node */
+    GELMUSZTA_LINK = 19,           /* link: the way from an entry meets a number that no entry has */
+    GELMUSZTA_LOOP = 20,           /* loop: the way from an entry comes to an entry again */
     GELMUSZTA_EMPTY = 21,          /* empty: no segment is both referenced by the handle and kept by the mask */
     GELMUSZTA_SPENT = 17           /* spent: something would be excluded and no subselector is flat */
 };
@@ -251,6 +258,30 @@ size_t gelmuszta_validate_all(const gelmuszta_image *image, gelmuszta_mode mode,
 /* The conversion of a password by a parameter: AES-128, under the password as key, of the parameter as a number of sixteen
  * bytes, high byte first. A weaker handle's password is that of the stronger one converted by the subselector set. */
 void gelmuszta_convert(const gelmuszta_password *password, uint16_t parameter, gelmuszta_password *converted);
+
+/* ---- registers
+ *
+ * A register tells how handles were given out that come from one handle of 23 bytes, which the caller supplies: two bytes an
+ * entry, numbered from 1. The first is the number of the entry that it was weakened from, which may stand above or below, or
+ * 0 for the handle supplied; the second is the mask. The way from an entry leads to the one that it was weakened from, and
+ * on until 0. The handle of an entry is the handle supplied, weakened by the masks on that way, the last one met first.
+ *
+ * Neither function looks at a store. *entry becomes 0 where a number is about the call as a whole, 25 to 15 in the rows
+ * below, and where the call is done. Else it becomes the lowest entry that has no handle, and the number is that entry's: 19
+ * or 20 by its way, or 21 or 17 by the first weakening on the way down from the handle supplied that is refused. */
+
+/* Gives the handles of all entries, in order, one after the other: GELMUSZTA_HANDLE_BYTES(8) bytes of the buffer each. The
+ * bytes behind them stay. Numbers: 25 2 4 18 15 19 20 21 17. */
+GELMUSZTA_USED gelmuszta_number gelmuszta_register(const gelmuszta_handle *handle, const uint8_t *entries,
+                                                   size_t entries_length, uint8_t *handles, size_t handles_length,
+                                                   size_t *entry);
+
+/* Gives the numbers of the entries whose handle references a segment, in rising order, a byte each, and how many they are.
+ * The buffer needs a byte for each entry of the register, whatever is given; the bytes behind stay. No password is
+ * converted, so that of the handle does not matter. Numbers: 25 2 3 4 18 15 19 20 21 17. */
+GELMUSZTA_USED gelmuszta_number gelmuszta_openers(const gelmuszta_handle *handle, size_t segment, const uint8_t *entries,
+                                                  size_t entries_length, uint8_t *openers, size_t openers_length,
+                                                  size_t *count, size_t *entry);
 
 #ifdef __cplusplus
 }

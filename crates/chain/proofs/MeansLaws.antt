@@ -63,7 +63,7 @@ module _ (n : ℕ) (next : ℕ → ℕ) (k : ℕ) where
 
   -- a way that stops after m records has met at most n, and none of them twice
   module _ (m : ℕ) (on : OnRecords n next k m) (off : IsRecord n (reached next k m) → ⊥) where
-    few : m ≤ n
+    pub few : m ≤ n
     few = go (decLt n m)
       where
         go : Dec (n < m) → m ≤ n

@@ -6,7 +6,7 @@ use native.Mathlib.Nat.{not-suc-le-zero, le-of-suc-le-suc}
 use lib.ListN.{length, getD}
 use Rattle.chain.specs.Way.{reached, records}
 
-reached-next : (next : ℕ → ℕ) (k i : ℕ) → reached next (next k) i ≡ reached next k (suc i)
+pub reached-next : (next : ℕ → ℕ) (k i : ℕ) → reached next (next k) i ≡ reached next k (suc i)
 unfolding reached
 reached-next next k zero = refl
 reached-next next k (suc i) = ap next (reached-next next k i)

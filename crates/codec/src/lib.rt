@@ -18,7 +18,7 @@ fn wide(byte: u8) -> usize
 }
 
 // The handle's own bytes: as many as the last one tells, all where that is more.
-fn own(held: &[u8; HELD]) -> &[u8]
+pub fn own(held: &[u8; HELD]) -> &[u8]
     ensures { λ r. ⌜ now r ≡ spec.bytesHeld (now (held .entry)) ⌝ }
 {
     let all = &held[..];

@@ -4,6 +4,7 @@ pub mod MemoryLaws
 pub mod GivenLaws
 pub mod LookLaws
 pub mod MakeLaws
+pub mod RegisterLaws
 pub mod ValidationLaws
 pub mod BatchWordLaws
 pub mod FitLaws

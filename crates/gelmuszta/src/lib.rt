@@ -22,6 +22,7 @@ ghost use Rattle.gelmuszta.specs.inner.Opened as opened;
 mod bytes; // bytes.rt: calls 3, 5 and 6, which use the memory's bytes, and the look, which tells where they lie
 mod handles; // handles.rt: conversion, calls 7, 8 and 11
 mod records; // records.rt: calls 1, 2, 4, 9 and 10, which change a record
+mod registers; // registers.rt: the two questions about a register of handles given out
 mod stores; // stores.rt: the starting store, soundness
 mod validation; // validation.rt: validation of one handle and of many
 
@@ -39,6 +40,8 @@ pub use records::gelmuszta_delete_segment;
 pub use records::gelmuszta_freeze;
 pub use records::gelmuszta_new_cluster;
 pub use records::gelmuszta_new_password;
+pub use registers::gelmuszta_openers;
+pub use registers::gelmuszta_register;
 pub use stores::gelmuszta_sound;
 pub use stores::gelmuszta_start;
 pub use validation::gelmuszta_validate;

@@ -278,3 +278,8 @@ code-width h b w e = ap (λ (n : ℕ). eqb n w) e
 
 pub code-beyond : (h : Handle) (b i : ℕ) → b ≡ widthOf h → leb b i ≡ leb (widthOf h) i
 code-beyond h b i e = ap (λ (n : ℕ). leb n i) e
+
+-- the subselector replaced, and the password as it is
+pub bare-cut : (w : ℕ) (h : Handle) (k x y : ℕ) → y ≡ full w
+    → renewed h (h .password) (set (h .selector) k (y - x)) ≡ cut (λ p c. p) h k (full w - x)
+bare-cut w h k x y ey = ap (λ (s : ℕ). cut (λ p c. p) h k (s - x)) ey

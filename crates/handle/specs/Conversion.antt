@@ -4,6 +4,7 @@
 --     conversion p c    the AES-128 encryption, under the key p, of that block
 --     product n p c     the product's conversion, at which contracts stand: of the cluster's name n, the password p and
 --                       the parameter c; it takes in no name
+--     unconverted n p c the password as it is: for whoever asks of selectors alone
 --     SixteenBytes f    the conversion f gives passwords of sixteen bytes
 -- Assumes nothing.
 use mathlib.Core.Path.{_≡_}
@@ -23,6 +24,9 @@ conversion p c = cipher p (block c)
 
 abbrev pub product : Name → List ℕ → ℕ → List ℕ
 product n p c = conversion p c
+
+abbrev pub unconverted : Name → List ℕ → ℕ → List ℕ
+unconverted n p c = p
 
 abbrev pub SixteenBytes : (Name → List ℕ → ℕ → List ℕ) → Type 0
 SixteenBytes f = (n : Name) (p : List ℕ) (c : ℕ) → length (f n p c) ≡ passwordBytes

@@ -19,7 +19,7 @@ ghost use Rattle.bits.specs.Sets.{full};
 ghost use Rattle.handle.specs.Sizes.{subselectors};
 ghost use Rattle.handle.specs.Selectors as sel;
 ghost use Rattle.handle.specs.Handles as spec;
-ghost use Rattle.handle.specs.Conversion.{product};
+ghost use Rattle.handle.specs.Conversion.{product, unconverted};
 
 // The reply of a refused weakening.
 fn refused(number: u8) -> Weakened
@@ -121,5 +121,50 @@ impl Handle {
     {
         let tables = aes::tables();
         self.weaken_with(&tables, mask)
+    }
+
+    // The same, with the password left as it is.
+    fn cut_bare(self, place: usize, excluded: u16) -> Handle
+        requires { ⌜ place < subselectors ⌝ }
+        requires { ⌜ excluded ≤ full (spec.widthOf self) ⌝ }
+        ensures { λ r. ⌜ r ≡ spec.cut (unconverted (spec.nameOf self)) self place (full (spec.widthOf self) - excluded) ⌝ }
+    {
+        let width = self.width;
+        let parameter = width.full() - excluded;
+        let password = self.password;
+        let mut selector = self.selector;
+        selector[place] = parameter;
+        Handle {
+            node: self.node,
+            local: self.local,
+            password,
+            width,
+            selector,
+        }
+    }
+
+    // The handle weakened by a mask as far as its selector goes: no password is converted.
+    pub fn weaken_bare(self, mask: u16) -> Weakened
+        ensures { λ r. ⌜ r ≡ spec.weakening (spec.widthOf self) (unconverted (spec.nameOf self)) self mask ⌝ }
+    {
+        let number = self.standing();
+        if number != 0 {
+            return refused(number);
+        }
+        let common = self.common();
+        let kept = common & mask;
+        if kept == 0 {
+            return refused(EMPTY);
+        }
+        let excluded = common & !mask;
+        if excluded == 0 {
+            return done(self);
+        }
+        let place = self.first_flat();
+        if SUBSELECTORS <= place {
+            return refused(SPENT);
+        }
+        let weaker = self.cut_bare(place, excluded);
+        done(weaker)
     }
 }

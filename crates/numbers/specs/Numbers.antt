@@ -4,6 +4,7 @@
 --     placeNumber      no such place
 --     fieldNumber      field
 --     gappedNumber     gapped
+--     shortNumber      short
 --     noRoomNumber     no room
 --     spentNumber      spent
 --     lengthNumber     list length
@@ -25,6 +26,9 @@ fieldNumber = 3
 
 abbrev pub gappedNumber : ℕ
 gappedNumber = 4
+
+abbrev pub shortNumber : ℕ
+shortNumber = 15
 
 abbrev pub noRoomNumber : ℕ
 noRoomNumber = 16

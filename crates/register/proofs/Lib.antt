@@ -1,0 +1,12 @@
+pub mod ClimbLaws
+pub mod MadeLaws
+pub mod WorkLaws
+pub mod WholeLaws
+pub mod PutLaws
+pub mod OpenerLaws
+pub mod KeptLaws
+pub mod HandlesLaws
+pub mod LiteralLaws
+pub mod WordLaws
+pub mod FreeLaws
+pub mod OwnWayLaws

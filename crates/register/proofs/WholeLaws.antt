@@ -1,0 +1,154 @@
+-- The number for the call as a whole, return by return: the tests passed so far say which row is the first that applies.
+-- Assumes nothing.
+use mathlib.Core.Path.{_≡_, refl, sym, ap, ap₂, _∙_}
+use mathlib.Core.Bool.{Bool, true, false, not, _||_, cond, true≢false}
+use mathlib.Core.List.{List}
+use Prim.Native.Nat.{ℕ, _*_, _/_, _%_, _≤_, _<_}
+use native.Mathlib.Nat.{mul-le-mul-right}
+use native.Mathlib.Omega.{arith}
+use mir.Val.{Fits}
+use mir.Syntax.{w64}
+use lib.Dec.{eqb, leb, ltb}
+use lib.ListN.{length}
+use borrow.Author.Tests.{eq-eqb, ne-eqb, le-leb, lt-leb, lt-ltb, le-ltb, eqb-true, not-false, ltb-false}
+use Rattle.numbers.specs.Numbers.{wrongLengthNumber, placeNumber, fieldNumber, gappedNumber, shortNumber, lengthNumber}
+use Rattle.sizes.specs.Sizes.{nodes, clusters}
+use Rattle.handle.specs.declared.Handle.{Handle}
+use Rattle.handle.specs.Selectors.{gapped}
+use Rattle.handle.specs.Handles.{nodeOf, widthOf, noSuchPlace, decoded}
+use Rattle.register.specs.Registers.{handleBytes, wholeNumber}
+
+abbrev chosen : Bool → Bool → Bool → Bool → Bool → Bool → ℕ
+chosen a b c d e g =
+    cond a wrongLengthNumber
+    (cond b placeNumber (cond c fieldNumber (cond d gappedNumber (cond e lengthNumber (cond g shortNumber 0)))))
+
+module _ (b : List ℕ) (beyond : Bool) (size room each : ℕ) where
+  abbrev place : Bool
+  place = noSuchPlace (decoded b)
+
+  abbrev gap : Bool
+  gap = gapped (widthOf (decoded b)) (decoded b .selector)
+
+  abbrev odd : Bool
+  odd = not (eqb (size % 2) 0) || ltb 255 (size / 2)
+
+  abbrev short : Bool
+  short = ltb room (size / 2 * each)
+
+  whole-is : (a : Bool) → not (eqb (length b) handleBytes) ≡ a
+      → wholeNumber b beyond size room each ≡ chosen a place beyond gap odd short
+  unfolding wholeNumber
+  whole-is a q = ap (λ (a : Bool). chosen a place beyond gap odd short) q
+
+  pub whole-length : (length b ≡ 23 → ⊥) → wrongLengthNumber ≡ wholeNumber b beyond size room each
+  whole-length z = sym (whole-is true (ap not (ne-eqb (length b) 23 z)))
+
+  module _ (l : length b ≡ 23) (h : Handle) (eh : h ≡ decoded b) (v : ℕ) (ev : v ≡ nodeOf h) where
+    of-place : (p : Bool) → place ≡ p → wholeNumber b beyond size room each ≡ chosen false p beyond gap odd short
+    of-place p q =
+        whole-is false (ap not (eq-eqb (length b) 23 l))
+        ∙ ap (λ (p : Bool). chosen false p beyond gap odd short) q
+
+    node : v ≡ nodeOf (decoded b)
+    node = ev ∙ ap nodeOf eh
+
+    pub whole-node : 4 ≤ v → placeNumber ≡ wholeNumber b beyond size room each
+    whole-node t =
+        sym (of-place true (ap (λ (x : Bool). x || leb clusters (decoded b .local))
+        (le-leb nodes (nodeOf (decoded b)) (let q = node in omega arith))))
+
+    module _ (n : v < 4) where
+      here : (p : Bool) → leb clusters (decoded b .local) ≡ p → place ≡ p
+      here p q =
+          ap₂ (λ (x y : Bool). x || y) (lt-leb nodes (nodeOf (decoded b)) (let r = node in omega arith)) q
+
+      pub whole-local : 8 ≤ h .local → placeNumber ≡ wholeNumber b beyond size room each
+      whole-local t =
+          sym (of-place true (here true (le-leb clusters (decoded b .local)
+          (let r = ap (λ (h : Handle). h .local) eh in omega arith))))
+
+      module _ (c : h .local < 8) where
+        of-field : (x : Bool) → beyond ≡ x → wholeNumber b beyond size room each ≡ chosen false false x gap odd short
+        of-field x q =
+            of-place false (here false (lt-leb clusters (decoded b .local)
+            (let r = ap (λ (h : Handle). h .local) eh in omega arith)))
+            ∙ ap (λ (x : Bool). chosen false false x gap odd short) q
+
+        pub whole-field : beyond ≡ true → fieldNumber ≡ wholeNumber b beyond size room each
+        whole-field q = sym (of-field true q)
+
+        module _ (f : beyond ≡ false) (g : Bool) (eg : g ≡ gapped (widthOf h) (h .selector)) where
+          of-gap : (x : Bool) → g ≡ x → wholeNumber b beyond size room each ≡ chosen false false false x odd short
+          of-gap x q =
+              of-field false f
+              ∙ ap (λ (x : Bool). chosen false false false x odd short)
+              (sym (ap (λ (h : Handle). gapped (widthOf h) (h .selector)) eh) ∙ sym eg ∙ q)
+
+          pub whole-gapped : g ≡ true → gappedNumber ≡ wholeNumber b beyond size room each
+          whole-gapped q = sym (of-gap true q)
+
+          module _ (u : g ≡ false) where
+            of-odd : (x : Bool) → odd ≡ x → wholeNumber b beyond size room each ≡ chosen false false false false x short
+            of-odd x q = of-gap false u ∙ ap (λ (x : Bool). chosen false false false false x short) q
+
+            pub whole-odd : (size % 2 ≡ 0 → ⊥) → lengthNumber ≡ wholeNumber b beyond size room each
+            whole-odd z =
+                sym (of-odd true (ap (λ (x : Bool). not x || ltb 255 (size / 2)) (ne-eqb (size % 2) 0 z)))
+
+            module _ (even : size % 2 ≡ 0) where
+              many : (x : Bool) → ltb 255 (size / 2) ≡ x → odd ≡ x
+              many x q = ap₂ (λ (x y : Bool). not x || y) (eq-eqb (size % 2) 0 even) q
+
+              pub whole-many : 255 < size / 2 → lengthNumber ≡ wholeNumber b beyond size room each
+              whole-many t = sym (of-odd true (many true (lt-ltb 255 (size / 2) t)))
+
+              module _ (few : size / 2 ≤ 255) where
+                of-short : (x : Bool) → short ≡ x
+                    → wholeNumber b beyond size room each ≡ chosen false false false false false x
+                of-short x q =
+                    of-odd false (many false (le-ltb 255 (size / 2) few))
+                    ∙ ap (λ (x : Bool). chosen false false false false false x) q
+
+                pub whole-short : room < size / 2 * each → shortNumber ≡ wholeNumber b beyond size room each
+                whole-short t = sym (of-short true (lt-ltb room (size / 2 * each) t))
+
+                pub whole-none : size / 2 * each ≤ room → 0 ≡ wholeNumber b beyond size room each
+                whole-none t = sym (of-short false (le-ltb room (size / 2 * each) t))
+
+pub times-fits : (n each : ℕ) → n ≤ 255 → each ≤ 23 → Fits w64 (n * each)
+times-fits n each a b =
+    let l = mul-le-mul-right each a in
+    record { fits = omega arith }
+
+-- ---- what a call that goes on has
+
+chosen-none : (a b c d e g : Bool) → chosen a b c d e g ≡ 0 → (a ≡ false) × (e ≡ false) × (g ≡ false)
+chosen-none true b c d e g q = absurd (omega arith)
+chosen-none false true c d e g q = absurd (omega arith)
+chosen-none false false true d e g q = absurd (omega arith)
+chosen-none false false false true e g q = absurd (omega arith)
+chosen-none false false false false true g q = absurd (omega arith)
+chosen-none false false false false false true q = absurd (omega arith)
+chosen-none false false false false false false q = (refl, refl, refl)
+
+or-right : (a b : Bool) → (a || b) ≡ false → b ≡ false
+or-right true b q = absurd (true≢false q)
+or-right false b q = q
+
+module _ (b : List ℕ) (beyond : Bool) (size room each number : ℕ) (q : number ≡ wholeNumber b beyond size room each)
+    (z : number ≡ 0) where
+  clear : (not (eqb (length b) handleBytes) ≡ false) × (odd b beyond size room each ≡ false) × (short b beyond size room each ≡ false)
+  clear =
+      chosen-none (not (eqb (length b) handleBytes)) (place b beyond size room each) beyond (gap b beyond size room each)
+      (odd b beyond size room each) (short b beyond size room each)
+      (sym (whole-is b beyond size room each (not (eqb (length b) handleBytes)) refl) ∙ sym q ∙ z)
+
+  pub going-long : length b ≡ 23
+  going-long = eqb-true (length b) 23 (not-false (eqb (length b) 23) (clear .0))
+
+  pub going-few : size / 2 ≤ 255
+  going-few = ltb-false 255 (size / 2) (or-right (not (eqb (size % 2) 0)) (ltb 255 (size / 2)) (clear .1))
+
+  pub going-room : size / 2 * each ≤ room
+  going-room = ltb-false room (size / 2 * each) (clear .2)

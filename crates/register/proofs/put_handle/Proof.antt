@@ -1,0 +1,13 @@
+use borrow.Author.Needs.{needs}
+use Rattle.register.proofs.PutLaws.{put-written}
+use Rattle.register.proofs.put_handle.Statement.{statement}
+use Rattle.register.proofs.put_handle.Tie as tie
+use Rattle.register.proofs.put_handle.Reads as reads
+use Rattle.handle.proofs.Handle.encode.Reads as encode-reads
+use Rattle.register.proofs.put.Reads as put-reads
+
+returns : tie.Need-returns
+returns c = search (needs, put-written)
+
+pub put-handle-spec : {M : Type 1} → statement M
+put-handle-spec = tie.close (tie.spec (λ c κs. search needs) (λ c κs. search needs) (λ c. search needs) returns)

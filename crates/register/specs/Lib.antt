@@ -1,0 +1,4 @@
+pub mod Registers
+pub mod Work
+pub mod Literals
+pub mod Words

@@ -1,0 +1,88 @@
+-- What the inner functions promise.
+--     Entry e k          k is the number of an entry
+--     Small e known p k  there are at most 255 entries, k is at most 255, the arrays have room, and the handle supplied is known
+--     Climbs ..          a climb from an entry: its way's number; or it is on entries m times, kept in order, and then at one
+--                        whose handle is known
+--     Works f h e t hs   t is the lowest entry that fails and its number; where there is none, hs has the handles of all
+--     Put before after at text    the text follows the buffer's first at bytes, and all else is as before
+--     openersIn hs s n   the numbers of those of the first n handles that reference segment s
+--     laidIn hs n        the bytes of the first n handles, 23 of each
+-- Assumes nothing.
+use Prim.Native.Nat.{ℕ, zero, suc, _+_, _*_, _≤_, _<_}
+use mathlib.Core.Path.{_≡_}
+use mathlib.Core.Bool.{Bool, true, false}
+use mathlib.Core.List.{List, [], _++_}
+use Rattle.handle.specs.Conversion.{product, unconverted}
+use lib.ListN.{length, getD, take, drop}
+use Rattle.chain.specs.Way.{reached, refusal}
+use Rattle.chain.specs.Means.{IsRecord, OnRecords}
+use Rattle.handle.specs.declared.Handle.{Handle}
+use Rattle.handle.specs.declared.Width.the-variants.{None}
+use Rattle.handle.specs.Selectors.{references}
+use Rattle.handle.specs.Handles.{Name, written}
+use Rattle.register.specs.declared.Told.{Told}
+use Rattle.register.specs.Registers.{entries, parentOf, wayOf, given, made, lowest, oneIf, handleBytes}
+
+pub record Entry (e : List ℕ) (k : ℕ) : Type 0 where
+  pub first : 1 ≤ k
+  pub last : k ≤ entries e
+  pub few : entries e ≤ 255
+
+pub record Small (e known path : List ℕ) (k : ℕ) : Type 0 where
+  pub few : entries e ≤ 255
+  pub byte : k ≤ 255
+  pub flags : length known ≡ 256
+  pub room : length path ≡ 256
+  pub supplied : getD known 0 0 ≡ 0 → ⊥
+
+pub record Climbs (e known : List ℕ) (from number m : ℕ) (path : List ℕ) : Type 0 where
+  pub size : length path ≡ 256
+  pub low : m ≤ entries e
+  pub refused : (number ≡ 0 → ⊥) → wayOf e from ≡ refusal number
+  pub on : number ≡ 0 → OnRecords (entries e) (parentOf e) from m
+  pub kept : number ≡ 0 → (i : ℕ) → i < m → getD path i 0 ≡ reached (parentOf e) from i
+  pub end : number ≡ 0 → getD known (reached (parentOf e) from m) 0 ≡ 0 → ⊥
+
+-- the conversion of the product, or none where selectors alone are asked for
+abbrev pub by : Bool → Name → List ℕ → ℕ → List ℕ
+by true = product
+by false = unconverted
+
+-- what is read beyond an array of handles
+abbrev pub blank : Handle
+blank = record { node = 0; local = 0; password = []; width = None; selector = [] }
+
+pub record Works (f : Name → List ℕ → ℕ → List ℕ) (h : Handle) (e : List ℕ) (t : Told) (hs : List Handle) : Type 0 where
+  pub size : length hs ≡ 256
+  pub told : t ≡ lowest f h e
+  pub all : t .number ≡ 0 → (k : ℕ) → k < entries e + 1 → made f h e k ≡ given (getD hs k blank)
+
+-- ---- the buffer
+
+pub record Put (before after : List ℕ) (at : ℕ) (text : List ℕ) : Type 0 where
+  pub size : length after ≡ length before
+  pub start : take (at + length text) after ≡ take at before ++ text
+  pub rest : drop (at + length text) after ≡ drop (at + length text) before
+
+-- the first 23 of the bytes are put
+pub record PutHandle (before after : List ℕ) (at : ℕ) (bytes : List ℕ) : Type 0 where
+  pub put : Put before after at (take handleBytes bytes)
+  pub long : length (take handleBytes bytes) ≡ handleBytes
+
+unfoldable pub openersIn : List Handle → ℕ → ℕ → List ℕ
+openersIn hs segment zero = []
+openersIn hs segment (suc n) =
+    openersIn hs segment n ++ oneIf (references (getD hs (suc n) blank .selector) segment) (suc n)
+
+unfoldable pub laidIn : List Handle → ℕ → List ℕ
+laidIn hs zero = []
+laidIn hs (suc n) = laidIn hs n ++ take handleBytes (written (getD hs (suc n) blank) .bytes)
+
+-- a handle fits after the first at of so many bytes; n handles do, and are at most 255
+pub record Fitting (at room : ℕ) : Type 0 where
+  pub ends : at + handleBytes ≤ room
+  pub low : at < 65536
+
+pub record Room (n room : ℕ) : Type 0 where
+  pub few : n ≤ 255
+  pub ends : n * handleBytes ≤ room
