@@ -82,18 +82,18 @@ module _ (n : ℕ) (next : ℕ → ℕ) (k : ℕ) where
   whole-way : (m : ℕ) → Whole n next k m → way n next k ≡ done m
   whole-way m w = way-zero n next k m (w .on) (whole-few m w) (w .zero-after)
 
-  leaves-way : Leaves n next k → way n next k ≡ refusal linkNumber
+  pub leaves-way : Leaves n next k → way n next k ≡ refusal linkNumber
   leaves-way w =
       way-beyond n next k (w .after) (w .on)
       (few (w .after) (w .on) (λ r. let b = w .beyond in omega arith)) (w .beyond)
 
-  again-way : Again n next k → way n next k ≡ refusal loopNumber
+  pub again-way : Again n next k → way n next k ≡ refusal loopNumber
   again-way r = way-again n next k (suc n) (λ i h. again-on r i) (omega arith)
 
   -- ---- and back
 
   -- what holds of the answer of each of the three holds of every answer
-  ending : (P : Walked → Type 0) → ((m : ℕ) → Whole n next k m → P (done m))
+  pub ending : (P : Walked → Type 0) → ((m : ℕ) → Whole n next k m → P (done m))
       → (Leaves n next k → P (refusal linkNumber)) → (Again n next k → P (refusal loopNumber))
       → (w : Walked) → w ≡ way n next k → P w
   unfolding way

@@ -72,7 +72,7 @@ module _ (w : ℕ) (f : List ℕ → ℕ → List ℕ) (h : Handle) (mask : ℕ)
   number-of zero = refl
   number-of (suc n) = refl
 
-  number-done : weakening w f h mask .number ≡ 0 → weakenNumber w h mask ≡ 0
+  pub number-done : weakening w f h mask .number ≡ 0 → weakenNumber w h mask ≡ 0
   unfolding weakening
   number-done d = sym (number-of (weakenNumber w h mask)) ∙ d
 

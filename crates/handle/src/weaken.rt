@@ -12,6 +12,7 @@ use numbers::NO_SUCH_PLACE;
 use numbers::SPENT;
 use sizes::CLUSTERS;
 use sizes::NODES;
+use sizes::Password;
 ghost use mathlib.Core.Path.{_≡_};
 ghost use Prim.Native.Nat.{_-_, _≤_, _<_};
 ghost use Rattle.aes.specs.Tables.{IsTables};
@@ -19,7 +20,7 @@ ghost use Rattle.bits.specs.Sets.{full};
 ghost use Rattle.handle.specs.Sizes.{subselectors};
 ghost use Rattle.handle.specs.Selectors as sel;
 ghost use Rattle.handle.specs.Handles as spec;
-ghost use Rattle.handle.specs.Conversion.{product, unconverted};
+ghost use Rattle.handle.specs.Conversion.{product, by, ByAny};
 
 // The reply of a refused weakening.
 fn refused(number: u8) -> Weakened
@@ -45,6 +46,17 @@ fn done(handle: Handle) -> Weakened
     }
 }
 
+// The password through the conversion of a parameter, or as it is.
+fn converted_if(tables: &Tables, converting: bool, password: Password, parameter: u16) -> Password
+    requires { ⌜ IsTables (now tables) ⌝ }
+    ensures { λ r. ⌜ ByAny converting password parameter r ⌝ }
+{
+    if converting {
+        return convert_with(tables, password, parameter);
+    }
+    password
+}
+
 impl Handle {
     // The number by what the handle is, whatever the mask: none of the three lengths, no such place, gapped; or 0.
     fn standing(self) -> u8
@@ -67,17 +79,17 @@ impl Handle {
     }
 
     // The handle with the parameter in one of its subselectors, all bits of the width less those of the excluded segments;
-    // and its password through the conversion of the parameter.
-    fn cut_with(self, tables: &Tables, place: usize, excluded: u16) -> Handle
+    // and its password through the conversion of the parameter, or as it is.
+    fn cut_with(self, tables: &Tables, converting: bool, place: usize, excluded: u16) -> Handle
         requires { ⌜ IsTables (now tables) ⌝ }
         requires { ⌜ place < subselectors ⌝ }
         requires { ⌜ excluded ≤ full (spec.widthOf self) ⌝ }
-        ensures { λ r. ⌜ r ≡ spec.cut (product (spec.nameOf self)) self place (full (spec.widthOf self) - excluded) ⌝ }
+        ensures { λ r. ⌜ r ≡ spec.cut (by converting (spec.nameOf self)) self place (full (spec.widthOf self) - excluded) ⌝ }
     {
         let width = self.width;
         let parameter = width.full() - excluded;
         let old = self.password;
-        let password = convert_with(tables, old, parameter);
+        let password = converted_if(tables, converting, old, parameter);
         let mut selector = self.selector;
         selector[place] = parameter;
         Handle {
@@ -89,10 +101,11 @@ impl Handle {
         }
     }
 
-    // The handle weakened by a mask, and how many segments the new one references. The store plays no part.
-    pub fn weaken_with(self, tables: &Tables, mask: u16) -> Weakened
+    // The handle weakened by a mask, and how many segments the new one references. The store plays no part. Whoever asks of
+    // selectors alone has no password converted.
+    pub fn weaken_by(self, tables: &Tables, mask: u16, converting: bool) -> Weakened
         requires { ⌜ IsTables (now tables) ⌝ }
-        ensures { λ r. ⌜ r ≡ spec.weakening (spec.widthOf self) (product (spec.nameOf self)) self mask ⌝ }
+        ensures { λ r. ⌜ r ≡ spec.weakening (spec.widthOf self) (by converting (spec.nameOf self)) self mask ⌝ }
     {
         let number = self.standing();
         if number != 0 {
@@ -111,8 +124,16 @@ impl Handle {
         if SUBSELECTORS <= place {
             return refused(SPENT);
         }
-        let weaker = self.cut_with(tables, place, excluded);
+        let weaker = self.cut_with(tables, converting, place, excluded);
         done(weaker)
+    }
+
+    // The same, with the password converted.
+    pub fn weaken_with(self, tables: &Tables, mask: u16) -> Weakened
+        requires { ⌜ IsTables (now tables) ⌝ }
+        ensures { λ r. ⌜ r ≡ spec.weakening (spec.widthOf self) (product (spec.nameOf self)) self mask ⌝ }
+    {
+        self.weaken_by(tables, mask, true)
     }
 
     // The same, with the tables taken for this one call.
@@ -121,50 +142,5 @@ impl Handle {
     {
         let tables = aes::tables();
         self.weaken_with(&tables, mask)
-    }
-
-    // The same, with the password left as it is.
-    fn cut_bare(self, place: usize, excluded: u16) -> Handle
-        requires { ⌜ place < subselectors ⌝ }
-        requires { ⌜ excluded ≤ full (spec.widthOf self) ⌝ }
-        ensures { λ r. ⌜ r ≡ spec.cut (unconverted (spec.nameOf self)) self place (full (spec.widthOf self) - excluded) ⌝ }
-    {
-        let width = self.width;
-        let parameter = width.full() - excluded;
-        let password = self.password;
-        let mut selector = self.selector;
-        selector[place] = parameter;
-        Handle {
-            node: self.node,
-            local: self.local,
-            password,
-            width,
-            selector,
-        }
-    }
-
-    // The handle weakened by a mask as far as its selector goes: no password is converted.
-    pub fn weaken_bare(self, mask: u16) -> Weakened
-        ensures { λ r. ⌜ r ≡ spec.weakening (spec.widthOf self) (unconverted (spec.nameOf self)) self mask ⌝ }
-    {
-        let number = self.standing();
-        if number != 0 {
-            return refused(number);
-        }
-        let common = self.common();
-        let kept = common & mask;
-        if kept == 0 {
-            return refused(EMPTY);
-        }
-        let excluded = common & !mask;
-        if excluded == 0 {
-            return done(self);
-        }
-        let place = self.first_flat();
-        if SUBSELECTORS <= place {
-            return refused(SPENT);
-        }
-        let weaker = self.cut_bare(place, excluded);
-        done(weaker)
     }
 }

@@ -15,7 +15,7 @@ use Rattle.chain.specs.Way.{reached, refusal}
 use Rattle.chain.specs.Means.{IsRecord, OnRecords}
 use Rattle.chain.proofs.WalkLaws.{Walking, walking-none, walking-more, walking-inside, walked-beyond, walked-again}
 use Rattle.register.specs.Registers.{entries, parentOf, wayOf}
-use Rattle.register.specs.Work.{Small, Climbs}
+use Rattle.register.specs.inner.Work.{Small, Climbs}
 
 pub record Climbing (e known start path : List ℕ) (from n met at : ℕ) : Type 0 where
   pub walking : Walking e 2 from n met at

@@ -1,4 +1,4 @@
--- What becomes of an entry by two conversions is alike but for passwords.
+-- What becomes of an entry by two conversions, from handles that differ in the password alone, is alike but for passwords.
 -- Assumes nothing.
 use Prim.Native.Nat.{ℕ, zero, suc, _+_, _≤_, _<_}
 use native.Mathlib.Omega.{arith}
@@ -14,19 +14,23 @@ use Rattle.handle.specs.Handles.{Name, nameOf, widthOf, noHandle, renewed, cut,
 use Rattle.register.specs.declared.Told.{Told}
 use Rattle.register.specs.Registers.{entries, wayOf, masksOf, Made, given, failed, settled, weakenedBy, steppedAt, stepped}
 use Rattle.register.specs.Registers.{steps, ended, made, fails, tells, lowest, oneIf, openersUpTo}
-use Rattle.handle.specs.declared.Weakened.{Weakened}
 use Rattle.handle.specs.Handles.{decoded}
-use Rattle.handle.specs.Conversion.{product, unconverted}
 use lib.Dec.{ltb}
 use lib.ListN.{length}
 use Rattle.register.specs.declared.Opened.{Opened}
 use Rattle.register.specs.Registers.{wholeNumber, toldFirst, leaves, openedWith, openersEntry, openersTold, openersLeft}
-use Rattle.register.specs.Work.{by}
-use Rattle.register.specs.Words.{FreeOfConversion}
+use Rattle.register.specs.Words.{SameButPassword, FreeOfPasswords}
 
 -- a handle without its password
 abbrev bare : Handle → Handle
 bare h = renewed h [] (h .selector)
+
+bare-same : (h h′ : Handle) → SameButPassword h h′ → bare h ≡ bare h′
+bare-same h h′ s j =
+    record { node = s .node j; local = s .local j; password = []; width = s .width j; selector = s .selector j }
+
+pub same-but-password : (h : Handle) → SameButPassword h h
+same-but-password h = record { node = refl; local = refl; width = refl; selector = refl }
 
 record Alike (a b : Made) : Type 0 where
   number : a .number ≡ b .number
@@ -111,74 +115,67 @@ module _ (f g : Name → List ℕ → ℕ → List ℕ) where
   stepped-alike (suc n) zero h k mask q r = absurd (omega arith)
   stepped-alike (suc n) (suc m) h k mask q r = record { number = q; handle = refl }
 
-  steps-alike : (h : Handle) (ms : List ℕ) → Alike (steps f h ms) (steps g h ms)
-  unfolding steps
-  steps-alike h [] = alike (given h)
-  steps-alike h (m ∷ ms) =
-      let s = steps-alike h ms in
-      stepped-alike (steps f h ms .number) (steps g h ms .number) (steps f h ms .handle) (steps g h ms .handle) m
-      (s .number) (s .handle)
+  module _ (h h′ : Handle) (s : SameButPassword h h′) where
+    steps-alike : (ms : List ℕ) → Alike (steps f h ms) (steps g h′ ms)
+    unfolding steps
+    steps-alike [] = record { number = refl; handle = bare-same h h′ s }
+    steps-alike (m ∷ ms) =
+        let a = steps-alike ms in
+        stepped-alike (steps f h ms .number) (steps g h′ ms .number) (steps f h ms .handle) (steps g h′ ms .handle) m
+        (a .number) (a .handle)
 
-  made-alike : (h : Handle) (e : List ℕ) (k : ℕ) → Alike (made f h e k) (made g h e k)
-  unfolding made
-  made-alike h e k = go (wayOf e k .number) (wayOf e k .records)
-    where
-      go : (n m : ℕ) → Alike (ended f h e k n m) (ended g h e k n m)
-      go zero m = steps-alike h (masksOf e k m)
-      go (suc n) m = alike (failed (suc n))
+    module _ (e : List ℕ) where
+      made-alike : (k : ℕ) → Alike (made f h e k) (made g h′ e k)
+      unfolding made
+      made-alike k = go (wayOf e k .number) (wayOf e k .records)
+        where
+          go : (n m : ℕ) → Alike (ended f h e k n m) (ended g h′ e k n m)
+          go zero m = steps-alike (masksOf e k m)
+          go (suc n) m = alike (failed (suc n))
 
-  -- ---- what is told
+      -- ---- what is told
 
-  module _ (h : Handle) (e : List ℕ) where
-    number : (k : ℕ) → made f h e k .number ≡ made g h e k .number
-    number k = made-alike h e k .number
+      number : (k : ℕ) → made f h e k .number ≡ made g h′ e k .number
+      number k = made-alike k .number
 
-    selector : (k : ℕ) → made f h e k .handle .selector ≡ made g h e k .handle .selector
-    selector k = ap (λ (h : Handle). h .selector) (made-alike h e k .handle)
+      selector : (k : ℕ) → made f h e k .handle .selector ≡ made g h′ e k .handle .selector
+      selector k = ap (λ (h : Handle). h .selector) (made-alike k .handle)
 
-    tells-alike : (o : Option ℕ) → tells f h e o ≡ tells g h e o
-    tells-alike none = refl
-    tells-alike (some i) = ap (λ (n : ℕ). record { number = n; entry = suc i }) (number (suc i))
+      tells-alike : (o : Option ℕ) → tells f h e o ≡ tells g h′ e o
+      tells-alike none = refl
+      tells-alike (some i) = ap (λ (n : ℕ). record { number = n; entry = suc i }) (number (suc i))
 
-    told : lowest f h e ≡ lowest g h e
-    unfolding lowest
-    told =
-        (λ j. tells f h e (least (entries e) (λ i. not (eqb (number (suc i) j) 0))))
-        ∙ tells-alike (least (entries e) (fails g h e))
+      told : lowest f h e ≡ lowest g h′ e
+      unfolding lowest
+      told =
+          (λ j. tells f h e (least (entries e) (λ i. not (eqb (number (suc i) j) 0))))
+          ∙ tells-alike (least (entries e) (fails g h′ e))
 
-    openers : (s n : ℕ) → openersUpTo f h e s n ≡ openersUpTo g h e s n
-    unfolding openersUpTo
-    openers s zero = refl
-    openers s (suc n) =
-        ap₂ (λ (x y : List ℕ). x ++ y) (openers s n)
-        (ap (λ (ss : List ℕ). oneIf (references ss s) (suc n)) (selector (suc n)))
+      openers : (s n : ℕ) → openersUpTo f h e s n ≡ openersUpTo g h′ e s n
+      unfolding openersUpTo
+      openers s zero = refl
+      openers s (suc n) =
+          ap₂ (λ (x y : List ℕ). x ++ y) (openers s n)
+          (ap (λ (ss : List ℕ). oneIf (references ss s) (suc n)) (selector (suc n)))
 
-    pub free-of-conversion : FreeOfConversion f g h e
-    free-of-conversion = record { number = number; selector = selector; told = told; openers = openers }
+      pub free-of-passwords : FreeOfPasswords f g h h′ e
+      free-of-passwords = record { number = number; selector = selector; told = told; openers = openers }
 
   -- ---- the second question
 
   module _ (b : List ℕ) (s : ℕ) (e : List ℕ) where
+    free : FreeOfPasswords f g (decoded b) (decoded b) e
+    free = free-of-passwords (decoded b) (decoded b) (same-but-password (decoded b)) e
+
     entry-same : (room : ℕ) → openersEntry f b s e room ≡ openersEntry g b s e room
     unfolding openersEntry
-    entry-same room = ap (toldFirst (wholeNumber b (ltb 7 s) (length e) room 1)) (told (decoded b) e)
+    entry-same room = ap (toldFirst (wholeNumber b (ltb 7 s) (length e) room 1)) (free .told)
 
     pub told-same : (room : ℕ) (r : Opened) → r ≡ openersTold f b s e room → r ≡ openersTold g b s e room
     unfolding openersTold
-    told-same room r q = q ∙ ap₂ openedWith (entry-same room) (openers (decoded b) e s (entries e))
+    told-same room r q = q ∙ ap₂ openedWith (entry-same room) (free .openers s (entries e))
 
     pub left-same : (m r : List ℕ) → r ≡ openersLeft f b s e m → r ≡ openersLeft g b s e m
     unfolding openersLeft
     left-same m r q =
-        q ∙ ap₂ (λ (t : Told) (l : List ℕ). leaves (t .number) l m) (entry-same (length m)) (openers (decoded b) e s (entries e))
-
--- ---- the step, by either conversion
-
-module _ (converting : Bool) (h : Handle) (mask : ℕ) (r : Weakened) where
-  pub by-converting : converting ≡ true → r ≡ weakening (widthOf h) (product (nameOf h)) h mask
-      → r ≡ weakening (widthOf h) (by converting (nameOf h)) h mask
-  by-converting t q = q ∙ ap (λ (b : Bool). weakening (widthOf h) (by b (nameOf h)) h mask) (sym t)
-
-  pub by-bare : converting ≡ false → r ≡ weakening (widthOf h) (unconverted (nameOf h)) h mask
-      → r ≡ weakening (widthOf h) (by converting (nameOf h)) h mask
-  by-bare t q = q ∙ ap (λ (b : Bool). weakening (widthOf h) (by b (nameOf h)) h mask) (sym t)
+        q ∙ ap₂ (λ (t : Told) (l : List ℕ). leaves (t .number) l m) (entry-same (length m)) (free .openers s (entries e))

@@ -8,18 +8,18 @@ use native.Mathlib.Omega.{arith}
 use lib.ListN.{length, getD, take, drop}
 use Rattle.handle.specs.declared.Handle.{Handle}
 use Rattle.handle.specs.Handles.{Name, nameOf, widthOf, decoded, encoded, written, weakened}
-use Rattle.handle.specs.Conversion.{SixteenBytes}
+use Rattle.handle.specs.Conversion.{product, by, SixteenBytes}
 use Rattle.register.specs.declared.Told.{Told}
 use Rattle.register.specs.Registers.{entries, Made, given, made, lowest, wholeNumber, toldFirst, leaves, wayOf, masksOf}
 use Rattle.register.specs.Registers.{bytesUpTo, handlesTold, handlesLeft}
-use Rattle.register.specs.Work.{Works, Put, laidIn, blank, Room}
+use Rattle.register.specs.inner.Work.{Works, Put, laidIn, blank, Room}
 use Rattle.register.proofs.PutLaws.{put-start}
-use Rattle.register.proofs.WholeLaws.{going-room, going-few, going-long}
+use Rattle.register.proofs.WholeLaws.{going}
 use Rattle.register.proofs.OpenerLaws.{told-refused, told-goes, leaves-all, leaves-rest}
 use Rattle.register.proofs.KeptLaws.{Laid, laid-decoded, laid-weakened, laid-bytes, steps-keep, made-steps}
 
 module _ (f : Name → List ℕ → ℕ → List ℕ) (sixteen : SixteenBytes f) where
-  made-laid : (h : Handle) (e : List ℕ) (k : ℕ) (g : Handle) → Laid h → made f h e k ≡ given g → Laid g
+  pub made-laid : (h : Handle) (e : List ℕ) (k : ℕ) (g : Handle) → Laid h → made f h e k ≡ given g → Laid g
   made-laid h e k g l q =
       steps-keep f Laid h l
       (λ j mask p. laid-weakened (f (nameOf j)) (sixteen (nameOf j)) (widthOf j) j mask p)
@@ -78,12 +78,17 @@ module _ (f : Name → List ℕ → ℕ → List ℕ) (sixteen : SixteenBytes f)
           same =
               ap (λ (h : Handle). bytesUpTo f h e (entries e)) (sym eh)
               ∙ bytes-same h e hs (entries e)
-              (subst Laid (sym eh) (laid-decoded b (going-long b false (length e) (length m) 23 number q z)))
+              (subst Laid (sym eh) (laid-decoded b (going b false (length e) (length m) 23 number q z .0 .bytes)))
               (w .all y)
 
 module _ (b e m : List ℕ) (number : ℕ) (q : number ≡ wholeNumber b false (length e) (length m) 23) where
   pub handles-few : number ≡ 0 → length e / 2 ≤ 255
-  handles-few z = going-few b false (length e) (length m) 23 number q z
+  handles-few z = going b false (length e) (length m) 23 number q z .0 .few
 
   pub handles-room : number ≡ 0 → Room (length e / 2) (length m)
-  handles-room z = record { few = handles-few z; ends = going-room b false (length e) (length m) 23 number q z }
+  handles-room z = record { few = handles-few z; ends = going b false (length e) (length m) 23 number q z .0 .long }
+
+-- what is worked out with every password converted is worked out by the product's conversion
+pub works-product : (h : Handle) (e : List ℕ) (t : Told) (hs : List Handle) → Works (by true) h e t hs → Works product h e t hs
+unfolding by
+works-product h e t hs w = w

@@ -7,6 +7,9 @@ pub mod OpenerLaws
 pub mod KeptLaws
 pub mod HandlesLaws
 pub mod LiteralLaws
-pub mod WordLaws
+pub mod EntryLaws
 pub mod FreeLaws
 pub mod OwnWayLaws
+pub mod WordLaws
+pub mod AnswerLaws
+pub mod UseLaws

@@ -43,7 +43,7 @@ pub ends-known : (e : List ℕ) (k m : ℕ) → Ends e k m → k ≤ entries e
 ends-known e k zero w = let z = w .zero-after in let q = reached-none (parentOf e) k in omega arith
 ends-known e k (suc m) w = let r = w .on 0 (omega arith) in let q = reached-none (parentOf e) k in omega arith
 
-ends-way : (e : List ℕ) (k m : ℕ) → Ends e k m → wayOf e k ≡ done m
+pub ends-way : (e : List ℕ) (k m : ℕ) → Ends e k m → wayOf e k ≡ done m
 ends-way e k m w =
     way-zero (entries e) (parentOf e) k m (w .on)
     (few (entries e) (parentOf e) k m (w .on) (λ r. let z = w .zero-after in omega arith)) (w .zero-after)
@@ -81,7 +81,7 @@ module _ (f : Name → List ℕ → ℕ → List ℕ) (h : Handle) (e : List ℕ
 
   -- ---- one step
 
-  steps-more : (k m : ℕ) (r : Made) → steps f h (masksOf e (parentOf e k) m) ≡ r
+  pub steps-more : (k m : ℕ) (r : Made) → steps f h (masksOf e (parentOf e k) m) ≡ r
       → steps f h (masksOf e k (suc m)) ≡ stepped f r (maskOf e k)
   unfolding steps records
   steps-more k m r q = ap (λ (r : Made). stepped f r (maskOf e k)) q

@@ -14,9 +14,9 @@ use Rattle.register.specs.declared.Told.{Told}
 use Rattle.register.specs.declared.Opened.{Opened}
 use Rattle.register.specs.Registers.{entries, Made, given, made, lowest, wholeNumber, toldFirst, leaves, oneIf, openedAs}
 use Rattle.register.specs.Registers.{openedWith, openersUpTo, openersEntry, openersTold, openersLeft}
-use Rattle.register.specs.Work.{Works, Put, openersIn, blank}
+use Rattle.register.specs.inner.Work.{Works, Put, openersIn, blank}
 use Rattle.register.proofs.PutLaws.{put-start}
-use Rattle.register.proofs.WholeLaws.{going-room, going-few}
+use Rattle.register.proofs.WholeLaws.{going}
 
 pub told-refused : (n : ℕ) (t : Told) → (n ≡ 0 → ⊥) → toldFirst n t ≡ record { number = n; entry = 0 }
 told-refused zero t z = absurd (z refl)
@@ -113,7 +113,7 @@ module _ (f : Name → List ℕ → ℕ → List ℕ) where
             ∙ sym (left-by t entry-goes ∙ leaves-rest (t .number) all m y)
 
     pub openers-few : number ≡ 0 → length e / 2 ≤ 255
-    openers-few z = going-few b (ltb 7 s) (length e) (length m) 1 number q z
+    openers-few z = going b (ltb 7 s) (length e) (length m) 1 number q z .0 .few
 
     pub openers-room : number ≡ 0 → length e / 2 ≤ length m
-    openers-room z = let r = going-room b (ltb 7 s) (length e) (length m) 1 number q z in omega arith
+    openers-room z = let r = going b (ltb 7 s) (length e) (length m) 1 number q z .0 .long in omega arith

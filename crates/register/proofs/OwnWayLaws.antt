@@ -16,8 +16,12 @@ use Rattle.chain.proofs.RecordLaws.{reached-next}
 use Rattle.handle.specs.declared.Handle.{Handle}
 use Rattle.handle.specs.Handles.{Name}
 use Rattle.register.specs.Registers.{entries, parentOf, maskOf, wayOf, masksOf, steps, ended, made}
-use Rattle.register.specs.Words.{SameEntry, OwnWay}
+use Rattle.register.specs.Words.{OwnWay}
 use Rattle.register.proofs.MadeLaws.{by-way}
+
+-- entry j is the same in both
+abbrev SameEntry : List ℕ → List ℕ → ℕ → Type 0
+SameEntry e e′ j = (parentOf e j ≡ parentOf e′ j) × (maskOf e j ≡ maskOf e′ j)
 
 masks-same : (e e′ : List ℕ) (m k : ℕ) → ((i : ℕ) → i < m → SameEntry e e′ (reached (parentOf e) k i))
     → masksOf e k m ≡ masksOf e′ k m

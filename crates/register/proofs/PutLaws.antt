@@ -13,7 +13,7 @@ use Rattle.handle.specs.declared.HandleBytes.{HandleBytes}
 use Rattle.handle.specs.Selectors.{references}
 use Rattle.handle.specs.Handles.{written}
 use Rattle.register.specs.Registers.{oneIf}
-use Rattle.register.specs.Work.{Put, PutHandle, openersIn, laidIn, blank, Fitting, Room}
+use Rattle.register.specs.inner.Work.{Put, PutHandle, openersIn, laidIn, blank, Fitting, Room}
 
 pub put-none : (m : List ℕ) (at : ℕ) → Put m m at []
 put-none m at =

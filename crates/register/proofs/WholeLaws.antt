@@ -10,13 +10,16 @@ use mir.Val.{Fits}
 use mir.Syntax.{w64}
 use lib.Dec.{eqb, leb, ltb}
 use lib.ListN.{length}
-use borrow.Author.Tests.{eq-eqb, ne-eqb, le-leb, lt-leb, lt-ltb, le-ltb, eqb-true, not-false, ltb-false}
+use borrow.Author.Tests.{eq-eqb, ne-eqb, le-leb, lt-leb, lt-ltb, le-ltb, eqb-true, leb-false, not-false, ltb-false}
 use Rattle.numbers.specs.Numbers.{wrongLengthNumber, placeNumber, fieldNumber, gappedNumber, shortNumber, lengthNumber}
 use Rattle.sizes.specs.Sizes.{nodes, clusters}
 use Rattle.handle.specs.declared.Handle.{Handle}
 use Rattle.handle.specs.Selectors.{gapped}
 use Rattle.handle.specs.Handles.{nodeOf, widthOf, noSuchPlace, decoded}
+use Rattle.handle.specs.Widths.{bitsOf}
 use Rattle.register.specs.Registers.{handleBytes, wholeNumber}
+use Rattle.register.specs.Answers.{Clear}
+use Rattle.register.proofs.KeptLaws.{laid-decoded}
 
 abbrev chosen : Bool → Bool → Bool → Bool → Bool → Bool → ℕ
 chosen a b c d e g =
@@ -123,32 +126,86 @@ times-fits n each a b =
 
 -- ---- what a call that goes on has
 
-chosen-none : (a b c d e g : Bool) → chosen a b c d e g ≡ 0 → (a ≡ false) × (e ≡ false) × (g ≡ false)
+abbrev AllOff : Bool → Bool → Bool → Bool → Bool → Bool → Type 0
+AllOff a b c d e g = (a ≡ false) × (b ≡ false) × (c ≡ false) × (d ≡ false) × (e ≡ false) × (g ≡ false)
+
+chosen-none : (a b c d e g : Bool) → chosen a b c d e g ≡ 0 → AllOff a b c d e g
 chosen-none true b c d e g q = absurd (omega arith)
 chosen-none false true c d e g q = absurd (omega arith)
 chosen-none false false true d e g q = absurd (omega arith)
 chosen-none false false false true e g q = absurd (omega arith)
 chosen-none false false false false true g q = absurd (omega arith)
 chosen-none false false false false false true q = absurd (omega arith)
-chosen-none false false false false false false q = (refl, refl, refl)
+chosen-none false false false false false false q = (refl, refl, refl, refl, refl, refl)
+
+chosen-off : (a b c d e g : Bool) → AllOff a b c d e g → chosen a b c d e g ≡ 0
+chosen-off a b c d e g (p, q, r, s, t, u) = λ j. chosen (p j) (q j) (r j) (s j) (t j) (u j)
+
+or-left : (a b : Bool) → (a || b) ≡ false → a ≡ false
+or-left true b q = absurd (true≢false q)
+or-left false b q = refl
 
 or-right : (a b : Bool) → (a || b) ≡ false → b ≡ false
 or-right true b q = absurd (true≢false q)
 or-right false b q = q
 
-module _ (b : List ℕ) (beyond : Bool) (size room each number : ℕ) (q : number ≡ wholeNumber b beyond size room each)
-    (z : number ≡ 0) where
-  clear : (not (eqb (length b) handleBytes) ≡ false) × (odd b beyond size room each ≡ false) × (short b beyond size room each ≡ false)
-  clear =
-      chosen-none (not (eqb (length b) handleBytes)) (place b beyond size room each) beyond (gap b beyond size room each)
+or-off : (a b : Bool) → a ≡ false → b ≡ false → (a || b) ≡ false
+or-off a b p q = λ j. p j || q j
+
+-- the width of a handle of 23 bytes
+pub wide : (b : List ℕ) → length b ≡ 23 → widthOf (decoded b) ≡ 8
+wide b l = ap bitsOf (laid-decoded b l .wide)
+
+module _ (b : List ℕ) (beyond : Bool) (size room each : ℕ) where
+  abbrev short-of : Bool
+  short-of = not (eqb (length b) handleBytes)
+
+  clear-out : wholeNumber b beyond size room each ≡ 0 → Clear b size room each × (beyond ≡ false)
+  clear-out z = go (chosen-none short-of (place b beyond size room each) beyond (gap b beyond size room each)
       (odd b beyond size room each) (short b beyond size room each)
-      (sym (whole-is b beyond size room each (not (eqb (length b) handleBytes)) refl) ∙ sym q ∙ z)
+      (sym (whole-is b beyond size room each short-of refl) ∙ z))
+    where
+      go : AllOff short-of (place b beyond size room each) beyond (gap b beyond size room each)
+          (odd b beyond size room each) (short b beyond size room each)
+          → Clear b size room each × (beyond ≡ false)
+      go (p, q, r, s, t, u) = (
+        record {
+          bytes = long;
+          node =
+              let l = leb-false nodes (nodeOf (decoded b)) (or-left (leb nodes (nodeOf (decoded b))) (leb clusters (decoded b .local)) q) in
+              omega arith;
+          local =
+              let l = leb-false clusters (decoded b .local) (or-right (leb nodes (nodeOf (decoded b))) (leb clusters (decoded b .local)) q) in
+              omega arith;
+          ungapped = ap (λ (w : ℕ). gapped w (decoded b .selector)) (sym (wide b long)) ∙ s;
+          whole =
+              eqb-true (size % 2) 0
+              (not-false (eqb (size % 2) 0) (or-left (not (eqb (size % 2) 0)) (ltb 255 (size / 2)) t));
+          few = ltb-false 255 (size / 2) (or-right (not (eqb (size % 2) 0)) (ltb 255 (size / 2)) t);
+          long = ltb-false room (size / 2 * each) u;
+        },
+        r,
+      )
+        where
+          long : length b ≡ 23
+          long = eqb-true (length b) 23 (not-false (eqb (length b) 23) p)
 
-  pub going-long : length b ≡ 23
-  going-long = eqb-true (length b) 23 (not-false (eqb (length b) 23) (clear .0))
+  pub clear-in : Clear b size room each → beyond ≡ false → wholeNumber b beyond size room each ≡ 0
+  clear-in c r =
+      whole-is b beyond size room each short-of refl
+      ∙ chosen-off short-of (place b beyond size room each) beyond (gap b beyond size room each)
+      (odd b beyond size room each) (short b beyond size room each) (
+        ap not (eq-eqb (length b) 23 (c .bytes)),
+        or-off (leb nodes (nodeOf (decoded b))) (leb clusters (decoded b .local))
+            (lt-leb nodes (nodeOf (decoded b)) (let l = c .node in omega arith))
+            (lt-leb clusters (decoded b .local) (let l = c .local in omega arith)),
+        r,
+        ap (λ (w : ℕ). gapped w (decoded b .selector)) (wide b (c .bytes)) ∙ c .ungapped,
+        or-off (not (eqb (size % 2) 0)) (ltb 255 (size / 2)) (ap not (eq-eqb (size % 2) 0 (c .whole)))
+            (le-ltb 255 (size / 2) (c .few)),
+        le-ltb room (size / 2 * each) (c .long),
+      )
 
-  pub going-few : size / 2 ≤ 255
-  going-few = ltb-false 255 (size / 2) (or-right (not (eqb (size % 2) 0)) (ltb 255 (size / 2)) (clear .1))
-
-  pub going-room : size / 2 * each ≤ room
-  going-room = ltb-false room (size / 2 * each) (clear .2)
+  pub going : (number : ℕ) → number ≡ wholeNumber b beyond size room each → number ≡ 0
+      → Clear b size room each × (beyond ≡ false)
+  going number q z = clear-out (sym q ∙ z)

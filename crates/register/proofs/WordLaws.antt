@@ -1,9 +1,10 @@
--- The register in words.
+-- An entry's handle in words: each part is kept by every step, or is what the last step gives. And the lowest entry that fails.
 -- Assumes nothing.
 use Prim.Native.Nat.{ℕ, zero, suc, _+_, _≤_, _<_}
 use native.Mathlib.Omega.{arith}
 use native.Mathlib.Decide.{decLt}
 use mathlib.Core.Path.{_≡_, refl, sym, ap, ap₂, _∙_, subst}
+use mathlib.Core.Logic.{_≢_, _↔_}
 use mathlib.Core.Bool.{Bool, true, false, not, _&&_, true≢false}
 use mathlib.Core.Option.{Option, none, some, Option·none-ne-some}
 use mathlib.Core.List.{List, [], _∷_}
@@ -12,29 +13,72 @@ use borrow.Author.Tests.{eq-eqb, eqb-true, not-false}
 use Rattle.bits.specs.Sets.{has}
 use Rattle.loops.specs.Search.{least}
 use Rattle.loops.proofs.SearchLaws.{least-none, least-holds, least-below, least-missing}
+use Rattle.loops.proofs.BelowLaws.{and-left, and-right, and-both}
+use Rattle.chain.specs.Way.{reached, records}
+use Rattle.chain.specs.Means.{IsRecord, Whole}
+use Rattle.chain.proofs.WayLaws.{reached-none}
+use Rattle.chain.proofs.RecordLaws.{reached-next}
+use Rattle.chain.proofs.MeansLaws.{number-whole}
 use Rattle.handle.specs.declared.Handle.{Handle}
-use Rattle.handle.specs.Selectors.{references, referenced}
-use Rattle.handle.specs.Handles.{Name, nameOf, widthOf, reply, weakenNumber, weakened, weakening}
+use Rattle.handle.specs.declared.Weakened.{Weakened}
+use Rattle.handle.specs.declared.Width.{Width}
+use Rattle.handle.specs.Selectors.{references, gapped}
+use Rattle.handle.specs.Widths.{bitsOf}
+use Rattle.handle.specs.Handles.{Name, nameOf, widthOf, weakenNumber, weakened, weakening}
 use Rattle.handle.specs.Opens.{Opens}
-use Rattle.handle.proofs.HandleLaws.{unspent, width-weakened, references-weakened}
-use Rattle.handle.proofs.EmptyLaws.{handle-done}
+use Rattle.handle.specs.Empty.{SomeLeft}
+use Rattle.handle.proofs.HandleLaws.{unspent, weakened-cases, name-weakened, width-weakened, gapped-weakened, references-weakened, ungapped-done}
+use Rattle.handle.proofs.EmptyLaws.{handle-done, done-references, number-done}
 use Rattle.handle.proofs.OpensLaws.{opens-weakening}
 use Rattle.register.specs.declared.Told.{Told}
-use Rattle.register.specs.Registers.{entries, given, steps, made, fails, tells, lowest}
-use Rattle.register.specs.Words.{keptBy, waysMasks, ExactlyKept, OpensAsSupplied, LowestFails, LowestTold}
+use Rattle.register.specs.Registers.{entries, parentOf, maskOf, wayOf, masksOf, Made, given, failed, steps, ended, made, fails, tells, lowest}
+use Rattle.register.specs.Words.{Kept, EntrysHandle, EntrysHandles, OpensAsSupplied, LowestFails}
 use Rattle.register.proofs.KeptLaws.{Last, last-step, steps-keep, made-steps, handle-of}
 
-number-done : (w : ℕ) (f : List ℕ → ℕ → List ℕ) (h : Handle) (mask : ℕ) → weakening w f h mask .number ≡ 0
-    → weakenNumber w h mask ≡ 0
-unfolding weakening
-number-done w f h mask d = sym (same (weakenNumber w h mask)) ∙ d
-  where
-    same : (n : ℕ) → reply n (weakened w f h mask) (referenced w (weakened w f h mask .selector)) .number ≡ n
-    same zero = refl
-    same (suc n) = refl
+-- b holds, and each of the masks keeps segment i
+abbrev keptBy : Bool → List ℕ → ℕ → Bool
+keptBy b [] i = b
+keptBy b (m ∷ ms) i = keptBy b ms i && has i m
+
+-- ---- the masks on a way
+
+module _ (e : List ℕ) (b : Bool) (i : ℕ) where
+  kept-out : (m k : ℕ) → keptBy b (masksOf e k m) i ≡ true → (b ≡ true) × Kept e k m i
+  unfolding records
+  kept-out zero k q = (q, λ j l. absurd (omega arith))
+  kept-out (suc m) k q =
+      go (kept-out m (parentOf e k) (and-left (keptBy b (masksOf e (parentOf e k) m) i) (has i (maskOf e k)) q))
+    where
+      go : (b ≡ true) × Kept e (parentOf e k) m i → (b ≡ true) × Kept e k (suc m) i
+      go rest = (rest .0, each)
+        where
+          each : Kept e k (suc m) i
+          each zero l =
+              ap (λ (j : ℕ). has i (maskOf e j)) (reached-none (parentOf e) k)
+              ∙ and-right (keptBy b (masksOf e (parentOf e k) m) i) (has i (maskOf e k)) q
+          each (suc j) l =
+              ap (λ (j : ℕ). has i (maskOf e j)) (sym (reached-next (parentOf e) k j)) ∙ rest .1 j (omega arith)
+
+  kept-in : (m k : ℕ) → b ≡ true → Kept e k m i → keptBy b (masksOf e k m) i ≡ true
+  unfolding records
+  kept-in zero k q each = q
+  kept-in (suc m) k q each =
+      and-both (keptBy b (masksOf e (parentOf e k) m) i) (has i (maskOf e k))
+      (kept-in m (parentOf e k) q
+      (λ j l. ap (λ (j : ℕ). has i (maskOf e j)) (reached-next (parentOf e) k j) ∙ each (suc j) (omega arith)))
+      (ap (λ (j : ℕ). has i (maskOf e j)) (sym (reached-none (parentOf e) k)) ∙ each 0 (omega arith))
 
 module _ (f : Name → List ℕ → ℕ → List ℕ) where
-  -- ---- what an entry's handle references
+  -- ---- what steps keep
+
+  named-steps : (h : Handle) (ms : List ℕ) (g : Handle) → steps f h ms ≡ given g → nameOf g ≡ nameOf h
+  named-steps h =
+      steps-keep f (λ g. nameOf g ≡ nameOf h) h refl (λ k mask q. name-weakened (widthOf k) (f (nameOf k)) k mask ∙ q)
+
+  width-steps : (h : Handle) (ms : List ℕ) (g : Handle) → steps f h ms ≡ given g → g .width ≡ h .width
+  width-steps h =
+      steps-keep f (λ g. g .width ≡ h .width) h refl
+      (λ k mask q. weakened-cases (widthOf k) (f (nameOf k)) k mask (λ g. g .width ≡ h .width) (λ e. q) (λ e. q))
 
   references-steps : (h : Handle) (ms : List ℕ) (g : Handle) → steps f h ms ≡ given g → (i : ℕ) → i < widthOf h
       → references (g .selector) i ≡ keptBy (references (h .selector) i) ms i
@@ -50,48 +94,145 @@ module _ (f : Name → List ℕ → ℕ → List ℕ) where
           (s .is ∙ handle-done (widthOf k) (f (nameOf k)) k m (s .done))
           ∙ references-weakened (widthOf k) (f (nameOf k)) k m
           (unspent (widthOf k) k m (number-done (widthOf k) (f (nameOf k)) k m (s .done))) i
-          (subst (λ (w : ℕ). i < w) (sym wide) l)
+          (subst (λ (w : ℕ). i < w) (sym (ap bitsOf (width-steps h ms k (s .before)))) l)
           ∙ ap (λ (b : Bool). b && has i m) (rest k (s .before))
         where
           k : Handle
           k = s .parent
 
-          wide : widthOf k ≡ widthOf h
-          wide =
-              steps-keep f (λ j. widthOf j ≡ widthOf h) h refl
-              (λ j mask p. width-weakened (widthOf j) (f (nameOf j)) j mask ∙ p) ms k (s .before)
+  -- ---- an entry's handle
 
-  pub exactly-kept : ExactlyKept f
-  exactly-kept h e k g q = references-steps h (waysMasks e k) g (made-steps f h e k g q)
-
-  -- ---- what it opens
-
-  opens-steps : (w : ℕ) (n : Name) (p : List ℕ) (r : ℕ → Bool) (h : Handle) (ms : List ℕ) (g : Handle)
-      → Opens w (f n) n p r h → steps f h ms ≡ given g → Opens w (f n) n p (λ i. keptBy (r i) ms i) g
-  unfolding steps
-  opens-steps w n p r h [] g o q = subst (Opens w (f n) n p r) (handle-of (given h) g q) o
-  opens-steps w n p r h (m ∷ ms) g o q = go (last-step f h m ms g q) (λ k s. opens-steps w n p r h ms k o s)
+  way-ends : (h : Handle) (e : List ℕ) (k : ℕ) (g : Handle) → made f h e k ≡ given g → wayOf e k .number ≡ 0
+  unfolding made
+  way-ends h e k g q = go (wayOf e k .number) q
     where
-      go : Last f h m ms g
-          → ((k : Handle) → steps f h ms ≡ given k → Opens w (f n) n p (λ i. keptBy (r i) ms i) k)
-          → Opens w (f n) n p (λ i. keptBy (r i) (m ∷ ms) i) g
-      go s rest =
-          subst (Opens w (f n) n p (λ i. keptBy (r i) (m ∷ ms) i)) (sym (s .is ∙ same))
-          (opens-weakening w (f n) n p k (rest k (s .before)) m
-          (number-done w (f n) k m
-          (sym (ap₂ (λ (w : ℕ) (n : Name). weakening w (f n) k m .number) (known .wide) (known .named)) ∙ s .done)))
+      go : (n : ℕ) → ended f h e k n (wayOf e k .records) ≡ given g → n ≡ 0
+      go zero p = refl
+      go (suc n) p = ap (λ (m : Made). m .number) p
+
+  -- what the last step gives
+  record Ended (h g : Handle) : Type 0 where
+    ungapped : gapped (widthOf h) (g .selector) ≡ false
+    segment : ℕ
+    below : segment < widthOf h
+    some : references (g .selector) segment ≡ true
+
+  ended-step : (h : Handle) (m : ℕ) (ms : List ℕ) (g : Handle) → steps f h (m ∷ ms) ≡ given g → Ended h g
+  ended-step h m ms g q = go (last-step f h m ms g q)
+    where
+      go : Last f h m ms g → Ended h g
+      go s =
+          record {
+            ungapped =
+                ap (λ (w : ℕ). gapped w (g .selector)) (sym wide)
+                ∙ ap (λ (g : Handle). gapped (widthOf k) (g .selector)) is
+                ∙ gapped-weakened (widthOf k) (f (nameOf k)) k m
+                (ungapped-done (widthOf k) k m (number-done (widthOf k) (f (nameOf k)) k m (s .done)));
+            segment = left .segment;
+            below = subst (λ (w : ℕ). left .segment < w) wide (left .below);
+            some = ap (λ (g : Handle). references (g .selector) (left .segment)) (s .is) ∙ left .references;
+          }
         where
           k : Handle
           k = s .parent
 
-          known : Opens w (f n) n p (λ i. keptBy (r i) ms i) k
+          wide : widthOf k ≡ widthOf h
+          wide = ap bitsOf (width-steps h ms k (s .before))
+
+          is : g ≡ weakened (widthOf k) (f (nameOf k)) k m
+          is = s .is ∙ handle-done (widthOf k) (f (nameOf k)) k m (s .done)
+
+          left : SomeLeft (widthOf k) (f (nameOf k)) k m
+          left = done-references (widthOf k) (f (nameOf k)) k m (s .done)
+
+  pub entrys-handles : EntrysHandles f
+  unfolding records
+  entrys-handles h e k g r q = go (wayOf e k .records) refl
+    where
+      whole : Whole (entries e) (parentOf e) k (wayOf e k .records)
+      whole = number-whole (entries e) (parentOf e) k (wayOf e k) refl (way-ends h e k g q)
+
+      told : steps f h (masksOf e k (wayOf e k .records)) ≡ given g
+      told = made-steps f h e k g q
+
+      last : (m : ℕ) → wayOf e k .records ≡ suc m → Ended h g
+      last m p =
+          ended-step h (maskOf e k) (masksOf e (parentOf e k) m) g
+          (ap (λ (m : ℕ). steps f h (masksOf e k m)) (sym p) ∙ told)
+
+      go : (m : ℕ) → wayOf e k .records ≡ m → EntrysHandle h e k g
+      go zero p = absurd (let z = whole .zero-after in
+          let n = ap (reached (parentOf e) k) p ∙ reached-none (parentOf e) k in omega arith)
+      go (suc m) p =
+          record {
+            named = named-steps h (masksOf e k (wayOf e k .records)) g told;
+            width = width-steps h (masksOf e k (wayOf e k .records)) g told;
+            ungapped = last m p .ungapped;
+            met = wayOf e k .records;
+            way = whole;
+            refers = λ i l. (
+              λ t. kept-out e (references (h .selector) i) i (wayOf e k .records) k (sym (refers i l) ∙ t),
+              λ t. refers i l ∙ kept-in e (references (h .selector) i) i (wayOf e k .records) k (t .0) (t .1),
+            );
+            segment = last m p .segment;
+            below = last m p .below;
+            some = last m p .some;
+          }
+        where
+          refers : (i : ℕ) → i < widthOf h
+              → references (g .selector) i ≡ keptBy (references (h .selector) i) (masksOf e k (wayOf e k .records)) i
+          refers = references-steps h (masksOf e k (wayOf e k .records)) g told
+
+  -- ---- what it opens
+
+  opens-steps : (w : ℕ) (n : Name) (p : List ℕ) (r : ℕ → Bool) (h : Handle) (ms : List ℕ) (g : Handle)
+      → Opens w (f n) n p r h → steps f h ms ≡ given g → Opens w (f n) n p (references (g .selector)) g
+  unfolding steps
+  opens-steps w n p r h [] g o q = subst (λ (g : Handle). Opens w (f n) n p (references (g .selector)) g) (handle-of (given h) g q) (own h r o)
+    where
+      own : (g : Handle) (r : ℕ → Bool) → Opens w (f n) n p r g → Opens w (f n) n p (references (g .selector)) g
+      own g r o = record {
+        named = o .named;
+        wide = o .wide;
+        whole = o .whole;
+        ungapped = o .ungapped;
+        valid = o .valid;
+        refers = λ i l. refl;
+      }
+  opens-steps w n p r h (m ∷ ms) g o q = go (last-step f h m ms g q) (λ k s. opens-steps w n p r h ms k o s)
+    where
+      go : Last f h m ms g
+          → ((k : Handle) → steps f h ms ≡ given k → Opens w (f n) n p (references (k .selector)) k)
+          → Opens w (f n) n p (references (g .selector)) g
+      go s rest =
+          record {
+            named = opened .named;
+            wide = opened .wide;
+            whole = opened .whole;
+            ungapped = opened .ungapped;
+            valid = opened .valid;
+            refers = λ i l. refl;
+          }
+        where
+          k : Handle
+          k = s .parent
+
+          known : Opens w (f n) n p (references (k .selector)) k
           known = rest k (s .before)
 
           same : weakening (widthOf k) (f (nameOf k)) k m .handle ≡ weakening w (f n) k m .handle
           same = ap₂ (λ (w : ℕ) (n : Name). weakening w (f n) k m .handle) (known .wide) (known .named)
 
+          opened : Opens w (f n) n p (λ i. references (k .selector) i && has i m) g
+          opened =
+              subst (Opens w (f n) n p (λ i. references (k .selector) i && has i m)) (sym (s .is ∙ same))
+              (opens-weakening w (f n) n p k known m
+              (number-done w (f n) k m
+              (sym (ap₂ (λ (w : ℕ) (n : Name). weakening w (f n) k m .number) (known .wide) (known .named)) ∙ s .done)))
+
   pub opens-as-supplied : OpensAsSupplied f
-  opens-as-supplied w n p r h e k g o q = opens-steps w n p r h (waysMasks e k) g o (made-steps f h e k g q)
+  opens-as-supplied w n p r h e k g o q =
+      opens-steps w n p r h (masksOf e k (wayOf e k .records)) g o (made-steps f h e k g q)
 
   -- ---- the lowest entry that fails
 
@@ -121,9 +262,9 @@ module _ (f : Name → List ℕ → ℕ → List ℕ) where
           below = λ k a b. absurd (omega arith);
         }
       where
-        done : _≡_ {A = ℕ} 0 0 → (k : ℕ) → 1 ≤ k → k ≤ entries e → made f h e k .number ≡ 0
-        done z zero a b = absurd (omega arith)
-        done z (suc k) a b = fine-out k (least-missing (fails f h e) (entries e) q k (omega arith))
+        done : _≡_ {A = ℕ} 0 0 → (k : ℕ) → IsRecord (entries e) k → made f h e k .number ≡ 0
+        done z zero r = absurd (let a = r .0 in omega arith)
+        done z (suc k) r = fine-out k (least-missing (fails f h e) (entries e) q k (let a = r .1 in omega arith))
     lowest-by (some i) q =
         record {
           done = λ z. absurd (bad-out i (least-holds (fails f h e) (entries e) i q) z);
@@ -136,6 +277,6 @@ module _ (f : Name → List ℕ → ℕ → List ℕ) where
         below zero a b = absurd (omega arith)
         below (suc k) a b = fine-out k (least-below (fails f h e) (entries e) i q k (omega arith))
 
-  pub lowest-told : LowestTold f
-  unfolding lowest
-  lowest-told h e = lowest-by h e (least (entries e) (fails f h e)) refl
+    pub lowest-told : LowestFails f h e (lowest f h e)
+    unfolding lowest
+    lowest-told = lowest-by (least (entries e) (fails f h e)) refl

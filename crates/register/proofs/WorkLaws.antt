@@ -18,7 +18,7 @@ use Rattle.handle.specs.declared.Weakened.{Weakened}
 use Rattle.handle.specs.Handles.{Name, nameOf, widthOf, weakening}
 use Rattle.register.specs.declared.Told.{Told}
 use Rattle.register.specs.Registers.{entries, parentOf, maskOf, wayOf, Made, given, failed, made, lowest}
-use Rattle.register.specs.Work.{Entry, Small, Climbs, Works, blank}
+use Rattle.register.specs.inner.Work.{Entry, Small, Climbs, Works, blank}
 use Rattle.register.proofs.MadeLaws.{Good, Bad, good-none, good-more, bad-more, bad-reached, good-made, bad-made, way-made}
 use Rattle.register.proofs.MadeLaws.{lowest-none, lowest-is, ends-known}
 

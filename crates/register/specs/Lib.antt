@@ -1,4 +1,5 @@
 pub mod Registers
-pub mod Work
-pub mod Literals
 pub mod Words
+pub mod Answers
+pub mod cases
+pub mod inner

@@ -1,4 +1,5 @@
 -- Document 02, §9: a register of handles given out, as bytes e of two an entry, numbered from 1.
+--     told n k, opened n k c      an answer: the number n, the entry k, how many c
 --     entries e          how many entries there are
 --     parentOf e k       the entry that entry k was weakened from; zero stands for the handle supplied
 --     maskOf e k         the mask used
@@ -51,6 +52,9 @@ mostEntries = 255
 
 abbrev pub handleBytes : ℕ
 handleBytes = lengthOf Eight
+
+abbrev pub lastSegment : ℕ
+lastSegment = 7
 
 -- ---- entries and their ways
 
@@ -115,8 +119,8 @@ module _ (f : Name → List ℕ → ℕ → List ℕ) where
   fails h e i = not (eqb (made h e (suc i) .number) 0)
 
   abbrev pub tells : Handle → List ℕ → Option ℕ → Told
-  tells h e none = record { number = 0; entry = 0 }
-  tells h e (some i) = record { number = made h e (suc i) .number; entry = suc i }
+  tells h e none = told 0 0
+  tells h e (some i) = told (made h e (suc i) .number) (suc i)
 
   unfoldable pub lowest : Handle → List ℕ → Told
   lowest h e = tells h e (least (entries e) (fails h e))
@@ -143,7 +147,7 @@ wholeNumber b beyond size room each = firstOf (wholeRows b beyond size room each
 -- the number for the whole, then the answer for the entries
 abbrev pub toldFirst : ℕ → Told → Told
 toldFirst zero t = t
-toldFirst (suc n) t = record { number = suc n; entry = 0 }
+toldFirst (suc n) t = told (suc n) 0
 
 -- a buffer where the number is that, and what is written where it is 0
 abbrev pub leaves : ℕ → List ℕ → List ℕ → List ℕ
@@ -156,8 +160,8 @@ oneIf false k = []
 
 -- the answer of the second question, where those are the openers
 abbrev pub openedAs : ℕ → ℕ → ℕ → Opened
-openedAs zero k c = record { number = 0; entry = 0; count = c }
-openedAs (suc n) k c = record { number = suc n; entry = k; count = 0 }
+openedAs zero k c = opened 0 0 c
+openedAs (suc n) k c = opened (suc n) k 0
 
 abbrev pub openedWith : Told → List ℕ → Opened
 openedWith t os = openedAs (t .number) (t .entry) (length os)
@@ -188,7 +192,7 @@ module _ (f : Name → List ℕ → ℕ → List ℕ) where
 
   unfoldable pub openersEntry : List ℕ → ℕ → List ℕ → ℕ → Told
   openersEntry b segment e room =
-      toldFirst (wholeNumber b (ltb 7 segment) (length e) room 1) (lowest f (decoded b) e)
+      toldFirst (wholeNumber b (ltb lastSegment segment) (length e) room 1) (lowest f (decoded b) e)
 
   unfoldable pub openersTold : List ℕ → ℕ → List ℕ → ℕ → Opened
   openersTold b segment e room =

@@ -19,12 +19,12 @@ ghost use lib.ListN.{length, getD};
 ghost use mathlib.Core.Bool.{true, false};
 ghost use lib.Dec.{ltb};
 ghost use Rattle.aes.specs.Tables.{IsTables};
-ghost use Rattle.handle.specs.Conversion.{product};
+ghost use Rattle.handle.specs.Conversion.{product, by};
 ghost use mathlib.Core.List.{[]};
 ghost use lib.ListN.{take};
 ghost use Rattle.handle.specs.Handles.{widthOf, nameOf, weakening, written};
 ghost use Rattle.register.specs.Registers as spec;
-ghost use Rattle.register.specs.Work as work;
+ghost use Rattle.register.specs.inner.Work as work;
 
 // Bytes of an entry: the entry it was weakened from, and the mask used.
 const ENTRY: usize = 2;
@@ -131,20 +131,17 @@ fn climb(entries: &[u8], known: &[u8], path: &mut [u8], from: usize) -> Climbed
 fn step(tables: &Tables, converting: bool, parent: Handle, entries: &[u8], entry: usize) -> Weakened
     requires { ⌜ IsTables (now tables) ⌝ }
     requires { ⌜ work.Entry (now entries) entry ⌝ }
-    ensures { λ r. ⌜ r ≡ weakening (widthOf parent) (work.by converting (nameOf parent)) parent (spec.maskOf (now (entries .entry)) entry) ⌝ }
+    ensures { λ r. ⌜ r ≡ weakening (widthOf parent) (by converting (nameOf parent)) parent (spec.maskOf (now (entries .entry)) entry) ⌝ }
 {
     let mask = entries[(entry - 1) * ENTRY + 1] as u16;
-    if converting {
-        return parent.weaken_with(tables, mask);
-    }
-    parent.weaken_bare(mask)
+    parent.weaken_by(tables, mask, converting)
 }
 
 // The handles of all entries, each from that of the entry it was weakened from, made once; or the lowest entry that fails.
 fn work_out(tables: &Tables, converting: bool, handle: Handle, entries: &[u8]) -> Worked
     requires { ⌜ IsTables (now tables) ⌝ }
     requires { ⌜ length (now entries) / 2 ≤ 255 ⌝ }
-    ensures { λ r. ⌜ work.Works (work.by converting) handle (now (entries .entry)) (r .told) (r .handles) ⌝ }
+    ensures { λ r. ⌜ work.Works (by converting) handle (now (entries .entry)) (r .told) (r .handles) ⌝ }
 {
     let n = entries.len() / ENTRY;
     let mut handles = [handle; ROOM];

@@ -2,7 +2,7 @@ use borrow.Author.Needs.{needs}
 use Rattle.handle.specs.Conversion.{product, SixteenBytes}
 use Rattle.handle.proofs.PasswordLaws.{length-conversion}
 use Rattle.register.proofs.HandlesLaws.{handles-whole, handles-whole-left, handles-told, handles-failed-left}
-use Rattle.register.proofs.HandlesLaws.{handles-done-left, handles-few, handles-room}
+use Rattle.register.proofs.HandlesLaws.{handles-done-left, handles-few, handles-room, works-product}
 use Rattle.register.proofs.handles.Statement.{statement}
 use Rattle.register.proofs.handles.Tie as tie
 use Rattle.register.proofs.handles.Reads as reads
@@ -22,13 +22,13 @@ work-out-requires : tie.Need-work-out-requires
 work-out-requires c κs = search (needs, handles-few)
 
 returns-2 : tie.Need-returns-2
-returns-2 c = (search (needs, sixteen, handles-told), search (needs, sixteen, handles-failed-left))
+returns-2 c = (search (needs, sixteen, handles-told, works-product), search (needs, sixteen, handles-failed-left, works-product))
 
 lay-requires : tie.Need-lay-requires
 lay-requires c κs = search (needs, handles-room)
 
 returns-3 : tie.Need-returns-3
-returns-3 c = (search (needs, sixteen, handles-told), search (needs, sixteen, handles-done-left))
+returns-3 c = (search (needs, sixteen, handles-told, works-product), search (needs, sixteen, handles-done-left, works-product))
 
 pub handles-spec : {M : Type 1} → statement M
 handles-spec =

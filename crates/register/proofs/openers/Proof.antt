@@ -1,7 +1,8 @@
 use borrow.Author.Needs.{needs}
 use Rattle.register.proofs.OpenerLaws.{openers-whole, openers-whole-left, openers-failed, openers-failed-left}
 use Rattle.register.proofs.OpenerLaws.{openers-done, openers-done-left, openers-few, openers-room}
-use Rattle.handle.specs.Conversion.{product, unconverted}
+use Rattle.handle.specs.Conversion.{product, by}
+use mathlib.Core.Bool.{false}
 use Rattle.register.proofs.FreeLaws.{told-same, left-same}
 use Rattle.register.proofs.openers.Statement.{statement}
 use Rattle.register.proofs.openers.Tie as tie
@@ -14,8 +15,8 @@ use Rattle.register.proofs.work_out.Reads as work-out-reads
 
 returns : tie.Need-returns
 returns c = (
-  told-same unconverted product _ _ _ _ _ (search (needs, openers-whole)),
-  left-same unconverted product _ _ _ _ _ (search (needs, openers-whole-left)),
+  told-same (by false) product _ _ _ _ _ (search (needs, openers-whole)),
+  left-same (by false) product _ _ _ _ _ (search (needs, openers-whole-left)),
 )
 
 work-out-requires : tie.Need-work-out-requires
@@ -23,8 +24,8 @@ work-out-requires c κs = search (needs, openers-few)
 
 returns-2 : tie.Need-returns-2
 returns-2 c = (
-  told-same unconverted product _ _ _ _ _ (search (needs, openers-failed)),
-  left-same unconverted product _ _ _ _ _ (search (needs, openers-failed-left)),
+  told-same (by false) product _ _ _ _ _ (search (needs, openers-failed)),
+  left-same (by false) product _ _ _ _ _ (search (needs, openers-failed-left)),
 )
 
 list-requires : tie.Need-list-requires
@@ -32,8 +33,8 @@ list-requires c κs = search (needs, openers-few, openers-room)
 
 returns-3 : tie.Need-returns-3
 returns-3 c = (
-  told-same unconverted product _ _ _ _ _ (search (needs, openers-done)),
-  left-same unconverted product _ _ _ _ _ (search (needs, openers-done-left)),
+  told-same (by false) product _ _ _ _ _ (search (needs, openers-done)),
+  left-same (by false) product _ _ _ _ _ (search (needs, openers-done-left)),
 )
 
 pub openers-spec : {M : Type 1} → statement M

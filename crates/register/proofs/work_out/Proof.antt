@@ -3,7 +3,8 @@ use native.Mathlib.Omega.{arith}
 use mir.Facts.{fits-8-64}
 use lib.ListN.{getD}
 use Prim.Native.Nat.{_+_, _-_}
-use Rattle.register.specs.Work.{blank, by}
+use Rattle.handle.specs.Conversion.{by}
+use Rattle.register.specs.inner.Work.{blank}
 use Rattle.register.proofs.WorkLaws.{Working, Descending, working-none, working-small, works-way, works-all}
 use Rattle.register.proofs.WorkLaws.{inner-holds, inner-ends, inner-returns, descending-entry, descending-more}
 use Rattle.register.proofs.WorkLaws.{descending-first, descending-byte, descending-fits, descending-inside}

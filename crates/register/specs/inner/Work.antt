@@ -10,9 +10,7 @@
 -- Assumes nothing.
 use Prim.Native.Nat.{ℕ, zero, suc, _+_, _*_, _≤_, _<_}
 use mathlib.Core.Path.{_≡_}
-use mathlib.Core.Bool.{Bool, true, false}
 use mathlib.Core.List.{List, [], _++_}
-use Rattle.handle.specs.Conversion.{product, unconverted}
 use lib.ListN.{length, getD, take, drop}
 use Rattle.chain.specs.Way.{reached, refusal}
 use Rattle.chain.specs.Means.{IsRecord, OnRecords}
@@ -42,11 +40,6 @@ pub record Climbs (e known : List ℕ) (from number m : ℕ) (path : List ℕ) :
   pub on : number ≡ 0 → OnRecords (entries e) (parentOf e) from m
   pub kept : number ≡ 0 → (i : ℕ) → i < m → getD path i 0 ≡ reached (parentOf e) from i
   pub end : number ≡ 0 → getD known (reached (parentOf e) from m) 0 ≡ 0 → ⊥
-
--- the conversion of the product, or none where selectors alone are asked for
-abbrev pub by : Bool → Name → List ℕ → ℕ → List ℕ
-by true = product
-by false = unconverted
 
 -- what is read beyond an array of handles
 abbrev pub blank : Handle

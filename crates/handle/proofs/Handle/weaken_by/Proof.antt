@@ -3,8 +3,8 @@
 use Rattle.handle.proofs.WeakenLaws.{refused-own, refused-empty, refused-spent, weaken-unchanged, weaken-changed, excluded-le}
 use Rattle.handle.proofs.WidthLaws.{bits-le}
 use borrow.Author.Needs.{needs}
-use Rattle.handle.proofs.Handle.weaken_bare.Statement.{statement}
-use Rattle.handle.proofs.Handle.weaken_bare.Tie as tie
+use Rattle.handle.proofs.Handle.weaken_by.Statement.{statement}
+use Rattle.handle.proofs.Handle.weaken_by.Tie as tie
 
 returns : tie.Need-returns
 returns c = search (needs, refused-own)
@@ -18,14 +18,17 @@ returns-3 c = search (needs, weaken-unchanged, bits-le)
 returns-4 : tie.Need-returns-4
 returns-4 c = search (needs, refused-spent, bits-le)
 
-cut-bare-requires : tie.Need-cut-bare-requires
-cut-bare-requires c κs = search (needs, excluded-le, bits-le)
+cut-with-requires : tie.Need-cut-with-requires
+cut-with-requires c κs = search (needs, excluded-le, bits-le)
 
+-- what is known of the handle and the mask as they came lies further back than the search looks
 returns-5 : tie.Need-returns-5
-returns-5 c = search (needs, weaken-changed, bits-le)
+returns-5 c =
+    let good = c .before .before .before .before .before .before .before .before .before .good .0 .1 .1 in
+    search (needs, weaken-changed, bits-le, good)
 
-pub weaken-bare-spec : {M : Type 1} → statement M
-weaken-bare-spec =
+pub weaken-by-spec : {M : Type 1} → statement M
+weaken-by-spec =
     tie.close
     (tie.spec
     (λ c κs. search needs)
@@ -39,6 +42,6 @@ weaken-bare-spec =
     (λ c κs. search needs)
     (λ c κs. search needs)
     returns-4
-    cut-bare-requires
+    cut-with-requires
     (λ c κs. search needs)
     returns-5)
