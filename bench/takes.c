@@ -5,8 +5,9 @@
  * tells how far down the call went. memcpy and memmove are this file's, so that those which the library calls are counted. A
  * copy made by a loop of the library's own is not among them, so calls that are done run once more with the memory's pages
  * closed, where a byte read or written is a fault. A function is tried at each width, with calls that are done and with one
- * on a damaged image; the most that it took is printed. Where a call is not done that should be, a function reaches the
- * memory otherwise than the header says, or a look copies, its line ends with `wrong` and the program with status 1. */
+ * on a damaged image; the most that it took is printed. Registers have 255 entries and the one width that they take. Where
+ * a call is not done that should be, a function reaches the memory otherwise than the header says, or a look copies, its
+ * line ends with `wrong` and the program with status 1. */
 #define _XOPEN_SOURCE 700
 #include "gelmuszta.h"
 #include <setjmp.h>
@@ -29,11 +30,14 @@
 static gelmuszta_memory memory __attribute__((aligned(NODE_MEMORY)));
 static gelmuszta_image image, typical, large, damaged;
 static uint8_t count, numbers[3], buffer[LENGTH], large_buffer[NODE_MEMORY], three[3 * GELMUSZTA_HANDLE_MAX];
+static uint8_t entries[GELMUSZTA_ENTRIES_MAX * GELMUSZTA_ENTRY_BYTES], openers[GELMUSZTA_ENTRIES_MAX];
+static uint8_t handles[GELMUSZTA_ENTRIES_MAX * GELMUSZTA_HANDLE_BYTES(8)];
+static const gelmuszta_handle supplied = {{[1] = 2, [2] = 3, [19] = 255, 255, 255, 255}, GELMUSZTA_HANDLE_BYTES(8)};
 static const gelmuszta_password first_password = {{1}}, second_password = {{2}};
 static gelmuszta_password converted;
 static gelmuszta_width width;
 static gelmuszta_number number;
-static size_t from, length;
+static size_t from, length, entry, opened;
 static const size_t node = 2, local = 3, free_local = 6, segment = 1, free_segment = 3;
 static gelmuszta_handle reader, writer, weak_reader, weak_writer, other_reader, given, other;
 
@@ -101,6 +105,12 @@ static void convert(void) {
     gelmuszta_convert(&first_password, 3, &converted);
     number = GELMUSZTA_DONE;
 }
+static void work_out(void) {
+    number = gelmuszta_register(&supplied, entries, sizeof entries, handles, sizeof handles, &entry);
+}
+static void find_openers(void) {
+    number = gelmuszta_openers(&supplied, segment, entries, sizeof entries, openers, sizeof openers, &opened, &entry);
+}
 
 /* Each with the image on which its calls are done, and whether the header lets it reach bytes of the memory. */
 static const struct {
@@ -130,6 +140,8 @@ static const struct {
     {"validate", &typical, false, {validate, 0}},
     {"validate all", &typical, false, {validate_all, 0}},
     {"convert", &typical, false, {convert, 0}},
+    {"register", &typical, false, {work_out, 0}},
+    {"openers", &typical, false, {find_openers, 0}},
 };
 
 /* ---- one call on a painted stack */
@@ -225,6 +237,14 @@ static void make_handles(void) {
     for (size_t i = 0; i < 3; i++) memcpy(three + i * bytes, weak_reader.bytes, bytes);
 }
 
+/* A register of 255 entries: chains of three, each entry from the one after it. */
+static void make_entries(void) {
+    for (size_t i = 0; i < GELMUSZTA_ENTRIES_MAX; i++) {
+        entries[2 * i] = (uint8_t)(i % 3 == 2 ? 0 : i + 2);
+        entries[2 * i + 1] = (uint8_t)~(1u << i % 3);
+    }
+}
+
 /* ---- the table */
 
 static struct taken {
@@ -262,6 +282,7 @@ int main(void) {
     bool wrong = false;
     action.sa_handler = fault;
     if (sigaction(SIGSEGV, &action, 0)) return 1;
+    make_entries();
     for (size_t w = 0; w < 3; w++) {
         width = widths[w];
         number = GELMUSZTA_DONE;

@@ -12,10 +12,12 @@ const LONGEST: u8 = 27;
 const HALF: u16 = 16;
 const BYTE: u16 = 256;
 
+/// As the library holds a handle.
 #[derive(Clone, Copy, Debug, PartialEq, Eq)]
+#[repr(C)]
 pub struct HandleBytes {
-    pub length: u8,
     pub bytes: [u8; HANDLE_BYTES],
+    pub length: u8,
 }
 
 impl HandleBytes {

@@ -10,8 +10,8 @@ const ROOM: usize = 16;
 const PASSWORD_BYTES: usize = 16;
 const HIGH_AT: usize = 14;
 const LOW_AT: usize = 15;
-const NO_SUCH_PLACE: u8 = 2;
-const GAPPED: u8 = 4;
+pub const NO_SUCH_PLACE: u8 = 2;
+pub const GAPPED: u8 = 4;
 const SPENT: u8 = 17;
 const EMPTY: u8 = 21;
 pub const LENGTH: u8 = 25;
@@ -198,6 +198,8 @@ impl Handle {
         }
     }
 
+    // In line, here and below, as in a program that has no other use for it: a register's loop calls it for each entry.
+    #[inline]
     pub fn weaken_with(self, tables: &Tables, mask: u16) -> Weakened {
         let number = self.standing();
         if number != 0 {
@@ -225,5 +227,43 @@ impl Handle {
     pub fn weaken(self, mask: u16) -> Weakened {
         let tables = aes::tables();
         self.weaken_with(&tables, mask)
+    }
+
+    fn cut_bare(self, place: usize, excluded: u16) -> Handle {
+        let width = self.width;
+        let parameter = width.full() - excluded;
+        let password = self.password;
+        let mut selector = self.selector;
+        selector[place] = parameter;
+        Handle {
+            node: self.node,
+            local: self.local,
+            password,
+            width,
+            selector,
+        }
+    }
+
+    #[inline]
+    pub fn weaken_bare(self, mask: u16) -> Weakened {
+        let number = self.standing();
+        if number != 0 {
+            return refused(number);
+        }
+        let common = self.common();
+        let kept = common & mask;
+        if kept == 0 {
+            return refused(EMPTY);
+        }
+        let excluded = common & !mask;
+        if excluded == 0 {
+            return done(self);
+        }
+        let place = self.first_flat();
+        if SUBSELECTORS <= place {
+            return refused(SPENT);
+        }
+        let weaker = self.cut_bare(place, excluded);
+        done(weaker)
     }
 }

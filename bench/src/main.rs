@@ -3,11 +3,14 @@
 
 mod access;
 mod aes;
+mod asked;
 mod codec;
 mod handle;
 mod handles;
 mod image;
 mod looks;
+mod register;
+mod registers;
 mod spans;
 mod store;
 
@@ -29,18 +32,18 @@ const CALLS: usize = 500;
 fn beside(mut proved: impl FnMut(), mut rust: impl FnMut()) -> (f64, f64) {
     let mut best = (f64::MAX, f64::MAX);
     for _ in 0..BATCHES {
-        best.0 = best.0.min(batch(&mut proved));
-        best.1 = best.1.min(batch(&mut rust));
+        best.0 = best.0.min(batch(CALLS, &mut proved));
+        best.1 = best.1.min(batch(CALLS, &mut rust));
     }
     best
 }
 
-fn batch(job: &mut impl FnMut()) -> f64 {
+fn batch(calls: usize, job: &mut (impl FnMut() + ?Sized)) -> f64 {
     let start = Instant::now();
-    for _ in 0..CALLS {
+    for _ in 0..calls {
         job();
     }
-    start.elapsed().as_nanos() as f64 / CALLS as f64
+    start.elapsed().as_nanos() as f64 / calls as f64
 }
 
 fn report(name: &str, (proved, rust): (f64, f64)) {
@@ -189,4 +192,5 @@ fn main() {
     ] {
         soundness_in(&format!("on the image, {name}"), image);
     }
+    registers::registers();
 }

@@ -199,6 +199,7 @@ int main(void) {
     joining(2, 6);
     widths(0);
     lengths(1);
+    registers(3, 5);
     printf("%d wrong\n", wrong);
     return wrong != 0;
 }

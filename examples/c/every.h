@@ -37,5 +37,6 @@ void freezing(size_t node, size_t local, size_t segment);
 void joining(size_t node, size_t local);
 void widths(size_t node);
 void lengths(size_t node);
+void registers(size_t node, size_t local);
 
 #endif

@@ -11,8 +11,9 @@
 //! - [`call`]: the eleven calls, looks and validation with their arguments, and replies.
 //! - [`made`]: calls by their arguments, and by their kind.
 //! - [`model`]: the calls carried out.
+//! - [`register`]: a register of handles given out, both questions.
 //! - [`list`]: records of 64 bytes, the chain, and the text that a list comes out as.
-//! - [`vectors`]: the published handles.
+//! - [`vectors`]: the published handles and registers.
 //! - [`nothing`]: the ways to a handle that would reference nothing, for those who count what was met.
 //! - [`frozen`]: whether what is frozen stays, and what calls come to there, for those who watch them.
 //! - [`joins`]: how the two handles of a join meet, for those who count what was met.
@@ -38,6 +39,7 @@ pub mod model;
 pub mod nothing;
 pub mod program;
 pub mod random;
+pub mod register;
 pub mod renewals;
 pub mod sizes;
 pub mod store;

@@ -2,7 +2,7 @@
 
 mod support;
 
-use model::words::*;
+use model::{register::Inquiry, words::*};
 use std::collections::BTreeMap;
 use support::every::{every, Rest};
 use support::{new_cluster, reader};
@@ -25,22 +25,40 @@ fn lines() -> impl Iterator<Item = (&'static str, u8, Option<&'static str>)> {
     })
 }
 
-/// The table's order, in which 22 and 25 have two places; an enumeration has a number once, and this one has it
-/// at the first of them.
-fn expected() -> Vec<u8> {
-    let mut numbers: Vec<u8> = [DONE].into_iter().chain(numbers_of_calls()).collect();
-    for twice in [FROZEN, LENGTH] {
-        let places: Vec<usize> = (0..numbers.len()).filter(|&at| numbers[at] == twice).collect();
-        assert_eq!(places.len(), 2, "{twice}");
-        numbers.remove(places[1]);
-    }
-    numbers
+/// The order of all numbers. The rows of calls, in which 22 and 25 have two places, and those of registers keep to it;
+/// an enumeration has a number once, and this one has it at the first of them.
+const ORDER: [u8; 26] = [0, 25, 1, 2, 3, 4, 24, 5, 6, 7, 8, 9, 23, 10, 22, 11, 12, 13, 14, 18, 15, 16, 19, 20, 21, 17];
+
+/// Without the second place of a number.
+fn once(numbers: impl IntoIterator<Item = u8>) -> Vec<u8> {
+    let mut seen = Vec::new();
+    numbers.into_iter().for_each(|number| {
+        if !seen.contains(&number) {
+            seen.push(number)
+        }
+    });
+    seen
 }
 
 #[test]
 fn numbers_in_the_table_s_order() {
     let numbers: Vec<u8> = lines().map(|(_, number, _)| number).collect();
-    assert_eq!(numbers, expected());
+    assert_eq!(numbers, ORDER);
+    let calls: Vec<u8> = [DONE].into_iter().chain(numbers_of_calls()).collect();
+    let [registers, openers] = [None, Some(0)].map(|segment| inquiry(segment).numbers());
+    for row in [&calls, &registers, &openers] {
+        let own: Vec<u8> = ORDER.into_iter().filter(|number| row.contains(number)).collect();
+        assert_eq!(once(row.iter().copied()), own);
+    }
+    let twice = |number: &u8| calls.iter().filter(|other| *other == number).count() == 2;
+    assert_eq!(ORDER.into_iter().filter(twice).collect::<Vec<u8>>(), [LENGTH, FROZEN]);
+    let all = calls.into_iter().chain(openers);
+    assert_eq!(once(all).len(), ORDER.len());
+}
+
+/// One of the two questions about a register.
+fn inquiry(segment: Option<usize>) -> Inquiry {
+    Inquiry { handle: reader().to_bytes(), segment, entries: Vec::new() }
 }
 
 #[test]
@@ -97,21 +115,28 @@ fn function(call: &Call) -> String {
     words.fold("gelmuszta".to_string(), |name, word| name + &word)
 }
 
-/// Each call's row is the model's, in its order; a handle from bytes can be refused for its length alone.
+/// Each row is the model's, in its order; a handle from bytes can be refused for its length alone.
 #[test]
 fn each_function_s_numbers_in_the_order_looked_at() {
     let (handle, rest) = (reader().to_bytes(), Rest { node: 0, segment: 5, mode: None });
     let calls = every(&handle, &handle, rest).into_iter();
     let calls = calls.chain([new_cluster(0, 2)]);
     let expected = calls.map(|call| (function(&call), numbers_of(&call)));
-    let expected: BTreeMap<String, Vec<u8>> =
-        expected.chain([("gelmuszta_handle_of".to_string(), vec![LENGTH])]).collect();
+    let others = [
+        ("gelmuszta_handle_of", vec![LENGTH]),
+        ("gelmuszta_register", inquiry(None).numbers()),
+        ("gelmuszta_openers", inquiry(Some(0)).numbers()),
+    ];
+    let others = others.map(|(name, numbers)| (name.to_string(), numbers));
+    let expected: BTreeMap<String, Vec<u8>> = expected.chain(others).collect();
     assert_eq!(rows(), expected);
-    assert_eq!(expected.len(), 14);
+    assert_eq!(expected.len(), 16);
     for (name, numbers) in [
         ("gelmuszta_new_cluster", vec![1, 2, 3, 6, 7]),
         ("gelmuszta_write", vec![25, 1, 2, 3, 4, 8, 25, 9, 11, 14, 22, 15]),
         ("gelmuszta_weaken", vec![25, 2, 4, 21, 17]),
+        ("gelmuszta_register", vec![25, 2, 4, 18, 15, 19, 20, 21, 17]),
+        ("gelmuszta_openers", vec![25, 2, 3, 4, 18, 15, 19, 20, 21, 17]),
     ] {
         assert_eq!(expected[name], numbers);
     }

@@ -1,13 +1,15 @@
-//! The published handles are those of the model, and are what the calls give.
+//! The published handles and registers are those of the model, and are what the calls give.
 
-use model::{hexadecimal::decode, model::run, vectors::text, words::*};
-use std::collections::HashMap;
+use model::{hexadecimal::decode, model::run, vectors::registers, vectors::text, words::*};
+use std::collections::{BTreeSet, HashMap};
 
 const PUBLISHED: &str = include_str!("../../docs/vectors/handles.txt");
+const REGISTERS: &str = include_str!("../../docs/vectors/registers.txt");
 
 #[test]
 fn published_as_made() {
     assert_eq!(PUBLISHED, text());
+    assert_eq!(REGISTERS, registers::text());
 }
 
 /// The kind of a line and its values by their keys.
@@ -170,4 +172,17 @@ fn numbers_are_those_of_calls() {
         other_widths += usize::from(values.contains_key("width") && number == 25);
     }
     assert!(other_widths > 80, "{other_widths}");
+}
+
+/// Each number is there, about the call as a whole or about an entry, and no line is of another kind.
+#[test]
+fn registers_with_every_number() {
+    let lines: Vec<&str> = REGISTERS.lines().filter(|line| line.contains('=')).collect();
+    let of = |kind: &str| lines.iter().filter(|line| line.starts_with(kind)).count();
+    assert_eq!((of("register "), of("openers "), of("refused "), lines.len()), (4, 20, 34, 58));
+    let refused = lines.iter().map(|line| read(line).1).filter(|values| values.contains_key("number"));
+    let numbers: BTreeSet<(&str, bool)> = refused.map(|values| (values["number"], values["entry"] == "0")).collect();
+    let whole = ["25", "2", "3", "4", "18", "15"].map(|number| (number, true));
+    let of_entries = ["19", "20", "21", "17"].map(|number| (number, false));
+    assert_eq!(numbers, whole.into_iter().chain(of_entries).collect());
 }

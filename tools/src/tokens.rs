@@ -61,6 +61,11 @@ impl Tokens {
         self.words.next()
     }
 
+    /// The words that are left, as one text.
+    pub fn rest(&self) -> String {
+        self.words.as_slice().join(" ")
+    }
+
     /// The next word; `expected` says what it should be where the line has ended.
     pub fn expect(&mut self, expected: &str) -> Result<String, Mistake> {
         let missing = self.mistake(format!("expected {expected}, found the end of the line"));

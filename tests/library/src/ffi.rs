@@ -71,4 +71,8 @@ extern "C" {
     pub fn gelmuszta_validate_all(image: In<image>, mode: mode, width: width, handles: In<u8>,
         handles_length: usize, numbers: Out<u8>, numbers_length: usize) -> usize;
     pub fn gelmuszta_convert(password: In<password>, parameter: u16, converted: Out<password>);
+    pub fn gelmuszta_register(handle: In<handle>, entries: In<u8>, entries_length: usize, handles: Out<u8>,
+        handles_length: usize, entry: Out<usize>) -> number;
+    pub fn gelmuszta_openers(handle: In<handle>, segment: usize, entries: In<u8>, entries_length: usize,
+        openers: Out<u8>, openers_length: usize, count: Out<usize>, entry: Out<usize>) -> number;
 }

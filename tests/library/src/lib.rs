@@ -9,6 +9,7 @@
 //! - [`stays`], [`laws`], [`untold`], [`writers`]: whether what is frozen stays, what holds of joins, what the reply to
 //!   a new password does not tell, and that those who write learn nothing of what lies there, judged by the library's
 //!   side alone.
+//! - [`registers`]: registers of handles given out.
 //! - [`pairs`]: what comparisons of two copies share.
 //! - [`tally`], [`damages`], [`sights`], [`widths`]: which answers, fills, selectors, modes, damages, ways to nothing,
 //!   frozen segments, looks, freezes, joins, new passwords and widths were met.
@@ -26,6 +27,7 @@ pub mod laws;
 pub mod pairs;
 pub mod published;
 pub mod question;
+pub mod registers;
 pub mod runs;
 pub mod sights;
 pub mod single;

@@ -1,11 +1,16 @@
-//! The published handles, each line confirmed through the library on a store made for it.
+//! The published handles and registers, each line confirmed through the library, on a store made for it where one is
+//! needed.
 
 use crate::words::*;
 use model::hexadecimal::decode;
+use model::register::{Finding, Inquiry, WIDTH};
 use std::collections::HashMap;
 
 /// What `docs/vectors/README.md` explains.
 pub const TEXT: &str = include_str!("../../../docs/vectors/handles.txt");
+pub const REGISTERS: &str = include_str!("../../../docs/vectors/registers.txt");
+/// What buffers hold before, and so what stays.
+const LEFT: u8 = 0xa5;
 
 /// Gives how many lines were confirmed.
 pub fn confirm(text: &str) -> Result<usize, String> {
@@ -14,7 +19,7 @@ pub fn confirm(text: &str) -> Result<usize, String> {
         match Line::read(text).and_then(|line| line.holds()) {
             Some(true) => confirmed += 1,
             Some(false) => return Err(format!("the library does not confirm: {text}")),
-            None => return Err(format!("not a line of published handles: {text}")),
+            None => return Err(format!("not a published line: {text}")),
         }
     }
     Ok(confirmed)
@@ -53,6 +58,9 @@ impl<'a> Line<'a> {
                 given && self.counts("new")? && self.validates("new")?
             }
             "validation" => self.validation("handle")? == self.number("number")?,
+            "register" => self.looked_up(Finding::done(0), &self.handle("handles")?)?,
+            "openers" => self.looked_up(Finding::done(self.wide("count")?), &self.handle("openers")?)?,
+            "refused" => self.looked_up(Finding::refused(self.number("number")?, self.wide("entry")?), &[])?,
             _ => self.is_refused()?,
         })
     }
@@ -77,6 +85,26 @@ impl<'a> Line<'a> {
             false => self.joining(reply)? && self.both_validate()? == (number != LENGTH),
         };
         Some(refused && self.number("number")? == number)
+    }
+
+    /// Whether the question about a register finds this, and the buffer begins with these bytes and stays behind them.
+    /// A refusal that tells neither a segment nor a buffer is that of both questions, whatever the segment.
+    fn looked_up(&self, finding: Finding, begin: &[u8]) -> Option<bool> {
+        let has = |key: &str| self.values.contains_key(key);
+        let of_both = self.kind == "refused" && !has("segment") && !has("buffer");
+        let others = (0..WIDTH.segments()).filter(|_| of_both).map(Some);
+        let named = if has("segment") { Some(self.wide("segment")?) } else { None };
+        for segment in others.chain([named]) {
+            let inquiry = Inquiry { handle: self.handle("handle")?, segment, entries: self.handle("entries")? };
+            let room = if has("buffer") { self.wide("buffer")? } else { inquiry.needed() };
+            let mut buffer = vec![LEFT; room];
+            let found = guard::look_up(&inquiry, &mut buffer);
+            let stays = buffer.get(begin.len()..)?.iter().all(|byte| *byte == LEFT);
+            if found != finding || !buffer.starts_with(begin) || !stays {
+                return Some(false);
+            }
+        }
+        Some(true)
     }
 
     fn weakening(&self) -> Option<Reply> {
@@ -163,6 +191,10 @@ impl<'a> Line<'a> {
     }
 
     fn number(&self, key: &str) -> Option<u8> {
+        self.values.get(key)?.parse().ok()
+    }
+
+    fn wide(&self, key: &str) -> Option<usize> {
         self.values.get(key)?.parse().ok()
     }
 }

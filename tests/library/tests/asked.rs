@@ -24,6 +24,8 @@ mod nothing;
 mod orders;
 #[path = "../../tests/refusals.rs"]
 mod refusals;
+#[path = "../../tests/register.rs"]
+mod register;
 #[path = "../../tests/renew.rs"]
 mod renew;
 #[path = "../../tests/writers.rs"]

@@ -7,7 +7,7 @@ pub mod joins;
 use crate::list::{Record, MOST_LIST_BYTES, MOST_RECORDS, NEXT_AT, RECORD_BYTES};
 use crate::random::Random;
 use calls::Maker;
-pub use handles::{bit, bits, gapped, to_nothing};
+pub use handles::{bit, bits, gapped, noting, to_nothing};
 
 /// One list. Equal states of `random` make equal lists.
 pub fn list(random: &mut Random) -> Vec<u8> {

@@ -1,7 +1,8 @@
-//! The published handles: a text that a laboratory can check with a program of its own.
+//! The published handles and registers: texts that a laboratory can check with a program of its own.
 //! `docs/vectors/README.md` explains the lines.
 
 mod refused;
+pub mod registers;
 mod tables;
 
 use crate::{hexadecimal::encode, words::*};

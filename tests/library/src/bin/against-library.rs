@@ -2,16 +2,17 @@
 
 use library::edges::{self, Asked};
 use library::runs::{self, RUN_CALLS};
-use library::{batch, copies, laws, published, single, stays, untold, words::*, writers};
+use library::{batch, copies, laws, published, registers, single, stays, untold, words::*, writers};
 use std::process::ExitCode;
 
 const USAGE: &str = "usage: against-library [SEED] [CALLS]";
 const BAD_USAGE: u8 = 2;
 const USUAL_SEED: u64 = 1;
 const USUAL_CALLS: u64 = 100_000;
-/// There is one join of which laws are judged for so many calls, and one batch of validations.
+/// There is one join of which laws are judged for so many calls, one batch of validations, and one register.
 const CALLS_PER_JOIN: u64 = 10;
 const CALLS_PER_BATCH: u64 = 100;
+const CALLS_PER_REGISTER: u64 = 10;
 
 type Law = fn(Guard, u64, u64) -> Result<Met, String>;
 /// What is judged by the library's side alone; for so many calls there is one row, or one pair of images or copies.
@@ -54,20 +55,27 @@ fn compare(seed: u64, calls: u64) -> Result<Vec<String>, String> {
     let validations = batch::compare(&guard::validate_all, seed, count, tally).map_err(named("batches"))?;
     println!("batches: {count}, with {validations} validations");
 
+    let count = calls.div_ceil(CALLS_PER_REGISTER);
+    let registers = registers::compare(&guard::look_up, seed, count).map_err(named("registers"))?;
+    let done = registers::laws(&guard::look_up, seed, count).map_err(named("laws of registers"))?;
+    println!("registers: {count}, with {} questions, and as many with their laws, {done} of them done", 2 * count);
+
     let judged =
         |(what, law, calls_per): (_, Law, _)| law(&guard::ask, seed, calls.div_ceil(calls_per)).map_err(named(what));
     let laws = LAWS.into_iter().map(judged).collect::<Result<Vec<Met>, String>>()?;
-    let lines = published::confirm(published::TEXT)?;
-    println!("published handles: {lines} lines confirmed");
+    for (what, text) in [("handles", published::TEXT), ("registers", published::REGISTERS)] {
+        println!("published {what}: {} lines confirmed", published::confirm(text)?);
+    }
     println!("{tally}");
-    laws.iter().for_each(|met| println!("{met}"));
-    Ok(tally.faults().into_iter().chain(laws.iter().flat_map(Met::faults)).collect())
+    let all: Vec<Met> = laws.into_iter().chain([registers]).collect();
+    all.iter().for_each(|met| println!("{met}"));
+    Ok(tally.faults().into_iter().chain(all.iter().flat_map(Met::faults)).collect())
 }
 
 fn edges(seed: u64) -> Result<(), String> {
     let (images, _) = edges::every_byte(&guard::is_sound, seed).map_err(named("every byte"))?;
     println!("images with one byte changed: {images}");
-    let all: [(&str, &dyn Fn() -> Result<Asked, String>); 9] = [
+    let all: [(&str, &dyn Fn() -> Result<Asked, String>); 10] = [
         ("pairs at words", &|| edges::pairs_at_words(&guard::is_sound, seed)),
         ("edges of looks", &|| edges::looks(&guard::ask, seed)),
         ("edges of freezes", &|| edges::freezes(&guard::ask, seed)),
@@ -77,6 +85,7 @@ fn edges(seed: u64) -> Result<(), String> {
         ("segments by width", &|| edges::segments(&guard::ask, seed)),
         ("masks", &|| edges::masks(&guard::ask, seed)),
         ("widths of new clusters", &|| edges::new_clusters(&guard::ask, seed)),
+        ("edges of registers", &|| registers::edges(&guard::look_up, seed)),
     ];
     for (what, compare) in all {
         let (asked, done) = compare().map_err(named(what))?;

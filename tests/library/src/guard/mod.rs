@@ -1,18 +1,20 @@
 //! The library's functions on borrowed bytes.
 //!
-//! Every call, here and in `calls`, is sound for one reason. Each pointer comes from a reference or a slice that
-//! is borrowed for as long as the call takes, and the length beside it is that slice's. Image, memory and passwords are
-//! lent as the header's structs, which have the bytes of these arrays and nothing else. Whatever
+//! Every call, here, in `calls` and in `registers`, is sound for one reason. Each pointer comes from a reference or a
+//! slice that is borrowed for as long as the call takes, and the length beside it is that slice's. Image, memory and
+//! passwords are lent as the header's structs, which have the bytes of these arrays and nothing else. Whatever
 //! the library may write is borrowed exclusively, so it overlaps with nothing else that is lent.
 //! Image and memory are borrowed exclusively also where the library promises to read them only,
 //! so that a broken promise would be seen afterwards and not be undefined behaviour.
 
 mod calls;
 pub mod handles;
+mod registers;
 
 use crate::ffi::{self, gelmuszta_handle, gelmuszta_image, gelmuszta_memory, gelmuszta_password};
 use crate::words::*;
 use handles::Presented;
+pub use registers::{look_up, weaken, where_it_lies};
 use std::ptr::{from_mut, from_ref};
 
 /// What outputs hold before the call, so that one that is not written is seen.

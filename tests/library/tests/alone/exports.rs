@@ -34,7 +34,7 @@ fn exported() -> BTreeSet<String> {
 fn the_archive_exports_the_header_s_functions() {
     let prototypes = prototypes();
     assert_eq!(exported(), prototypes);
-    assert_eq!(prototypes.len(), 19);
+    assert_eq!(prototypes.len(), 21);
 }
 
 #[test]

@@ -4,6 +4,7 @@ mod bytes;
 mod cases;
 mod damage;
 mod exports;
+mod pages;
 mod reached;
 mod rows;
 #[path = "../../../tests/support/mod.rs"]

@@ -1,6 +1,6 @@
 //! How much is tried of that which is not made by chance, and what the laws of copies come to.
 
-use library::{batch, copies, edges, guard, stays, untold, writers};
+use library::{batch, copies, edges, guard, registers, stays, untold, writers};
 use model::met::Met;
 
 /// Four nodes, nine stretches, and two looks or three freezes; of 20 rows of arguments, and as many more as there are
@@ -69,4 +69,18 @@ fn laws_come_to_all() {
     let guessed = ["Read", "Write"].map(|mode| format!("the {mode} password taken for the other mode"));
     has_met(&met, &[(&guessed[0], 100), (&guessed[1], 100)]);
     has_met(&writers::compare(&guard::ask, 6, 200).expect("the copies agree"), &[]);
+}
+
+/// 256 lengths of handles, 521 of entries with two buffers each, 256 parents and twice as many masks; buffers of up to
+/// 30 bytes more than are needed; and 308 segments of which 8 are right.
+#[test]
+fn registers_come_to_all() {
+    let lengths = 256 + 521 * 2 + 256 * 3;
+    let rooms = (3 * 23 + 31) + (3 + 31);
+    let (asked, done) = registers::edges(&guard::look_up, 5).expect("no difference");
+    assert_eq!(asked, 2 * lengths + rooms + 308);
+    assert!(done > 1_500, "{done}");
+    has_met(&registers::compare(&guard::look_up, 6, 10_000).expect("no difference"), &[]);
+    let done = registers::laws(&guard::look_up, 6, 400).expect("the laws hold");
+    assert!(done > 80, "{done}");
 }

@@ -111,11 +111,13 @@ mod copies {
 
     #[test]
     fn a_published_line_with_another_digit() {
-        assert!(published::confirm(published::TEXT).is_ok());
-        for line in published::TEXT.lines().filter(|line| line.contains('=')) {
-            let (rest, last) = line.split_at(line.len() - 1);
-            let other = if last == "0" { "1" } else { "0" };
-            assert!(published::confirm(&format!("{rest}{other}")).is_err(), "{line}");
+        for text in [published::TEXT, published::REGISTERS] {
+            assert!(published::confirm(text).is_ok());
+            for line in text.lines().filter(|line| line.contains('=')) {
+                let (rest, last) = line.split_at(line.len() - 1);
+                let other = if last == "0" { "1" } else { "0" };
+                assert!(published::confirm(&format!("{rest}{other}")).is_err(), "{line}");
+            }
         }
     }
 }

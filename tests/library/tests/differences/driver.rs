@@ -2,7 +2,7 @@
 
 use crate::wrong::{on, right, Wrong};
 use library::words::*;
-use library::{batch, copies, edges, laws, runs, single, stays, untold, writers};
+use library::{batch, copies, edges, laws, registers, runs, single, stays, untold, writers};
 
 const SEED: u64 = 7;
 
@@ -10,7 +10,7 @@ listed! {
     /// The comparisons, each as long as it takes to find out all of its rows.
     pub enum By {
         Single, Runs, Batches, BatchWidths, EveryByte, AtWords, Looks, Freezes, Joins, Lengths, Masks, NewClusters,
-        Segments, Handles, Stays, Laws, Untold, Writers, Copies,
+        Segments, Handles, Stays, Laws, Untold, Writers, Copies, Registers, RegisterEdges, RegisterLaws,
         /// Copies, fewer of them: for libraries that they do not find out.
         FewCopies,
     }
@@ -21,7 +21,7 @@ impl By {
     fn compare(self, wrong: &Wrong, one_of: u64) -> Result<(), String> {
         let tally = &mut Tally::default();
         let of = |cases: u64| cases / one_of;
-        let (ask, judge, make) = (&*wrong.ask, &*wrong.judge, &*wrong.make);
+        let (ask, judge, make, office) = (&*wrong.ask, &*wrong.judge, &*wrong.make, &*wrong.office);
         let of_many = &|held: &mut Held, mode, width, handles: &[u8], numbers: &mut [u8]| {
             (wrong.batch)(held, (mode, width), handles, numbers)
         };
@@ -46,6 +46,9 @@ impl By {
             By::Writers => writers::compare(ask, SEED, of(200)).map(drop),
             By::Copies => copies::compare(ask, SEED, of(400)).map(drop),
             By::FewCopies => copies::compare(ask, SEED, of(80)).map(drop),
+            By::Registers => registers::compare(office, SEED, of(4_000)).map(drop),
+            By::RegisterEdges => registers::edges(office, SEED).map(drop),
+            By::RegisterLaws => registers::laws(office, SEED, of(4_000)).map(drop),
         }
     }
 }

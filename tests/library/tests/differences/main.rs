@@ -63,6 +63,7 @@ mod held;
 mod joins;
 mod looks;
 mod nothing;
+mod registers;
 mod renewals;
 mod seen;
 mod widths;

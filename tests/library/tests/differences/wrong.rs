@@ -3,16 +3,18 @@
 use crate::driver::{numbers, Row};
 use crate::seen::Seen;
 use library::{ffi::gelmuszta_handle, words::*};
+use model::register::{Finding, Inquiry};
 use std::{ops::Range, rc::Rc};
 
-/// A library: what it answers, how it judges many handles, which images it holds for sound, and what it makes of bytes.
-/// Mode and width of many handles are one argument.
+/// A library: what it answers, how it judges many handles, which images it holds for sound, what it makes of bytes, and
+/// what it finds in registers. Mode and width of many handles are one argument.
 #[derive(Clone)]
 pub struct Wrong {
     pub ask: Rc<dyn Fn(&mut Held, &Question) -> Answer>,
     pub batch: Rc<dyn Fn(&mut Held, (usize, usize), &[u8], &mut [u8]) -> usize>,
     pub judge: Rc<dyn Fn(&mut Image) -> bool>,
     pub make: Rc<dyn Fn(&[u8]) -> (u8, gelmuszta_handle)>,
+    pub office: Rc<dyn Fn(&Inquiry, &mut [u8]) -> Finding>,
 }
 
 /// The library as it is.
@@ -22,6 +24,7 @@ pub fn right() -> Wrong {
         batch: Rc::new(validate_all),
         judge: Rc::new(guard::is_sound),
         make: Rc::new(guard::handle_of),
+        office: Rc::new(guard::look_up),
     }
 }
 
@@ -47,6 +50,11 @@ pub fn judging(judge: impl Fn(&mut Image) -> bool + 'static) -> Wrong {
 /// Makes another handle of bytes.
 pub fn making(make: impl Fn(&[u8]) -> (u8, gelmuszta_handle) + 'static) -> Wrong {
     Wrong { make: Rc::new(make), ..right() }
+}
+
+/// Finds something else in registers.
+pub fn finding(office: impl Fn(&Inquiry, &mut [u8]) -> Finding + 'static) -> Wrong {
+    Wrong { office: Rc::new(office), ..right() }
 }
 
 /// Takes a question for another.
