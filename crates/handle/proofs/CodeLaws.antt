@@ -25,13 +25,13 @@ use Rattle.loops.specs.Tabulate.{tabulate}
 use Rattle.aes.specs.Cipher.{cipher}
 use Rattle.handle.specs.declared.Handle.{Handle}
 use Rattle.handle.specs.declared.Weakened.{Weakened}
-use Rattle.handle.specs.Conversion.{conversion, product, by, ByAny}
+use Rattle.handle.specs.Conversion.{conversion}
 use Rattle.handle.specs.Sizes.{subselectors}
 use Rattle.handle.specs.Widths.{room}
 use Rattle.handle.specs.Selectors.{references, either, allFlat, gapped, firstFlat, common, referenced}
 use Rattle.handle.specs.Selectors.{union, wholeUnion}
-use Rattle.handle.specs.Handles.{nodeOf, nameOf, widthOf, sameName, noHandle, refusal, renewed, cut, samePassword, converted, through}
-use Rattle.handle.specs.Handles.{validates, made, reduced, joined, weakening}
+use Rattle.handle.specs.Handles.{nodeOf, widthOf, sameName, noHandle, refusal, renewed, cut, samePassword, converted, through}
+use Rattle.handle.specs.Handles.{validates, made, reduced, joined}
 use Rattle.handle.proofs.SelectorLaws.{first-here, first-past}
 use Rattle.handle.proofs.HandleLaws.{reduced-cases}
 use Rattle.handle.proofs.CodecLaws.{listed}
@@ -278,26 +278,3 @@ code-width h b w e = ap (λ (n : ℕ). eqb n w) e
 
 pub code-beyond : (h : Handle) (b i : ℕ) → b ≡ widthOf h → leb b i ≡ leb (widthOf h) i
 code-beyond h b i e = ap (λ (n : ℕ). leb n i) e
-
--- ---- the password converted, or as it is
-
-module _ (converting : Bool) (p : List ℕ) (c : ℕ) (r : List ℕ) where
-  pub by-conversion : converting ≡ true → r ≡ conversion p c → ByAny converting p c r
-  unfolding by
-  by-conversion t q n = q ∙ ap (λ (b : Bool). by b n p c) (sym t)
-
-  pub by-none : converting ≡ false → r ≡ p → ByAny converting p c r
-  unfolding by
-  by-none t q n = q ∙ ap (λ (b : Bool). by b n p c) (sym t)
-
-pub cut-by : (w : ℕ) (h : Handle) (converting : Bool) (k x y : ℕ) → y ≡ full w → (q : List ℕ)
-    → ByAny converting (h .password) (y - x) q
-    → renewed h q (set (h .selector) k (y - x)) ≡ cut (by converting (nameOf h)) h k (full w - x)
-cut-by w h converting k x y ey q e =
-    code-cut w (by converting (nameOf h)) h (h .password) k x y ey q (e (nameOf h))
-
--- converted, it is the product's weakening
-pub by-product : (h : Handle) (mask : ℕ) (r : Weakened) → r ≡ weakening (widthOf h) (by true (nameOf h)) h mask
-    → r ≡ weakening (widthOf h) (product (nameOf h)) h mask
-unfolding by
-by-product h mask r q = q

@@ -4,12 +4,9 @@
 --     conversion p c    the AES-128 encryption, under the key p, of that block
 --     product n p c     the product's conversion, at which contracts stand: of the cluster's name n, the password p and
 --                       the parameter c; it takes in no name
---     by b n p c        that conversion where b holds, else the password as it is: for whoever asks of selectors alone
---     ByAny b p c r     so converted, r is what becomes of p by c, whatever the name
 --     SixteenBytes f    the conversion f gives passwords of sixteen bytes
 -- Assumes nothing.
 use mathlib.Core.Path.{_≡_}
-use mathlib.Core.Bool.{Bool, true, false}
 use Prim.Native.Nat.{ℕ}
 use mathlib.Core.List.{List}
 use lib.ListN.{length}
@@ -26,13 +23,6 @@ conversion p c = cipher p (block c)
 
 abbrev pub product : Name → List ℕ → ℕ → List ℕ
 product n p c = conversion p c
-
-unfoldable pub by : Bool → Name → List ℕ → ℕ → List ℕ
-by true n p c = product n p c
-by false n p c = p
-
-abbrev pub ByAny : Bool → List ℕ → ℕ → List ℕ → Type 0
-ByAny b p c r = (n : Name) → r ≡ by b n p c
 
 abbrev pub SixteenBytes : (Name → List ℕ → ℕ → List ℕ) → Type 0
 SixteenBytes f = (n : Name) (p : List ℕ) (c : ℕ) → length (f n p c) ≡ passwordBytes

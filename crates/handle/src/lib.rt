@@ -22,7 +22,7 @@ ghost use Rattle.handle.specs.Conversion.{conversion, product};
 const ROOM: usize = 16;
 
 // How many subselectors a selector has.
-const SUBSELECTORS: usize = 4;
+pub const SUBSELECTORS: usize = 4;
 
 // The places of the parameter's two bytes in the block that a conversion encrypts: the last two.
 const HIGH_AT: usize = 14;
@@ -263,7 +263,7 @@ impl Handle {
     }
 
     // The place of the first flat subselector; past the last where none is flat.
-    fn first_flat(self) -> usize
+    pub fn first_flat(self) -> usize
         ensures { λ r. ⌜ r ≡ sel.firstFlat (spec.widthOf self) (self .selector) ⌝ }
     {
         let width = self.width;

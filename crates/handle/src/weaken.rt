@@ -12,7 +12,6 @@ use numbers::NO_SUCH_PLACE;
 use numbers::SPENT;
 use sizes::CLUSTERS;
 use sizes::NODES;
-use sizes::Password;
 ghost use mathlib.Core.Path.{_≡_};
 ghost use Prim.Native.Nat.{_-_, _≤_, _<_};
 ghost use Rattle.aes.specs.Tables.{IsTables};
@@ -20,7 +19,7 @@ ghost use Rattle.bits.specs.Sets.{full};
 ghost use Rattle.handle.specs.Sizes.{subselectors};
 ghost use Rattle.handle.specs.Selectors as sel;
 ghost use Rattle.handle.specs.Handles as spec;
-ghost use Rattle.handle.specs.Conversion.{product, by, ByAny};
+ghost use Rattle.handle.specs.Conversion.{product};
 
 // The reply of a refused weakening.
 fn refused(number: u8) -> Weakened
@@ -46,17 +45,6 @@ fn done(handle: Handle) -> Weakened
     }
 }
 
-// The password through the conversion of a parameter, or as it is.
-fn converted_if(tables: &Tables, converting: bool, password: Password, parameter: u16) -> Password
-    requires { ⌜ IsTables (now tables) ⌝ }
-    ensures { λ r. ⌜ ByAny converting password parameter r ⌝ }
-{
-    if converting {
-        return convert_with(tables, password, parameter);
-    }
-    password
-}
-
 impl Handle {
     // The number by what the handle is, whatever the mask: none of the three lengths, no such place, gapped; or 0.
     fn standing(self) -> u8
@@ -79,17 +67,17 @@ impl Handle {
     }
 
     // The handle with the parameter in one of its subselectors, all bits of the width less those of the excluded segments;
-    // and its password through the conversion of the parameter, or as it is.
-    fn cut_with(self, tables: &Tables, converting: bool, place: usize, excluded: u16) -> Handle
+    // and its password through the conversion of the parameter.
+    fn cut_with(self, tables: &Tables, place: usize, excluded: u16) -> Handle
         requires { ⌜ IsTables (now tables) ⌝ }
         requires { ⌜ place < subselectors ⌝ }
         requires { ⌜ excluded ≤ full (spec.widthOf self) ⌝ }
-        ensures { λ r. ⌜ r ≡ spec.cut (by converting (spec.nameOf self)) self place (full (spec.widthOf self) - excluded) ⌝ }
+        ensures { λ r. ⌜ r ≡ spec.cut (product (spec.nameOf self)) self place (full (spec.widthOf self) - excluded) ⌝ }
     {
         let width = self.width;
         let parameter = width.full() - excluded;
         let old = self.password;
-        let password = converted_if(tables, converting, old, parameter);
+        let password = convert_with(tables, old, parameter);
         let mut selector = self.selector;
         selector[place] = parameter;
         Handle {
@@ -101,11 +89,10 @@ impl Handle {
         }
     }
 
-    // The handle weakened by a mask, and how many segments the new one references. The store plays no part. Whoever asks of
-    // selectors alone has no password converted.
-    pub fn weaken_by(self, tables: &Tables, mask: u16, converting: bool) -> Weakened
+    // The handle weakened by a mask, and how many segments the new one references. The store plays no part.
+    pub fn weaken_with(self, tables: &Tables, mask: u16) -> Weakened
         requires { ⌜ IsTables (now tables) ⌝ }
-        ensures { λ r. ⌜ r ≡ spec.weakening (spec.widthOf self) (by converting (spec.nameOf self)) self mask ⌝ }
+        ensures { λ r. ⌜ r ≡ spec.weakening (spec.widthOf self) (product (spec.nameOf self)) self mask ⌝ }
     {
         let number = self.standing();
         if number != 0 {
@@ -124,16 +111,8 @@ impl Handle {
         if SUBSELECTORS <= place {
             return refused(SPENT);
         }
-        let weaker = self.cut_with(tables, converting, place, excluded);
+        let weaker = self.cut_with(tables, place, excluded);
         done(weaker)
-    }
-
-    // The same, with the password converted.
-    pub fn weaken_with(self, tables: &Tables, mask: u16) -> Weakened
-        requires { ⌜ IsTables (now tables) ⌝ }
-        ensures { λ r. ⌜ r ≡ spec.weakening (spec.widthOf self) (product (spec.nameOf self)) self mask ⌝ }
-    {
-        self.weaken_by(tables, mask, true)
     }
 
     // The same, with the tables taken for this one call.

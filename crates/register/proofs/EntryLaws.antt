@@ -8,9 +8,6 @@ use mathlib.Core.Path.{_≡_, refl, sym, ap, _∙_, subst}
 use mathlib.Core.Logic.{_⊎_, inl, inr}
 use mathlib.Core.Bool.{Bool, true, false}
 use mathlib.Core.List.{List, [], _∷_}
-use lib.Dec.{eqb, leb}
-use mathlib.Core.Bool.{_||_}
-use Rattle.sizes.specs.Sizes.{nodes, clusters}
 use Rattle.numbers.specs.Numbers.{linkNumber, loopNumber}
 use Rattle.chain.specs.Way.{reached, done, refusal}
 use Rattle.chain.specs.Means.{IsRecord, OnRecords, Whole, Leaves, Again}
@@ -22,11 +19,13 @@ use Rattle.handle.specs.declared.Handle.{Handle}
 use Rattle.handle.specs.declared.Weakened.{Weakened}
 use Rattle.handle.specs.Selectors.{gapped, keepsNone, spent, referenced}
 use Rattle.handle.specs.Handles.{Name, nameOf, widthOf, noWidth, noSuchPlace, reply, weakenNumber, weakened, weakening}
-use Rattle.handle.proofs.HandleLaws.{telling, name-weakened, width-weakened, gapped-weakened}
+use Rattle.handle.proofs.HandleLaws.{telling}
 use Rattle.register.specs.Registers.{entries, parentOf, maskOf, wayOf, masksOf}
 use Rattle.register.specs.Registers.{Made, given, failed, settled, steppedAt, stepped, steps, ended, made}
 use Rattle.register.specs.Words.{MadeInWords, StepNumbers}
 use Rattle.register.proofs.MadeLaws.{Ends, ends-more, ends-way, by-way, way-made, steps-more, good-none, good-made}
+use Rattle.register.specs.inner.Work.{Standing}
+use Rattle.register.proofs.NarrowLaws.{standing-weakened}
 use Rattle.register.proofs.KeptLaws.{steps-keep}
 
 -- ---- the numbers of one weakening
@@ -58,12 +57,6 @@ weaken-number P none length place gap empty out w h mask =
     go false false false false true = out
     go false false false false false = none
 
--- the handle is turned down with no number whatever the mask
-record Standing (h : Handle) : Type 0 where
-  wide : noWidth h ≡ false
-  here : noSuchPlace h ≡ false
-  ungapped : gapped (widthOf h) (h .selector) ≡ false
-
 standing-number : (P : ℕ → Type 0) → P 0 → P 21 → P 17 → (h : Handle) → Standing h → (mask : ℕ)
     → P (weakenNumber (widthOf h) h mask)
 unfolding weakenNumber
@@ -83,23 +76,6 @@ standing-number P none empty out h s mask =
         last false false = none
 
 module _ (f : Name → List ℕ → ℕ → List ℕ) where
-  standing-weakened : (h : Handle) (mask : ℕ) → Standing h → Standing (weakened (widthOf h) (f (nameOf h)) h mask)
-  standing-weakened h mask s =
-      record {
-        wide = ap (λ (w : ℕ). noWidthOf w) (width-weakened (widthOf h) (f (nameOf h)) h mask) ∙ s .wide;
-        here = ap (λ (n : Name). noPlace n) (name-weakened (widthOf h) (f (nameOf h)) h mask) ∙ s .here;
-        ungapped =
-            ap (λ (w : ℕ). gapped w (weakened (widthOf h) (f (nameOf h)) h mask .selector))
-            (width-weakened (widthOf h) (f (nameOf h)) h mask)
-            ∙ gapped-weakened (widthOf h) (f (nameOf h)) h mask (s .ungapped);
-      }
-    where
-      noWidthOf : ℕ → Bool
-      noWidthOf w = eqb w 0
-
-      noPlace : Name → Bool
-      noPlace n = leb nodes (n .node) || leb clusters (n .local)
-
   -- ---- the numbers of steps
 
   -- what holds of 0 and of the number of each weakening holds of the number of steps
@@ -213,6 +189,7 @@ module _ (f : Name → List ℕ → ℕ → List ℕ) where
       (λ ms g s mask.
       standing-number (λ n. (n ≡ 0) ⊎ (n ≡ 19) ⊎ (n ≡ 20) ⊎ (n ≡ 21) ⊎ (n ≡ 17)) (inl refl)
       (inr (inr (inr (inl refl)))) (inr (inr (inr (inr refl)))) g
-      (steps-keep f Standing h (record { wide = wide; here = here; ungapped = ungapped }) (standing-weakened) ms g s) mask)
+      (steps-keep f Standing h (record { wide = wide; here = here; ungapped = ungapped })
+      (λ k m p. standing-weakened (f (nameOf k)) k m p) ms g s) mask)
       (masksOf e k m))
       (λ l. inr (inl refl)) (λ a. inr (inr (inl refl)))

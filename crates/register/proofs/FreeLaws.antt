@@ -160,22 +160,3 @@ module _ (f g : Name → List ℕ → ℕ → List ℕ) where
 
       pub free-of-passwords : FreeOfPasswords f g h h′ e
       free-of-passwords = record { number = number; selector = selector; told = told; openers = openers }
-
-  -- ---- the second question
-
-  module _ (b : List ℕ) (s : ℕ) (e : List ℕ) where
-    free : FreeOfPasswords f g (decoded b) (decoded b) e
-    free = free-of-passwords (decoded b) (decoded b) (same-but-password (decoded b)) e
-
-    entry-same : (room : ℕ) → openersEntry f b s e room ≡ openersEntry g b s e room
-    unfolding openersEntry
-    entry-same room = ap (toldFirst (wholeNumber b (ltb 7 s) (length e) room 1)) (free .told)
-
-    pub told-same : (room : ℕ) (r : Opened) → r ≡ openersTold f b s e room → r ≡ openersTold g b s e room
-    unfolding openersTold
-    told-same room r q = q ∙ ap₂ openedWith (entry-same room) (free .openers s (entries e))
-
-    pub left-same : (m r : List ℕ) → r ≡ openersLeft f b s e m → r ≡ openersLeft g b s e m
-    unfolding openersLeft
-    left-same m r q =
-        q ∙ ap₂ (λ (t : Told) (l : List ℕ). leaves (t .number) l m) (entry-same (length m)) (free .openers s (entries e))

@@ -8,8 +8,9 @@ use native.Mathlib.Omega.{arith}
 use lib.ListN.{length, getD, take, drop}
 use Rattle.handle.specs.declared.Handle.{Handle}
 use Rattle.handle.specs.Handles.{Name, nameOf, widthOf, decoded, encoded, written, weakened}
-use Rattle.handle.specs.Conversion.{product, by, SixteenBytes}
+use Rattle.handle.specs.Conversion.{SixteenBytes}
 use Rattle.register.specs.declared.Told.{Told}
+use Rattle.register.specs.declared.Seen.{Seen}
 use Rattle.register.specs.Registers.{entries, Made, given, made, lowest, wholeNumber, toldFirst, leaves, wayOf, masksOf}
 use Rattle.register.specs.Registers.{bytesUpTo, handlesTold, handlesLeft}
 use Rattle.register.specs.inner.Work.{Works, Put, laidIn, blank, Room}
@@ -55,7 +56,8 @@ module _ (f : Name → List ℕ → ℕ → List ℕ) (sixteen : SixteenBytes f)
       handles-whole-left =
           sym (left-by (record { number = number; entry = 0 }) (sym handles-whole) ∙ leaves-all number all m z)
 
-    module _ (z : number ≡ 0) (h : Handle) (eh : h ≡ decoded b) (t : Told) (hs : List Handle) (w : Works f h e t hs) where
+    module _ (z : number ≡ 0) (h : Handle) (eh : h ≡ decoded b) (t : Told) (ss : List Seen) (hs : List Handle)
+        (w : Works f h e true t ss hs) where
       pub handles-told : t ≡ handlesTold f b e (length m)
       unfolding handlesTold
       handles-told =
@@ -79,7 +81,7 @@ module _ (f : Name → List ℕ → ℕ → List ℕ) (sixteen : SixteenBytes f)
               ap (λ (h : Handle). bytesUpTo f h e (entries e)) (sym eh)
               ∙ bytes-same h e hs (entries e)
               (subst Laid (sym eh) (laid-decoded b (going b false (length e) (length m) 23 number q z .0 .bytes)))
-              (w .all y)
+              (w .all refl y)
 
 module _ (b e m : List ℕ) (number : ℕ) (q : number ≡ wholeNumber b false (length e) (length m) 23) where
   pub handles-few : number ≡ 0 → length e / 2 ≤ 255
@@ -87,8 +89,3 @@ module _ (b e m : List ℕ) (number : ℕ) (q : number ≡ wholeNumber b false (
 
   pub handles-room : number ≡ 0 → Room (length e / 2) (length m)
   handles-room z = record { few = handles-few z; ends = going b false (length e) (length m) 23 number q z .0 .long }
-
--- what is worked out with every password converted is worked out by the product's conversion
-pub works-product : (h : Handle) (e : List ℕ) (t : Told) (hs : List Handle) → Works (by true) h e t hs → Works product h e t hs
-unfolding by
-works-product h e t hs w = w

@@ -80,6 +80,12 @@ module _ (f : Name → List ℕ → ℕ → List ℕ) where
           (sym (l .is ∙ handle-done (widthOf (l .parent)) (f (nameOf (l .parent))) (l .parent) m (l .done)))
           (keep (l .parent) m (rest (l .parent) (l .before)))
 
+  -- the width
+  pub width-steps : (h : Handle) (ms : List ℕ) (g : Handle) → steps f h ms ≡ given g → g .width ≡ h .width
+  width-steps h =
+      steps-keep (λ g. g .width ≡ h .width) h refl
+      (λ k mask q. weakened-cases (widthOf k) (f (nameOf k)) k mask (λ g. g .width ≡ h .width) (λ e. q) (λ e. q))
+
   -- an entry that has a handle has it by the steps along its way
   pub made-steps : (h : Handle) (e : List ℕ) (k : ℕ) (g : Handle) → made f h e k ≡ given g
       → steps f h (masksOf e k (wayOf e k .records)) ≡ given g

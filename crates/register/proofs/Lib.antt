@@ -1,3 +1,4 @@
+pub mod NarrowLaws
 pub mod ClimbLaws
 pub mod MadeLaws
 pub mod WorkLaws

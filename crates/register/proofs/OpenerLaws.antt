@@ -9,14 +9,17 @@ use lib.Dec.{ltb}
 use lib.ListN.{length, getD, drop}
 use Rattle.handle.specs.declared.Handle.{Handle}
 use Rattle.handle.specs.Selectors.{references}
-use Rattle.handle.specs.Handles.{Name, decoded}
+use Rattle.bits.specs.Sets.{has}
+use borrow.Author.Tests.{ltb-false}
+use Rattle.handle.specs.Handles.{Name, widthOf, decoded}
+use Rattle.register.specs.declared.Seen.{Seen}
 use Rattle.register.specs.declared.Told.{Told}
 use Rattle.register.specs.declared.Opened.{Opened}
 use Rattle.register.specs.Registers.{entries, Made, given, made, lowest, wholeNumber, toldFirst, leaves, oneIf, openedAs}
 use Rattle.register.specs.Registers.{openedWith, openersUpTo, openersEntry, openersTold, openersLeft}
-use Rattle.register.specs.inner.Work.{Works, Put, openersIn, blank}
+use Rattle.register.specs.inner.Work.{Works, Put, openersIn, unseen}
 use Rattle.register.proofs.PutLaws.{put-start}
-use Rattle.register.proofs.WholeLaws.{going}
+use Rattle.register.proofs.WholeLaws.{going, wide}
 
 pub told-refused : (n : ℕ) (t : Told) → (n ≡ 0 → ⊥) → toldFirst n t ≡ record { number = n; entry = 0 }
 told-refused zero t z = absurd (z refl)
@@ -43,14 +46,15 @@ opened-done zero k c z = refl
 opened-done (suc n) k c z = absurd (omega arith)
 
 module _ (f : Name → List ℕ → ℕ → List ℕ) where
-  -- the openers by the definition are those by the handles made
-  openers-same : (h : Handle) (e : List ℕ) (hs : List Handle) (s n : ℕ)
-      → ((k : ℕ) → k < n + 1 → made f h e k ≡ given (getD hs k blank)) → openersUpTo f h e s n ≡ openersIn hs s n
+  -- the openers by the definition are those by what is seen of the handles
+  openers-same : (h : Handle) (e : List ℕ) (ss : List Seen) (s n : ℕ)
+      → ((k : ℕ) → k < n + 1 → references (made f h e k .handle .selector) s ≡ has s (getD ss k unseen .set))
+      → openersUpTo f h e s n ≡ openersIn ss s n
   unfolding openersUpTo openersIn
-  openers-same h e hs s zero all = refl
-  openers-same h e hs s (suc n) all =
-      ap₂ (λ (l r : List ℕ). l ++ r) (openers-same h e hs s n (λ k l. all k (omega arith)))
-      (ap (λ (m : Made). oneIf (references (m .handle .selector) s) (suc n)) (all (suc n) (omega arith)))
+  openers-same h e ss s zero all = refl
+  openers-same h e ss s (suc n) all =
+      ap₂ (λ (l r : List ℕ). l ++ r) (openers-same h e ss s n (λ k l. all k (omega arith)))
+      (ap (λ (b : Bool). oneIf b (suc n)) (all (suc n) (omega arith)))
 
   module _ (b : List ℕ) (s : ℕ) (e m : List ℕ) (number : ℕ)
       (q : number ≡ wholeNumber b (ltb 7 s) (length e) (length m) 1) where
@@ -78,7 +82,8 @@ module _ (f : Name → List ℕ → ℕ → List ℕ) where
       pub openers-whole-left : m ≡ openersLeft f b s e m
       openers-whole-left = sym (left-by (record { number = number; entry = 0 }) entry-whole ∙ leaves-all number all m z)
 
-    module _ (z : number ≡ 0) (h : Handle) (eh : h ≡ decoded b) (t : Told) (hs : List Handle) (w : Works f h e t hs) where
+    module _ (z : number ≡ 0) (h : Handle) (eh : h ≡ decoded b) (wanted : Bool) (t : Told) (ss : List Seen) (hs : List Handle)
+        (w : Works f h e wanted t ss hs) where
       entry-goes : openersEntry f b s e (length m) ≡ t
       unfolding openersEntry
       entry-goes =
@@ -95,25 +100,37 @@ module _ (f : Name → List ℕ → ℕ → List ℕ) where
         openers-failed-left = sym (left-by t entry-goes ∙ leaves-all (t .number) all m y)
 
       module _ (y : t .number ≡ 0) where
-        same : all ≡ openersIn hs s (length e / 2)
+        -- the segment is one of the handle's width
+        low : s < widthOf h
+        low =
+            let c = going b (ltb 7 s) (length e) (length m) 1 number q z in
+            let v = wide b (c .0 .bytes) in
+            let u = ap widthOf eh in
+            let l = ltb-false 7 s (c .1) in
+            omega arith
+
+        same : all ≡ openersIn ss s (length e / 2)
         same =
             ap (λ (h : Handle). openersUpTo f h e s (entries e)) (sym eh)
-            ∙ openers-same h e hs s (entries e) (w .all y)
+            ∙ openers-same h e ss s (entries e) (λ k l. w .seen y k l s low)
 
-        pub openers-done : (count : ℕ) → count ≡ length (openersIn hs s (length e / 2))
+        pub openers-done : (count : ℕ) → count ≡ length (openersIn ss s (length e / 2))
             → record { number = 0; entry = 0; count = count } ≡ openersTold f b s e (length m)
         openers-done count p =
             sym (told-by t entry-goes ∙ opened-done (t .number) (t .entry) (length all) y
             ∙ ap (λ (c : ℕ). record { number = 0; entry = 0; count = c }) (ap length same ∙ sym p))
 
-        pub openers-done-left : (m′ : List ℕ) → Put m m′ 0 (openersIn hs s (length e / 2)) → m′ ≡ openersLeft f b s e m
+        pub openers-done-left : (m′ : List ℕ) → Put m m′ 0 (openersIn ss s (length e / 2)) → m′ ≡ openersLeft f b s e m
         openers-done-left m′ p =
-            put-start m m′ (openersIn hs s (length e / 2)) p
+            put-start m m′ (openersIn ss s (length e / 2)) p
             ∙ ap (λ (l : List ℕ). l ++ drop (length l) m) (sym same)
             ∙ sym (left-by t entry-goes ∙ leaves-rest (t .number) all m y)
 
     pub openers-few : number ≡ 0 → length e / 2 ≤ 255
     openers-few z = going b (ltb 7 s) (length e) (length m) 1 number q z .0 .few
+
+    pub openers-segment : number ≡ 0 → s ≤ 7
+    openers-segment z = ltb-false 7 s (going b (ltb 7 s) (length e) (length m) 1 number q z .1)
 
     pub openers-room : number ≡ 0 → length e / 2 ≤ length m
     openers-room z = let r = going b (ltb 7 s) (length e) (length m) 1 number q z .0 .long in omega arith

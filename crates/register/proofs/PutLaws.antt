@@ -10,10 +10,11 @@ use lib.ListN.{length, getD, set, take, drop, length-append, length-set, take-ap
 use lib.Seq.{take-suc, take-suc-set, take-all, drop-drop, drop-set-lt, length-take-le}
 use Rattle.handle.specs.declared.Handle.{Handle}
 use Rattle.handle.specs.declared.HandleBytes.{HandleBytes}
-use Rattle.handle.specs.Selectors.{references}
+use Rattle.bits.specs.Sets.{has}
 use Rattle.handle.specs.Handles.{written}
+use Rattle.register.specs.declared.Seen.{Seen}
 use Rattle.register.specs.Registers.{oneIf}
-use Rattle.register.specs.inner.Work.{Put, PutHandle, openersIn, laidIn, blank, Fitting, Room}
+use Rattle.register.specs.inner.Work.{Put, PutHandle, openersIn, laidIn, blank, unseen, Fitting, Room}
 
 pub put-none : (m : List ℕ) (at : ℕ) → Put m m at []
 put-none m at =
@@ -75,47 +76,47 @@ put-start m m′ text p =
 
 -- ---- the loop that lists numbers
 
-openers-more : (hs : List Handle) (s n : ℕ) (b : Bool) → references (getD hs (n + 1) blank .selector) s ≡ b
-    → openersIn hs s (n + 1) ≡ openersIn hs s n ++ oneIf b (n + 1)
+openers-more : (ss : List Seen) (s n : ℕ) (b : Bool) → has s (getD ss (n + 1) unseen .set) ≡ b
+    → openersIn ss s (n + 1) ≡ openersIn ss s n ++ oneIf b (n + 1)
 unfolding openersIn
-openers-more hs s n b q =
-    ap (openersIn hs s) (add-one n)
-    ∙ ap (λ (k : ℕ). openersIn hs s n ++ oneIf (references (getD hs k blank .selector) s) k) (sym (add-one n))
-    ∙ ap (λ (b : Bool). openersIn hs s n ++ oneIf b (n + 1)) q
+openers-more ss s n b q =
+    ap (openersIn ss s) (add-one n)
+    ∙ ap (λ (k : ℕ). openersIn ss s n ++ oneIf (has s (getD ss k unseen .set)) k) (sym (add-one n))
+    ∙ ap (λ (b : Bool). openersIn ss s n ++ oneIf b (n + 1)) q
 
-openers-none : (hs : List Handle) (s : ℕ) → openersIn hs s 0 ≡ []
+openers-none : (ss : List Seen) (s : ℕ) → openersIn ss s 0 ≡ []
 unfolding openersIn
-openers-none hs s = refl
+openers-none ss s = refl
 
-pub record Listing (hs : List Handle) (n s : ℕ) (m m′ : List ℕ) (count k : ℕ) : Type 0 where
+pub record Listing (ss : List Seen) (n s : ℕ) (m m′ : List ℕ) (count k : ℕ) : Type 0 where
   pub few : n ≤ 255
   pub room : n ≤ length m
   pub low : k ≤ n
   pub size : length m′ ≡ length m
   pub least : count ≤ k
-  pub told : count ≡ length (openersIn hs s k)
-  pub so-far : Put m m′ 0 (openersIn hs s k)
+  pub told : count ≡ length (openersIn ss s k)
+  pub so-far : Put m m′ 0 (openersIn ss s k)
 
-pub listing-none : (hs : List Handle) (n s : ℕ) (m : List ℕ) → n ≤ 255 → n ≤ length m → Listing hs n s m m 0 0
-listing-none hs n s m a b =
+pub listing-none : (ss : List Seen) (n s : ℕ) (m : List ℕ) → n ≤ 255 → n ≤ length m → Listing ss n s m m 0 0
+listing-none ss n s m a b =
     record {
       few = a;
       room = b;
       low = omega arith;
       size = refl;
       least = omega arith;
-      told = sym (ap length (openers-none hs s));
-      so-far = subst (Put m m 0) (sym (openers-none hs s)) (put-none m 0);
+      told = sym (ap length (openers-none ss s));
+      so-far = subst (Put m m 0) (sym (openers-none ss s)) (put-none m 0);
     }
 
-module _ (hs : List Handle) (n s : ℕ) (m m′ : List ℕ) (count k : ℕ) (l : Listing hs n s m m′ count k) where
+module _ (ss : List Seen) (n s : ℕ) (m m′ : List ℕ) (count k : ℕ) (l : Listing ss n s m m′ count k) where
   pub listing-inside : k < n → count < length m′
   listing-inside h = let a = l .room in let b = l .size in let c = l .least in omega arith
 
-  module _ (h : k < n) (b : Bool) (q : b ≡ references (getD hs (k + 1) blank .selector) s) where
-    pub listing-opens : b ≡ true → Listing hs n s m (set m′ count (k + 1)) (count + 1) (k + 1)
+  module _ (h : k < n) (b : Bool) (q : b ≡ has s (getD ss (k + 1) unseen .set)) where
+    pub listing-opens : b ≡ true → Listing ss n s m (set m′ count (k + 1)) (count + 1) (k + 1)
     listing-opens t =
-        let more : openersIn hs s (k + 1) ≡ openersIn hs s k ++ ((k + 1) ∷ []) = openers-more hs s k true (sym q ∙ t) in
+        let more : openersIn ss s (k + 1) ≡ openersIn ss s k ++ ((k + 1) ∷ []) = openers-more ss s k true (sym q ∙ t) in
         record {
           few = l .few;
           room = l .room;
@@ -124,25 +125,25 @@ module _ (hs : List Handle) (n s : ℕ) (m m′ : List ℕ) (count k : ℕ) (l :
           least = let c = l .least in omega arith;
           told =
               let c = l .told in
-              let u = length-append (openersIn hs s k) ((k + 1) ∷ []) in
+              let u = length-append (openersIn ss s k) ((k + 1) ∷ []) in
               let v = ap length more in
               omega arith;
           so-far =
               subst (Put m (set m′ count (k + 1)) 0) (sym more)
-              (put-then m m′ (set m′ count (k + 1)) 0 count (openersIn hs s k) ((k + 1) ∷ [])
+              (put-then m m′ (set m′ count (k + 1)) 0 count (openersIn ss s k) ((k + 1) ∷ [])
               (let c = l .told in omega arith) (l .so-far)
               (put-one m′ count (k + 1) (listing-inside h)));
         }
 
     pub listing-opens-as : b ≡ true → (m″ : List ℕ) (count″ : ℕ) → m″ ≡ set m′ count (k + 1) → count″ ≡ count + 1
-        → Listing hs n s m m″ count″ (k + 1)
+        → Listing ss n s m m″ count″ (k + 1)
     listing-opens-as t m″ count″ u v =
-        subst (λ (x : List ℕ). Listing hs n s m x count″ (k + 1)) (sym u)
-        (subst (λ (x : ℕ). Listing hs n s m (set m′ count (k + 1)) x (k + 1)) (sym v) (listing-opens t))
+        subst (λ (x : List ℕ). Listing ss n s m x count″ (k + 1)) (sym u)
+        (subst (λ (x : ℕ). Listing ss n s m (set m′ count (k + 1)) x (k + 1)) (sym v) (listing-opens t))
 
-    pub listing-not : b ≡ false → Listing hs n s m m′ count (k + 1)
+    pub listing-not : b ≡ false → Listing ss n s m m′ count (k + 1)
     listing-not t =
-        let more : openersIn hs s (k + 1) ≡ openersIn hs s k = openers-more hs s k false (sym q ∙ t) ∙ append-nil (openersIn hs s k) in
+        let more : openersIn ss s (k + 1) ≡ openersIn ss s k = openers-more ss s k false (sym q ∙ t) ∙ append-nil (openersIn ss s k) in
         record {
           few = l .few;
           room = l .room;
@@ -153,21 +154,21 @@ module _ (hs : List Handle) (n s : ℕ) (m m′ : List ℕ) (count k : ℕ) (l :
           so-far = subst (Put m m′ 0) (sym more) (l .so-far);
         }
 
-  pub listing-not-as : k < n → (b : Bool) → b ≡ references (getD hs (k + 1) blank .selector) s → b ≡ false
-      → (m″ : List ℕ) (count″ : ℕ) → m″ ≡ m′ → count″ ≡ count → Listing hs n s m m″ count″ (k + 1)
+  pub listing-not-as : k < n → (b : Bool) → b ≡ has s (getD ss (k + 1) unseen .set) → b ≡ false
+      → (m″ : List ℕ) (count″ : ℕ) → m″ ≡ m′ → count″ ≡ count → Listing ss n s m m″ count″ (k + 1)
   listing-not-as h b q t m″ count″ u v =
-      subst (λ (x : List ℕ). Listing hs n s m x count″ (k + 1)) (sym u)
-      (subst (λ (x : ℕ). Listing hs n s m m′ x (k + 1)) (sym v) (listing-not h b q t))
+      subst (λ (x : List ℕ). Listing ss n s m x count″ (k + 1)) (sym u)
+      (subst (λ (x : ℕ). Listing ss n s m m′ x (k + 1)) (sym v) (listing-not h b q t))
 
   module _ (h : n ≤ k) where
     all : k ≡ n
     all = let c = l .low in omega arith
 
-    pub listed-count : count ≡ length (openersIn hs s n)
-    listed-count = l .told ∙ ap (λ (k : ℕ). length (openersIn hs s k)) all
+    pub listed-count : count ≡ length (openersIn ss s n)
+    listed-count = l .told ∙ ap (λ (k : ℕ). length (openersIn ss s k)) all
 
-    pub listed-put : Put m m′ 0 (openersIn hs s n)
-    listed-put = subst (λ (k : ℕ). Put m m′ 0 (openersIn hs s k)) all (l .so-far)
+    pub listed-put : Put m m′ 0 (openersIn ss s n)
+    listed-put = subst (λ (k : ℕ). Put m m′ 0 (openersIn ss s k)) all (l .so-far)
 
 -- ---- the loop that puts a handle's bytes
 

@@ -1,6 +1,6 @@
 -- The number for the call as a whole, return by return: the tests passed so far say which row is the first that applies.
 -- Assumes nothing.
-use mathlib.Core.Path.{_≡_, refl, sym, ap, ap₂, _∙_}
+use mathlib.Core.Path.{_≡_, refl, sym, ap, ap₂, _∙_, subst}
 use mathlib.Core.Bool.{Bool, true, false, not, _||_, cond, true≢false}
 use mathlib.Core.List.{List}
 use Prim.Native.Nat.{ℕ, _*_, _/_, _%_, _≤_, _<_}
@@ -19,6 +19,7 @@ use Rattle.handle.specs.Handles.{nodeOf, widthOf, noSuchPlace, decoded}
 use Rattle.handle.specs.Widths.{bitsOf}
 use Rattle.register.specs.Registers.{handleBytes, wholeNumber}
 use Rattle.register.specs.Answers.{Clear}
+use Rattle.register.specs.inner.Work.{Standing}
 use Rattle.register.proofs.KeptLaws.{laid-decoded}
 
 abbrev chosen : Bool → Bool → Bool → Bool → Bool → Bool → ℕ
@@ -209,3 +210,18 @@ module _ (b : List ℕ) (beyond : Bool) (size room each : ℕ) where
   pub going : (number : ℕ) → number ≡ wholeNumber b beyond size room each → number ≡ 0
       → Clear b size room each × (beyond ≡ false)
   going number q z = clear-out (sym q ∙ z)
+
+  -- the handle supplied stands
+  pub going-stands : (number : ℕ) → number ≡ wholeNumber b beyond size room each → number ≡ 0 → (h : Handle) → h ≡ decoded b
+      → Standing h
+  going-stands number q z h eh =
+      let c = going number q z .0 in
+      subst Standing (sym eh)
+      (record {
+        wide = ne-eqb (widthOf (decoded b)) 0 (let v = wide b (c .bytes) in λ y. omega arith);
+        here =
+            or-off (leb nodes (nodeOf (decoded b))) (leb clusters (decoded b .local))
+            (lt-leb nodes (nodeOf (decoded b)) (let l = c .node in omega arith))
+            (lt-leb clusters (decoded b .local) (let l = c .local in omega arith));
+        ungapped = ap (λ (w : ℕ). gapped w (decoded b .selector)) (wide b (c .bytes)) ∙ c .ungapped;
+      })

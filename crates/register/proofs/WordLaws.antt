@@ -33,7 +33,7 @@ use Rattle.handle.proofs.OpensLaws.{opens-weakening}
 use Rattle.register.specs.declared.Told.{Told}
 use Rattle.register.specs.Registers.{entries, parentOf, maskOf, wayOf, masksOf, Made, given, failed, steps, ended, made, fails, tells, lowest}
 use Rattle.register.specs.Words.{Kept, EntrysHandle, EntrysHandles, OpensAsSupplied, LowestFails}
-use Rattle.register.proofs.KeptLaws.{Last, last-step, steps-keep, made-steps, handle-of}
+use Rattle.register.proofs.KeptLaws.{Last, last-step, steps-keep, made-steps, handle-of, width-steps}
 
 -- b holds, and each of the masks keeps segment i
 abbrev keptBy : Bool → List ℕ → ℕ → Bool
@@ -75,11 +75,6 @@ module _ (f : Name → List ℕ → ℕ → List ℕ) where
   named-steps h =
       steps-keep f (λ g. nameOf g ≡ nameOf h) h refl (λ k mask q. name-weakened (widthOf k) (f (nameOf k)) k mask ∙ q)
 
-  width-steps : (h : Handle) (ms : List ℕ) (g : Handle) → steps f h ms ≡ given g → g .width ≡ h .width
-  width-steps h =
-      steps-keep f (λ g. g .width ≡ h .width) h refl
-      (λ k mask q. weakened-cases (widthOf k) (f (nameOf k)) k mask (λ g. g .width ≡ h .width) (λ e. q) (λ e. q))
-
   references-steps : (h : Handle) (ms : List ℕ) (g : Handle) → steps f h ms ≡ given g → (i : ℕ) → i < widthOf h
       → references (g .selector) i ≡ keptBy (references (h .selector) i) ms i
   unfolding steps
@@ -94,7 +89,7 @@ module _ (f : Name → List ℕ → ℕ → List ℕ) where
           (s .is ∙ handle-done (widthOf k) (f (nameOf k)) k m (s .done))
           ∙ references-weakened (widthOf k) (f (nameOf k)) k m
           (unspent (widthOf k) k m (number-done (widthOf k) (f (nameOf k)) k m (s .done))) i
-          (subst (λ (w : ℕ). i < w) (sym (ap bitsOf (width-steps h ms k (s .before)))) l)
+          (subst (λ (w : ℕ). i < w) (sym (ap bitsOf (width-steps f h ms k (s .before)))) l)
           ∙ ap (λ (b : Bool). b && has i m) (rest k (s .before))
         where
           k : Handle
@@ -137,7 +132,7 @@ module _ (f : Name → List ℕ → ℕ → List ℕ) where
           k = s .parent
 
           wide : widthOf k ≡ widthOf h
-          wide = ap bitsOf (width-steps h ms k (s .before))
+          wide = ap bitsOf (width-steps f h ms k (s .before))
 
           is : g ≡ weakened (widthOf k) (f (nameOf k)) k m
           is = s .is ∙ handle-done (widthOf k) (f (nameOf k)) k m (s .done)
@@ -166,7 +161,7 @@ module _ (f : Name → List ℕ → ℕ → List ℕ) where
       go (suc m) p =
           record {
             named = named-steps h (masksOf e k (wayOf e k .records)) g told;
-            width = width-steps h (masksOf e k (wayOf e k .records)) g told;
+            width = width-steps f h (masksOf e k (wayOf e k .records)) g told;
             ungapped = last m p .ungapped;
             met = wayOf e k .records;
             way = whole;

@@ -2,7 +2,8 @@
 use aes::Tables;
 use handle::HANDLE_BYTES;
 use handle::Handle;
-use handle::Weakened;
+use handle::SUBSELECTORS;
+use numbers::EMPTY;
 use numbers::FIELD;
 use numbers::GAPPED;
 use numbers::LENGTH;
@@ -11,6 +12,7 @@ use numbers::LIST_LENGTH;
 use numbers::LOOP;
 use numbers::NO_SUCH_PLACE;
 use numbers::SHORT;
+use numbers::SPENT;
 use sizes::CLUSTERS;
 use sizes::NODES;
 ghost use mathlib.Core.Path.{_≡_};
@@ -19,10 +21,11 @@ ghost use lib.ListN.{length, getD};
 ghost use mathlib.Core.Bool.{true, false};
 ghost use lib.Dec.{ltb};
 ghost use Rattle.aes.specs.Tables.{IsTables};
-ghost use Rattle.handle.specs.Conversion.{product, by};
+ghost use Rattle.bits.specs.Sets as sets;
+ghost use Rattle.handle.specs.Conversion.{product};
 ghost use mathlib.Core.List.{[]};
 ghost use lib.ListN.{take};
-ghost use Rattle.handle.specs.Handles.{widthOf, nameOf, weakening, written};
+ghost use Rattle.handle.specs.Handles.{written};
 ghost use Rattle.register.specs.Registers as spec;
 ghost use Rattle.register.specs.inner.Work as work;
 
@@ -59,9 +62,23 @@ struct Climbed {
     met: usize,
 }
 
-// The answer for the entries, and where it is 0 the handles of all; the handle supplied stands at 0.
+// What the weakenings of a handle go by: a bit for each segment that it references, and its first flat subselector.
+struct Seen {
+    set: u16,
+    flat: usize,
+}
+
+// What a mask makes of it: 0 and what is left, or the number of the refusal.
+struct Narrowed {
+    number: u8,
+    seen: Seen,
+}
+
+// The answer for the entries. Where it is 0: what was seen of the handles of all, and these, if they were asked for; what
+// belongs to the handle supplied stands at 0.
 struct Worked {
     told: Told,
+    seen: [Seen; ROOM],
     handles: [Handle; ROOM],
 }
 
@@ -99,6 +116,17 @@ fn whole(handle: &[u8], beyond: bool, size: usize, room: usize, each: usize) -> 
     0
 }
 
+// What is seen of a handle.
+fn seen_of(handle: Handle) -> Seen
+    requires { ⌜ work.Standing handle ⌝ }
+    ensures { λ r. ⌜ work.Sees handle r ⌝ }
+{
+    Seen {
+        set: handle.common(),
+        flat: handle.first_flat(),
+    }
+}
+
 // Up the way from an entry until one whose handle is known, keeping the entries met.
 fn climb(entries: &[u8], known: &[u8], path: &mut [u8], from: usize) -> Climbed
     requires { ⌜ work.Small (now entries) (now known) (now path) from ⌝ }
@@ -127,23 +155,69 @@ fn climb(entries: &[u8], known: &[u8], path: &mut [u8], from: usize) -> Climbed
     Climbed { number: 0, met }
 }
 
-// The handle of an entry from that of the entry it was weakened from.
-fn step(tables: &Tables, converting: bool, parent: Handle, entries: &[u8], entry: usize) -> Weakened
-    requires { ⌜ IsTables (now tables) ⌝ }
-    requires { ⌜ work.Entry (now entries) entry ⌝ }
-    ensures { λ r. ⌜ r ≡ weakening (widthOf parent) (by converting (nameOf parent)) parent (spec.maskOf (now (entries .entry)) entry) ⌝ }
+// What a mask makes of what was seen of a handle: the number of the weakening, and what is seen of the weaker handle.
+fn narrow(seen: Seen, mask: u16) -> Narrowed
+    ensures { λ r. ⌜ work.Narrows seen mask r ⌝ }
 {
-    let mask = entries[(entry - 1) * ENTRY + 1] as u16;
-    parent.weaken_by(tables, mask, converting)
+    let set = seen.set;
+    let flat = seen.flat;
+    let kept = set & mask;
+    if kept == 0 {
+        return Narrowed {
+            number: EMPTY,
+            seen,
+        };
+    }
+    let excluded = set & !mask;
+    if excluded == 0 {
+        return Narrowed { number: 0, seen };
+    }
+    if SUBSELECTORS <= flat {
+        return Narrowed {
+            number: SPENT,
+            seen,
+        };
+    }
+    Narrowed {
+        number: 0,
+        seen: Seen {
+            set: kept,
+            flat: flat + 1,
+        },
+    }
 }
 
-// The handles of all entries, each from that of the entry it was weakened from, made once; or the lowest entry that fails.
-fn work_out(tables: &Tables, converting: bool, handle: Handle, entries: &[u8]) -> Worked
+// The mask of an entry.
+fn mask_of(entries: &[u8], entry: usize) -> u16
+    requires { ⌜ work.Entry (now entries) entry ⌝ }
+    ensures { λ r. ⌜ r ≡ spec.maskOf (now (entries .entry)) entry ⌝ }
+{
+    entries[(entry - 1) * ENTRY + 1] as u16
+}
+
+// The handle of an entry from that of the entry it was weakened from; where no handles are asked for, any.
+fn weaker(tables: &Tables, wanted: bool, parent: Handle, mask: u16) -> Handle
+    requires { ⌜ IsTables (now tables) ⌝ }
+    ensures { λ r. ⌜ work.Weaker wanted parent mask r ⌝ }
+{
+    if wanted {
+        let w = parent.weaken_with(tables, mask);
+        return w.handle;
+    }
+    parent
+}
+
+// Works the entries out, each from the one it was weakened from, once: what is seen of their handles, and the handles where
+// they are wanted; or the lowest entry that fails.
+fn work_out(tables: &Tables, wanted: bool, handle: Handle, entries: &[u8]) -> Worked
     requires { ⌜ IsTables (now tables) ⌝ }
     requires { ⌜ length (now entries) / 2 ≤ 255 ⌝ }
-    ensures { λ r. ⌜ work.Works (by converting) handle (now (entries .entry)) (r .told) (r .handles) ⌝ }
+    requires { ⌜ work.Standing handle ⌝ }
+    ensures { λ r. ⌜ work.Works product handle (now (entries .entry)) wanted (r .told) (r .seen) (r .handles) ⌝ }
 {
     let n = entries.len() / ENTRY;
+    let supplied = seen_of(handle);
+    let mut seen = [supplied; ROOM];
     let mut handles = [handle; ROOM];
     let mut known = [0u8; ROOM];
     known[0] = 1;
@@ -155,6 +229,7 @@ fn work_out(tables: &Tables, converting: bool, handle: Handle, entries: &[u8]) -
         if number != 0 {
             return Worked {
                 told: Told { number, entry: k },
+                seen,
                 handles,
             };
         }
@@ -163,8 +238,9 @@ fn work_out(tables: &Tables, converting: bool, handle: Handle, entries: &[u8]) -
             met -= 1;
             let j = path[met] as usize;
             let p = entries[(j - 1) * ENTRY] as usize;
-            let parent = handles[p];
-            let w = step(tables, converting, parent, entries, j);
+            let mask = mask_of(entries, j);
+            let before = seen[p];
+            let w = narrow(before, mask);
             let refused = w.number;
             if refused != 0 {
                 return Worked {
@@ -172,11 +248,15 @@ fn work_out(tables: &Tables, converting: bool, handle: Handle, entries: &[u8]) -
                         number: refused,
                         entry: k,
                     },
+                    seen,
                     handles,
                 };
             }
-            let weaker = w.handle;
-            handles[j] = weaker;
+            let after = w.seen;
+            seen[j] = after;
+            let parent = handles[p];
+            let made = weaker(tables, wanted, parent, mask);
+            handles[j] = made;
             known[j] = 1;
         }
         k += 1;
@@ -186,22 +266,32 @@ fn work_out(tables: &Tables, converting: bool, handle: Handle, entries: &[u8]) -
             number: 0,
             entry: 0,
         },
+        seen,
         handles,
     }
 }
 
-// The numbers of those of the first n handles that reference a segment, at the start of the buffer; how many.
-fn list(handles: [Handle; ROOM], n: usize, segment: usize, buffer: &mut [u8]) -> usize
+// Whether a set has the bit of a segment.
+fn has(set: u16, segment: usize) -> bool
+    requires { ⌜ segment ≤ 7 ⌝ }
+    ensures { λ r. ⌜ r ≡ sets.has segment set ⌝ }
+{
+    (set & (1 << segment)) != 0
+}
+
+// The numbers of those of the first n entries that have a segment, at the start of the buffer; how many.
+fn list(seen: [Seen; ROOM], n: usize, segment: usize, buffer: &mut [u8]) -> usize
     requires { ⌜ n ≤ 255 ⌝ }
     requires { ⌜ n ≤ length (now buffer) ⌝ }
-    ensures { λ r. ⌜ (r ≡ length (work.openersIn handles segment n))
-        × work.Put (now (buffer .entry)) (now (buffer .exit)) 0 (work.openersIn handles segment n) ⌝ }
+    requires { ⌜ segment ≤ 7 ⌝ }
+    ensures { λ r. ⌜ (r ≡ length (work.openersIn seen segment n))
+        × work.Put (now (buffer .entry)) (now (buffer .exit)) 0 (work.openersIn seen segment n) ⌝ }
 {
     let mut count: usize = 0;
     let mut k: usize = 0;
     while k < n {
-        let g = handles[k + 1];
-        if g.references(segment) {
+        let one = seen[k + 1];
+        if has(one.set, segment) {
             buffer[count] = (k + 1) as u8;
             count += 1;
         }
@@ -291,7 +381,7 @@ pub fn openers(handle: &[u8], segment: usize, entries: &[u8], buffer: &mut [u8])
             count: 0,
         };
     }
-    let all = w.handles;
+    let all = w.seen;
     let count = list(all, entries.len() / ENTRY, segment, buffer);
     Opened {
         number: 0,

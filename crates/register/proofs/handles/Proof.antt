@@ -2,7 +2,8 @@ use borrow.Author.Needs.{needs}
 use Rattle.handle.specs.Conversion.{product, SixteenBytes}
 use Rattle.handle.proofs.PasswordLaws.{length-conversion}
 use Rattle.register.proofs.HandlesLaws.{handles-whole, handles-whole-left, handles-told, handles-failed-left}
-use Rattle.register.proofs.HandlesLaws.{handles-done-left, handles-few, handles-room, works-product}
+use Rattle.register.proofs.HandlesLaws.{handles-done-left, handles-few, handles-room}
+use Rattle.register.proofs.WholeLaws.{going-stands}
 use Rattle.register.proofs.handles.Statement.{statement}
 use Rattle.register.proofs.handles.Tie as tie
 use Rattle.register.proofs.handles.Reads as reads
@@ -19,16 +20,16 @@ returns : tie.Need-returns
 returns c = (search (needs, sixteen, handles-whole), search (needs, sixteen, handles-whole-left))
 
 work-out-requires : tie.Need-work-out-requires
-work-out-requires c κs = search (needs, handles-few)
+work-out-requires c κs = search (needs, handles-few, going-stands)
 
 returns-2 : tie.Need-returns-2
-returns-2 c = (search (needs, sixteen, handles-told, works-product), search (needs, sixteen, handles-failed-left, works-product))
+returns-2 c = (search (needs, sixteen, handles-told), search (needs, sixteen, handles-failed-left))
 
 lay-requires : tie.Need-lay-requires
 lay-requires c κs = search (needs, handles-room)
 
 returns-3 : tie.Need-returns-3
-returns-3 c = (search (needs, sixteen, handles-told, works-product), search (needs, sixteen, handles-done-left, works-product))
+returns-3 c = (search (needs, sixteen, handles-told), search (needs, sixteen, handles-done-left))
 
 pub handles-spec : {M : Type 1} → statement M
 handles-spec =

@@ -3,9 +3,15 @@
 --     Small e known p k  there are at most 255 entries, k is at most 255, the arrays have room, and the handle supplied is known
 --     Climbs ..          a climb from an entry: its way's number; or it is on entries m times, kept in order, and then at one
 --                        whose handle is known
---     Works f h e t hs   t is the lowest entry that fails and its number; where there is none, hs has the handles of all
+--     Standing h         weakening the handle h meets no number but 21 and 17
+--     Sees h s           s is what the weakenings of such a handle of four subselectors go by
+--     Narrows s m r      of every handle of which s is seen, r has the number of its weakening by the mask m and, where that is 0,
+--                        what is seen of the weaker handle
+--     Weaker w p m r     where handles are wanted, r is that of weakening p by the mask m
+--     Works f h e w t ss hs    t is the lowest entry that fails and its number; where there is none, ss has the bits of what the
+--                        handles of all entries reference, and hs has these, if they are wanted
 --     Put before after at text    the text follows the buffer's first at bytes, and all else is as before
---     openersIn hs s n   the numbers of those of the first n handles that reference segment s
+--     openersIn ss s n   the numbers of those of the first n of ss that have segment s
 --     laidIn hs n        the bytes of the first n handles, 23 of each
 -- Assumes nothing.
 use Prim.Native.Nat.{ℕ, zero, suc, _+_, _*_, _≤_, _<_}
@@ -16,9 +22,15 @@ use Rattle.chain.specs.Way.{reached, refusal}
 use Rattle.chain.specs.Means.{IsRecord, OnRecords}
 use Rattle.handle.specs.declared.Handle.{Handle}
 use Rattle.handle.specs.declared.Width.the-variants.{None}
-use Rattle.handle.specs.Selectors.{references}
-use Rattle.handle.specs.Handles.{Name, written}
+use Rattle.handle.specs.Selectors.{references, gapped, common, firstFlat}
+use Rattle.handle.specs.Sizes.{subselectors}
+use Rattle.handle.specs.Conversion.{product}
+use Rattle.bits.specs.Sets.{has}
+use mathlib.Core.Bool.{Bool, true, false}
+use Rattle.handle.specs.Handles.{Name, nameOf, widthOf, noWidth, noSuchPlace, written, weakening}
 use Rattle.register.specs.declared.Told.{Told}
+use Rattle.register.specs.declared.Seen.{Seen}
+use Rattle.register.specs.declared.Narrowed.{Narrowed}
 use Rattle.register.specs.Registers.{entries, parentOf, wayOf, given, made, lowest, oneIf, handleBytes}
 
 pub record Entry (e : List ℕ) (k : ℕ) : Type 0 where
@@ -45,10 +57,36 @@ pub record Climbs (e known : List ℕ) (from number m : ℕ) (path : List ℕ) :
 abbrev pub blank : Handle
 blank = record { node = 0; local = 0; password = []; width = None; selector = [] }
 
-pub record Works (f : Name → List ℕ → ℕ → List ℕ) (h : Handle) (e : List ℕ) (t : Told) (hs : List Handle) : Type 0 where
-  pub size : length hs ≡ 256
+abbrev pub unseen : Seen
+unseen = record { set = 0; flat = 0 }
+
+pub record Standing (h : Handle) : Type 0 where
+  pub wide : noWidth h ≡ false
+  pub here : noSuchPlace h ≡ false
+  pub ungapped : gapped (widthOf h) (h .selector) ≡ false
+
+pub record Sees (h : Handle) (s : Seen) : Type 0 where
+  pub standing : Standing h
+  pub four : length (h .selector) ≡ subselectors
+  pub set : s .set ≡ common (widthOf h) (h .selector)
+  pub flat : s .flat ≡ firstFlat (widthOf h) (h .selector)
+
+pub record Narrows (s : Seen) (mask : ℕ) (r : Narrowed) : Type 0 where
+  pub number : (h : Handle) → Sees h s → (f : List ℕ → ℕ → List ℕ) → weakening (widthOf h) f h mask .number ≡ r .number
+  pub seen : r .number ≡ 0 → (h : Handle) → Sees h s → (f : List ℕ → ℕ → List ℕ)
+      → Sees (weakening (widthOf h) f h mask .handle) (r .seen)
+
+abbrev pub Weaker : Bool → Handle → ℕ → Handle → Type 0
+Weaker wanted parent mask r =
+    wanted ≡ true → r ≡ weakening (widthOf parent) (product (nameOf parent)) parent mask .handle
+
+pub record Works (f : Name → List ℕ → ℕ → List ℕ) (h : Handle) (e : List ℕ) (wanted : Bool) (t : Told) (ss : List Seen)
+    (hs : List Handle) : Type 0 where
   pub told : t ≡ lowest f h e
-  pub all : t .number ≡ 0 → (k : ℕ) → k < entries e + 1 → made f h e k ≡ given (getD hs k blank)
+  pub seen : t .number ≡ 0 → (k : ℕ) → k < entries e + 1 → (i : ℕ) → i < widthOf h
+      → references (made f h e k .handle .selector) i ≡ has i (getD ss k unseen .set)
+  pub size : length hs ≡ 256
+  pub all : wanted ≡ true → t .number ≡ 0 → (k : ℕ) → k < entries e + 1 → made f h e k ≡ given (getD hs k blank)
 
 -- ---- the buffer
 
@@ -62,10 +100,10 @@ pub record PutHandle (before after : List ℕ) (at : ℕ) (bytes : List ℕ) : T
   pub put : Put before after at (take handleBytes bytes)
   pub long : length (take handleBytes bytes) ≡ handleBytes
 
-unfoldable pub openersIn : List Handle → ℕ → ℕ → List ℕ
-openersIn hs segment zero = []
-openersIn hs segment (suc n) =
-    openersIn hs segment n ++ oneIf (references (getD hs (suc n) blank .selector) segment) (suc n)
+unfoldable pub openersIn : List Seen → ℕ → ℕ → List ℕ
+openersIn ss segment zero = []
+openersIn ss segment (suc n) =
+    openersIn ss segment n ++ oneIf (has segment (getD ss (suc n) unseen .set)) (suc n)
 
 unfoldable pub laidIn : List Handle → ℕ → List ℕ
 laidIn hs zero = []

@@ -1,6 +1,6 @@
--- The subselector replaced, and the password converted, or as it is.
+-- The subselector replaced, and the password converted.
 -- Assumes nothing.
-use Rattle.handle.proofs.CodeLaws.{cut-by}
+use Rattle.handle.proofs.CodeLaws.{code-cut}
 use borrow.Author.Needs.{needs}
 use Rattle.handle.proofs.Handle.cut_with.Statement.{statement}
 use Rattle.handle.proofs.Handle.cut_with.Tie as tie
@@ -9,7 +9,7 @@ sub-parameter : tie.Need-sub-parameter
 sub-parameter c = search needs
 
 returns : tie.Need-returns
-returns c = search (needs, cut-by)
+returns c = search (needs, code-cut)
 
 pub cut-with-spec : {M : Type 1} → statement M
 cut-with-spec =
