@@ -118,7 +118,8 @@ typedef size_t gelmuszta_width;
 typedef uint8_t gelmuszta_number;
 enum {
     GELMUSZTA_DONE = 0,
-    GELMUSZTA_LENGTH = 25,         /* length: a handle's is none of 21, 23 and 27; later, its width is not its cluster's */
+    GELMUSZTA_LENGTH = 25,         /* length: a handle's is none of 21, 23 and 27; later, its width is not its cluster's; of a
+                                      register, the handle's is not 23 */
     GELMUSZTA_UNSOUND = 1,         /* unsound: the image is unsound */
     GELMUSZTA_NO_SUCH_PLACE = 2,   /* no such place: node above 3 or local number above 7, in a handle or in the call */
     GELMUSZTA_FIELD = 3,           /* field: no mode; no width; size 0 or above 4,096; segment not below the width */
@@ -139,7 +140,7 @@ enum {
     GELMUSZTA_LIST_LENGTH = 18,    /* list length: a register has a byte too many, or more than 255 entries */
     GELMUSZTA_SHORT = 15,          /* short: buffer or data are shorter than the segment, or a buffer than all entries need */
     GELMUSZTA_NO_ROOM = 16,        /* no room: the segment fits nowhere in the node */
-    GELMUSZTA_LINK = 19,           /* link: the way from an entry meets a number that no entry has */
+    GELMUSZTA_LINK = 19,           /* link: the way from an entry meets a number above the last entry's */
     GELMUSZTA_LOOP = 20,           /* loop: the way from an entry comes to an entry again */
     GELMUSZTA_EMPTY = 21,          /* empty: no segment is both referenced by the handle and kept by the mask */
     GELMUSZTA_SPENT = 17           /* spent: something would be excluded and no subselector is flat */
@@ -270,15 +271,15 @@ void gelmuszta_convert(const gelmuszta_password *password, uint16_t parameter, g
  * below, and where the call is done. Else it becomes the lowest entry that has no handle, and the number is that entry's: 19
  * or 20 by its way, or 21 or 17 by the first weakening on the way down from the handle supplied that is refused. */
 
-/* Gives the handles of all entries, in order, one after the other: GELMUSZTA_HANDLE_BYTES(8) bytes of the buffer each. The
- * bytes behind them stay. Numbers: 25 2 4 18 15 19 20 21 17. */
+/* Gives the handles of all entries, in order, one after the other: GELMUSZTA_HANDLE_BYTES(8) bytes of the buffer each,
+ * which gelmuszta_handle_of makes a handle of. The bytes behind them stay. Numbers: 25 2 4 18 15 19 20 21 17. */
 GELMUSZTA_USED gelmuszta_number gelmuszta_register(const gelmuszta_handle *handle, const uint8_t *entries,
                                                    size_t entries_length, uint8_t *handles, size_t handles_length,
                                                    size_t *entry);
 
 /* Gives the numbers of the entries whose handle references a segment, in rising order, a byte each, and how many they are.
- * The buffer needs a byte for each entry of the register, whatever is given; the bytes behind stay. No password is
- * converted, so that of the handle does not matter. Numbers: 25 2 3 4 18 15 19 20 21 17. */
+ * The bytes behind these stay; yet the buffer has to have a byte for each entry of the register. No password is converted,
+ * so that of the handle does not matter. Numbers: 25 2 3 4 18 15 19 20 21 17. */
 GELMUSZTA_USED gelmuszta_number gelmuszta_openers(const gelmuszta_handle *handle, size_t segment, const uint8_t *entries,
                                                   size_t entries_length, uint8_t *openers, size_t openers_length,
                                                   size_t *count, size_t *entry);

@@ -22,7 +22,7 @@ ghost use Rattle.handle.specs.Conversion.{conversion, product};
 const ROOM: usize = 16;
 
 // How many subselectors a selector has.
-pub const SUBSELECTORS: usize = 4;
+const SUBSELECTORS: usize = 4;
 
 // The places of the parameter's two bytes in the block that a conversion encrypts: the last two.
 const HIGH_AT: usize = 14;

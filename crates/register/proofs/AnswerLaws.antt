@@ -25,7 +25,7 @@ use Rattle.register.specs.Registers.{entries, wayOf, masksOf, Made, give
 use Rattle.register.specs.Registers.{openedAs, openedWith, handlesTold, bytesUpTo, handlesLeft, opens, openersUpTo}
 use Rattle.register.specs.Registers.{openersEntry, openersTold, openersLeft}
 use Rattle.register.specs.Words.{LowestFails}
-use Rattle.register.specs.Answers.{Clear, Listed, NoneFails, Answers, ReadBack, HandlesDone, HandlesAnswer, HandlesInWords}
+use Rattle.register.specs.Answers.{Clear, Listed, NoneFails, Answers, ReadBack, HandlesDone, HandlesAnswer, HandlesInWords, HandlesBuffer}
 use Rattle.register.specs.Answers.{OpenersDone, OpenersAnswer, OpenersInWords}
 use Rattle.register.proofs.WholeLaws.{clear-in, going, wide}
 use Rattle.register.proofs.OpenerLaws.{told-refused, told-goes, leaves-all, leaves-rest}
@@ -167,13 +167,10 @@ module _ (f : Name → List ℕ → ℕ → List ℕ) where
     done-in (c, none) =
         ap (λ (t : Told). t .number) (told-goes n (lowest f (decoded b) e) (inside c)) ∙ none-told (decoded b) e none
 
-    answers : Answers f b e clear answer
+    answers : Answers f b e clear n answer
     answers =
         record {
-          whole = λ c. (
-            ap (λ (t : Told). t .entry) (refused c),
-            λ z. some c (sym (ap (λ (t : Told). t .number) (refused c)) ∙ z),
-          );
+          whole = refused;
           entry = λ c.
               subst (LowestFails f (decoded b) e) (sym (told-goes n (lowest f (decoded b) e) (inside c)))
               (lowest-told f (decoded b) e);
@@ -205,8 +202,18 @@ module _ (f : Name → List ℕ → ℕ → List ℕ) where
             entry = λ z. absurd (z refl);
             its = λ z. absurd (z refl);
             below = λ k a b. absurd (omega arith);
+            none = λ z. refl;
           }
       go (suc n) q = subst (λ (n : ℕ). LowestFails f h e (told n (t .entry))) q l
+
+  whole-opened : (t : Told) (n c : ℕ) → n ≢ 0 → t ≡ told n 0
+      → told (openedAs (t .number) (t .entry) c .number) (openedAs (t .number) (t .entry) c .entry) ≡ told n 0
+  whole-opened t n c z q =
+      ap (λ (t : Told). told (openedAs (t .number) (t .entry) c .number) (openedAs (t .number) (t .entry) c .entry)) q ∙ go n z
+    where
+      go : (n : ℕ) → n ≢ 0 → told (openedAs n 0 c .number) (openedAs n 0 c .entry) ≡ told n 0
+      go zero z = absurd (z refl)
+      go (suc n) z = refl
 
   -- ---- the first question
 
@@ -273,7 +280,7 @@ module _ (f : Name → List ℕ → ℕ → List ℕ) where
   made-given : (h : Handle) (e : List ℕ) (k : ℕ) → made f h e k .number ≡ 0 → made f h e k ≡ given (made f h e k .handle)
   made-given h e k z j = record { number = z j; handle = made f h e k .handle }
 
-  pub read-back : SixteenBytes f → ReadBack f
+  pub read-back : ReadBack f
   read-back sixteen b e k g o q =
       decode-encode g
       (steps-keep f Holdable (decoded b) (holdable-decoded b (o .below) (let w = wide b (o .long) in omega arith))
@@ -305,8 +312,8 @@ module _ (f : Name → List ℕ → ℕ → List ℕ) where
     unfolding handlesLeft
     stays z = leaves-all (handlesTold f b e (length m) .number) all m z
 
-    pub handles-in-words : HandlesInWords f b e m
-    handles-in-words =
+    in-words : HandlesInWords f b e m
+    in-words =
         record {
           refused = stays;
           long = long (ℕ-discrete (handlesTold f b e (length m) .number) 0);
@@ -323,6 +330,9 @@ module _ (f : Name → List ℕ → ℕ → List ℕ) where
         long : Dec (handlesTold f b e (length m) .number ≡ 0) → length (handlesLeft f b e m) ≡ length m
         long (yes z) = ap length (is z) ∙ written-long all m (fits z)
         long (no z) = ap length (stays z)
+
+  pub handles-in-words : HandlesBuffer f
+  handles-in-words sixteen b e m = in-words sixteen b e m
 
   -- ---- the second question
 
@@ -367,22 +377,11 @@ module _ (f : Name → List ℕ → ℕ → List ℕ) where
     openers-answer =
         let a = answers b e here (wholeNumber b (ltb 7 s) (length e) room 1) here-out here-in in
         record {
-          whole = λ c. go c (a .whole c);
+          whole = λ c. whole-opened (openersEntry f b s e room) (wholeNumber b (ltb 7 s) (length e) room 1)
+              (length (openersUpTo f (decoded b) e s (entries e))) (λ z. c (here-out z)) (a .whole c);
           entry = λ c.
               lowest-opened (decoded b) e (openersEntry f b s e room) (length (openersUpTo f (decoded b) e s (entries e))) (a .entry c);
         }
-      where
-        go : ¬ here → (openersEntry f b s e room .entry ≡ 0) × (openersEntry f b s e room .number ≢ 0)
-            → (openersTold f b s e room .entry ≡ 0) × (openersTold f b s e room .number ≢ 0)
-        go c (k, n) = (
-          entry (openersEntry f b s e room .number),
-          λ z. n (sym (opened-number (openersEntry f b s e room) (length (openersUpTo f (decoded b) e s (entries e)))) ∙ z),
-        )
-          where
-            entry : (n : ℕ)
-                → openedAs n (openersEntry f b s e room .entry) (length (openersUpTo f (decoded b) e s (entries e))) .entry ≡ 0
-            entry zero = refl
-            entry (suc n) = k
 
   module _ (b e : List ℕ) (s : ℕ) (m : List ℕ) where
     abbrev those : List ℕ

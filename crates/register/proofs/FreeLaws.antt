@@ -19,7 +19,7 @@ use lib.Dec.{ltb}
 use lib.ListN.{length}
 use Rattle.register.specs.declared.Opened.{Opened}
 use Rattle.register.specs.Registers.{wholeNumber, toldFirst, leaves, openedWith, openersEntry, openersTold, openersLeft}
-use Rattle.register.specs.Words.{SameButPassword, FreeOfPasswords}
+use Rattle.register.specs.Words.{SameButPassword, FreeOfPasswords, Free}
 
 -- a handle without its password
 abbrev bare : Handle → Handle
@@ -28,9 +28,6 @@ bare h = renewed h [] (h .selector)
 bare-same : (h h′ : Handle) → SameButPassword h h′ → bare h ≡ bare h′
 bare-same h h′ s j =
     record { node = s .node j; local = s .local j; password = []; width = s .width j; selector = s .selector j }
-
-pub same-but-password : (h : Handle) → SameButPassword h h
-same-but-password h = record { node = refl; local = refl; width = refl; selector = refl }
 
 record Alike (a b : Made) : Type 0 where
   number : a .number ≡ b .number
@@ -158,5 +155,8 @@ module _ (f g : Name → List ℕ → ℕ → List ℕ) where
           ap₂ (λ (x y : List ℕ). x ++ y) (openers s n)
           (ap (λ (ss : List ℕ). oneIf (references ss s) (suc n)) (selector (suc n)))
 
-      pub free-of-passwords : FreeOfPasswords f g h h′ e
-      free-of-passwords = record { number = number; selector = selector; told = told; openers = openers }
+      all : FreeOfPasswords f g h h′ e
+      all = record { number = number; selector = selector; told = told; openers = openers }
+
+  pub free-of-passwords : Free f g
+  free-of-passwords h h′ e s = all h h′ s e

@@ -12,7 +12,7 @@ use Rattle.handle.specs.Widths.{packed, unpacked}
 use Rattle.handle.specs.Handles.{Name, encoded, decoded, weakenNumber, weakened, weakening}
 use Rattle.register.specs.Registers.{steps, made, lowest, wholeNumber, handlesTold, bytesUpTo, handlesLeft, openersUpTo}
 use Rattle.register.specs.Registers.{openersEntry, openersTold, openersLeft}
-use Rattle.register.specs.cases.Literals.{FiveMade, FiveWritten, Answered, Given, Wholes}
+use Rattle.register.specs.cases.Literals.{FiveMade, FiveWritten, Answered, Given, Placed, Wholes}
 
 module _ (f : Name → List ℕ → ℕ → List ℕ) where
   pub five-made : FiveMade f
@@ -34,3 +34,6 @@ five-written = refl
 pub wholes : Wholes
 unfolding word wordFrom tabulate unpacked decoded wholeNumber
 wholes = refl
+
+pub placed : Placed
+placed = refl

@@ -60,6 +60,15 @@ module _ (w v : ℕ) (low : flat w v ≡ false) where
           ∙ first-past w s (set ss (firstFlat w ss) v) e
           ∙ ap suc (rest (let q = first-past w s ss e in omega arith) ∙ sym (first-past w s ss e))
 
+-- it is no further than the last one
+first-low : (w : ℕ) (ss : List ℕ) → firstFlat w ss ≤ length ss
+first-low w [] = omega arith
+first-low w (s ∷ ss) = go (flat w s) (first-low w ss)
+  where
+    go : (b : Bool) → firstFlat w ss ≤ length ss → elim b [ true ↦ zero | false ↦ suc (firstFlat w ss) ] ≤ suc (length ss)
+    go true l = omega arith
+    go false l = omega arith
+
 -- ---- a handle that stands, and what a weakening keeps of it
 
 own-none : (h : Handle) → Standing h → 0 ≡ firstOf (ownRows (widthOf h) h)
@@ -196,6 +205,9 @@ module _ (s : Seen) (mask : ℕ) where
               ∙ ap (λ (g : Handle). firstFlat (widthOf h) (g .selector)) (handle-done (widthOf h) f h mask (done h v f))
 
 -- ---- what is seen of a handle, and the handle itself where it is wanted
+
+pub first-fits : (h : Handle) (k : ℕ) → k ≡ firstFlat (widthOf h) (h .selector) → length (h .selector) ≡ subselectors → Fits w16 k
+first-fits h k q l = let a = first-low (widthOf h) (h .selector) in record { fits = omega arith }
 
 pub sees-of : (h : Handle) → Standing h → length (h .selector) ≡ subselectors → (x k : ℕ)
     → x ≡ common (widthOf h) (h .selector) → k ≡ firstFlat (widthOf h) (h .selector)

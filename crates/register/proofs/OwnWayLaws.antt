@@ -36,12 +36,12 @@ masks-same e e′ (suc m) k h =
     first = subst (SameEntry e e′) (reached-none (parentOf e) k) (h 0 (omega arith))
 
 module _ (e e′ : List ℕ) (k : ℕ) (n : entries e ≡ entries e′)
-    (same : (i : ℕ) → IsRecord (entries e) (reached (parentOf e) k i) → SameEntry e e′ (reached (parentOf e) k i)) where
+    (same : (i : ℕ) → OnRecords (entries e) (parentOf e) k (suc i) → SameEntry e e′ (reached (parentOf e) k i)) where
   reached-same : (m : ℕ) → OnRecords (entries e) (parentOf e) k m → reached (parentOf e) k m ≡ reached (parentOf e′) k m
   unfolding reached
   reached-same zero on = refl
   reached-same (suc m) on =
-      same m (on m (omega arith)) .0 ∙ ap (parentOf e′) (reached-same m (λ i l. on i (omega arith)))
+      same m on .0 ∙ ap (parentOf e′) (reached-same m (λ i l. on i (omega arith)))
 
   on-same : (m : ℕ) → OnRecords (entries e) (parentOf e) k m → OnRecords (entries e′) (parentOf e′) k m
   on-same m on i l =
@@ -90,7 +90,7 @@ own-way-alone f h e e′ k n same =
     own-way e e′ k n same (made f h e k ≡ made f h e′ k)
     (λ m on q q′.
     by-way f h e k (done m) q
-    ∙ ap (steps f h) (masks-same e e′ m k (λ i l. same i (on i l)))
+    ∙ ap (steps f h) (masks-same e e′ m k (λ i l. same i (λ j b. on j (omega arith))))
     ∙ sym (by-way f h e′ k (done m) q′))
     (λ x q q′. by-way f h e k (refusal x) q ∙ refused x ∙ sym (by-way f h e′ k (refusal x) q′))
   where

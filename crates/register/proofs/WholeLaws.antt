@@ -1,6 +1,7 @@
 -- The number for the call as a whole, return by return: the tests passed so far say which row is the first that applies.
 -- Assumes nothing.
 use mathlib.Core.Path.{_≡_, refl, sym, ap, ap₂, _∙_, subst}
+use mathlib.Core.Logic.{_≢_, _⊎_, inl, inr, _↔_}
 use mathlib.Core.Bool.{Bool, true, false, not, _||_, cond, true≢false}
 use mathlib.Core.List.{List}
 use Prim.Native.Nat.{ℕ, _*_, _/_, _%_, _≤_, _<_}
@@ -10,7 +11,8 @@ use mir.Val.{Fits}
 use mir.Syntax.{w64}
 use lib.Dec.{eqb, leb, ltb}
 use lib.ListN.{length}
-use borrow.Author.Tests.{eq-eqb, ne-eqb, le-leb, lt-leb, lt-ltb, le-ltb, eqb-true, leb-false, not-false, ltb-false}
+use borrow.Author.Tests.{eq-eqb, ne-eqb, le-leb, lt-leb, lt-ltb, le-ltb, eqb-true, eqb-false, leb-true, leb-false, not-true, not-false}
+use borrow.Author.Tests.{ltb-true, ltb-false}
 use Rattle.numbers.specs.Numbers.{wrongLengthNumber, placeNumber, fieldNumber, gappedNumber, shortNumber, lengthNumber}
 use Rattle.sizes.specs.Sizes.{nodes, clusters}
 use Rattle.handle.specs.declared.Handle.{Handle}
@@ -18,7 +20,7 @@ use Rattle.handle.specs.Selectors.{gapped}
 use Rattle.handle.specs.Handles.{nodeOf, widthOf, noSuchPlace, decoded}
 use Rattle.handle.specs.Widths.{bitsOf}
 use Rattle.register.specs.Registers.{handleBytes, wholeNumber}
-use Rattle.register.specs.Answers.{Clear}
+use Rattle.register.specs.Answers.{NoPlace, Clear, WholeInWords}
 use Rattle.register.specs.inner.Work.{Standing}
 use Rattle.register.proofs.KeptLaws.{laid-decoded}
 
@@ -225,3 +227,153 @@ module _ (b : List ℕ) (beyond : Bool) (size room each : ℕ) where
             (lt-leb clusters (decoded b .local) (let l = c .local in omega arith));
         ungapped = ap (λ (w : ℕ). gapped w (decoded b .selector)) (wide b (c .bytes)) ∙ c .ungapped;
       })
+
+-- ---- the numbers for the whole in words
+
+after-25 : (b c d e g : Bool) → chosen false b c d e g ≡ 25 → ⊥
+after-25 true c d e g q = omega arith
+after-25 false true d e g q = omega arith
+after-25 false false true e g q = omega arith
+after-25 false false false true g q = omega arith
+after-25 false false false false true q = omega arith
+after-25 false false false false false q = omega arith
+
+after-2 : (c d e g : Bool) → chosen false false c d e g ≡ 2 → ⊥
+after-2 true d e g q = omega arith
+after-2 false true e g q = omega arith
+after-2 false false true g q = omega arith
+after-2 false false false true q = omega arith
+after-2 false false false false q = omega arith
+
+after-3 : (d e g : Bool) → chosen false false false d e g ≡ 3 → ⊥
+after-3 true e g q = omega arith
+after-3 false true g q = omega arith
+after-3 false false true q = omega arith
+after-3 false false false q = omega arith
+
+after-4 : (e g : Bool) → chosen false false false false e g ≡ 4 → ⊥
+after-4 true g q = omega arith
+after-4 false true q = omega arith
+after-4 false false q = omega arith
+
+after-18 : (g : Bool) → chosen false false false false false g ≡ 18 → ⊥
+after-18 true q = omega arith
+after-18 false q = omega arith
+
+-- a number that a test gives, and nothing behind the test, is told just where what the test tells holds
+by-test : (w n : ℕ) (P : Type 0) (v : Bool → ℕ) (x : Bool) → w ≡ v x → v true ≡ n → (v false ≡ n → ⊥)
+    → (x ≡ true → P) → (P → x ≡ true) → (w ≡ n) ↔ P
+by-test w n P v x q yes-n no-n out inside = (there x refl, λ p. q ∙ ap v (inside p) ∙ yes-n)
+  where
+    there : (y : Bool) → x ≡ y → w ≡ n → P
+    there true e z = out e
+    there false e z = absurd (no-n (sym (q ∙ ap v e) ∙ z))
+
+or-in : (a b : Bool) → (a ≡ true) ⊎ (b ≡ true) → (a || b) ≡ true
+or-in true b s = refl
+or-in false b (inl p) = absurd (true≢false (sym p))
+or-in false b (inr p) = p
+
+or-out : (a b : Bool) → (a || b) ≡ true → (a ≡ true) ⊎ (b ≡ true)
+or-out true b q = inl refl
+or-out false b q = inr q
+
+not-in : (a : Bool) → a ≡ false → not a ≡ true
+not-in a q = ap not q
+
+module _ (b : List ℕ) (t : Bool) (size room each : ℕ) where
+  abbrev w : ℕ
+  w = wholeNumber b t size room each
+
+  abbrev p : Bool
+  p = place b t size room each
+
+  abbrev g : Bool
+  g = gap b t size room each
+
+  abbrev o : Bool
+  o = odd b t size room each
+
+  abbrev s : Bool
+  s = short b t size room each
+
+  place-out : p ≡ true → NoPlace b
+  place-out q = go (or-out (leb nodes (nodeOf (decoded b))) (leb clusters (decoded b .local)) q)
+    where
+      go : (leb nodes (nodeOf (decoded b)) ≡ true) ⊎ (leb clusters (decoded b .local) ≡ true) → NoPlace b
+      go (inl r) = inl (let l = leb-true nodes (nodeOf (decoded b)) r in omega arith)
+      go (inr r) = inr (let l = leb-true clusters (decoded b .local) r in omega arith)
+
+  place-in : NoPlace b → p ≡ true
+  place-in n = or-in (leb nodes (nodeOf (decoded b))) (leb clusters (decoded b .local)) (go n)
+    where
+      go : NoPlace b → (leb nodes (nodeOf (decoded b)) ≡ true) ⊎ (leb clusters (decoded b .local) ≡ true)
+      go (inl l) = inl (le-leb nodes (nodeOf (decoded b)) (omega arith))
+      go (inr l) = inr (le-leb clusters (decoded b .local) (omega arith))
+
+  here-off : ¬ NoPlace b → p ≡ false
+  here-off n = go p refl
+    where
+      go : (x : Bool) → p ≡ x → p ≡ false
+      go true q = absurd (n (place-out q))
+      go false q = q
+
+  odd-out : o ≡ true → (size % 2 ≢ 0) ⊎ (255 < size / 2)
+  odd-out q = go (or-out (not (eqb (size % 2) 0)) (ltb 255 (size / 2)) q)
+    where
+      go : (not (eqb (size % 2) 0) ≡ true) ⊎ (ltb 255 (size / 2) ≡ true) → (size % 2 ≢ 0) ⊎ (255 < size / 2)
+      go (inl r) = inl (eqb-false (size % 2) 0 (not-true (eqb (size % 2) 0) r))
+      go (inr r) = inr (ltb-true 255 (size / 2) r)
+
+  odd-in : (size % 2 ≢ 0) ⊎ (255 < size / 2) → o ≡ true
+  odd-in n = or-in (not (eqb (size % 2) 0)) (ltb 255 (size / 2)) (go n)
+    where
+      go : (size % 2 ≢ 0) ⊎ (255 < size / 2) → (not (eqb (size % 2) 0) ≡ true) ⊎ (ltb 255 (size / 2) ≡ true)
+      go (inl z) = inl (not-in (eqb (size % 2) 0) (ne-eqb (size % 2) 0 z))
+      go (inr l) = inr (lt-ltb 255 (size / 2) l)
+
+  -- the number once the tests before are off
+  at-place : length b ≡ 23 → w ≡ chosen false p t g o s
+  at-place l = whole-is b t size room each false (ap not (eq-eqb (length b) 23 l))
+
+  at-segment : length b ≡ 23 → ¬ NoPlace b → w ≡ chosen false false t g o s
+  at-segment l n = at-place l ∙ ap (λ (x : Bool). chosen false x t g o s) (here-off n)
+
+  at-gap : length b ≡ 23 → ¬ NoPlace b → t ≡ false → w ≡ chosen false false false g o s
+  at-gap l n q = at-segment l n ∙ ap (λ (x : Bool). chosen false false x g o s) q
+
+  wide-gap : length b ≡ 23 → g ≡ gapped 8 (decoded b .selector)
+  wide-gap l = ap (λ (v : ℕ). gapped v (decoded b .selector)) (wide b l)
+
+  at-entries : length b ≡ 23 → ¬ NoPlace b → t ≡ false → gapped 8 (decoded b .selector) ≡ false
+      → w ≡ chosen false false false false o s
+  at-entries l n q u = at-gap l n q ∙ ap (λ (x : Bool). chosen false false false x o s) (wide-gap l ∙ u)
+
+  at-buffer : length b ≡ 23 → ¬ NoPlace b → t ≡ false → gapped 8 (decoded b .selector) ≡ false → size % 2 ≡ 0 → size / 2 ≤ 255
+      → w ≡ chosen false false false false false s
+  at-buffer l n q u even few =
+      at-entries l n q u
+      ∙ ap (λ (x : Bool). chosen false false false false x s)
+      (or-off (not (eqb (size % 2) 0)) (ltb 255 (size / 2)) (ap not (eq-eqb (size % 2) 0 even)) (le-ltb 255 (size / 2) few))
+
+  pub whole-in-words : WholeInWords b t size room each
+  whole-in-words =
+      record {
+        bytes =
+            by-test w 25 (length b ≢ 23) (λ x. chosen x p t g o s) (not (eqb (length b) 23))
+            (whole-is b t size room each (not (eqb (length b) 23)) refl) refl (after-25 p t g o s)
+            (λ q. eqb-false (length b) 23 (not-true (eqb (length b) 23) q)) (λ z. not-in (eqb (length b) 23) (ne-eqb (length b) 23 z));
+        place = λ l.
+            by-test w 2 (NoPlace b) (λ x. chosen false x t g o s) p (at-place l) refl (after-2 t g o s) place-out place-in;
+        segment = λ l n.
+            by-test w 3 (t ≡ true) (λ x. chosen false false x g o s) t (at-segment l n) refl (after-3 g o s) (λ q. q) (λ q. q);
+        gap = λ l n q.
+            by-test w 4 (gapped 8 (decoded b .selector) ≡ true) (λ x. chosen false false false x o s) g (at-gap l n q) refl
+            (after-4 o s) (λ u. sym (wide-gap l) ∙ u) (λ u. wide-gap l ∙ u);
+        entries = λ l n q u.
+            by-test w 18 ((size % 2 ≢ 0) ⊎ (255 < size / 2)) (λ x. chosen false false false false x s) o (at-entries l n q u) refl
+            (after-18 s) odd-out odd-in;
+        buffer = λ l n q u even few.
+            by-test w 15 (room < size / 2 * each) (λ x. chosen false false false false false x) s (at-buffer l n q u even few) refl
+            (λ z. omega arith) (ltb-true room (size / 2 * each)) (lt-ltb room (size / 2 * each));
+      }

@@ -255,6 +255,7 @@ module _ (f : Name → List ℕ → ℕ → List ℕ) where
           entry = λ z. absurd (z refl);
           its = λ z. absurd (z refl);
           below = λ k a b. absurd (omega arith);
+          none = λ z. refl;
         }
       where
         done : _≡_ {A = ℕ} 0 0 → (k : ℕ) → IsRecord (entries e) k → made f h e k .number ≡ 0
@@ -266,6 +267,7 @@ module _ (f : Name → List ℕ → ℕ → List ℕ) where
           entry = λ z. (omega arith, found-below i q);
           its = λ z. refl;
           below = below;
+          none = λ z. absurd (bad-out i (least-holds (fails f h e) (entries e) i q) z);
         }
       where
         below : (k : ℕ) → 1 ≤ k → k < suc i → made f h e k .number ≡ 0

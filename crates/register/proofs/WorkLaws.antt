@@ -221,7 +221,7 @@ module _ (f : Name → List ℕ → ℕ → List ℕ) where
       pub descending-times : Fits w64 (getD path (met - 1) 0 * 28)
       descending-times = let b = descending-byte in record { fits = omega arith }
 
-      pub descending-sight : Fits w64 (getD path (met - 1) 0 * 16)
+      pub descending-sight : Fits w64 (getD path (met - 1) 0 * 4)
       descending-sight = let b = descending-byte in record { fits = omega arith }
 
       pub descending-place : Fits w64 ((getD path (met - 1) 0 - 1) * 2)
@@ -238,7 +238,7 @@ module _ (f : Name → List ℕ → ℕ → List ℕ) where
       pub parent-times : Fits w64 (getD e ((getD path (met - 1) 0 - 1) * 2) 0 * 28)
       parent-times = let b = parent-byte in record { fits = omega arith }
 
-      pub parent-sight : Fits w64 (getD e ((getD path (met - 1) 0 - 1) * 2) 0 * 16)
+      pub parent-sight : Fits w64 (getD e ((getD path (met - 1) 0 - 1) * 2) 0 * 4)
       parent-sight = let b = parent-byte in record { fits = omega arith }
 
       pub parent-fits : Fits w64 (getD e ((getD path (met - 1) 0 - 1) * 2) 0)

@@ -3,28 +3,29 @@
 --                            parent: an entry comes from what became of the one that it was weakened from, by its own mask; so
 --                            steps go from the handle supplied downwards, and a failure is handed on
 --                            link, loop: 19 just where the way meets a missing entry, 20 just where it comes round
---     StepNumbers            where weakening the handle supplied meets no number but 21 and 17, no entry does but 19 and 20
+--     StepNumbers            where the handle supplied has a width, names a place that there is and is ungapped, an entry's number is
+--                            0, 19, 20, 21 or 17
 --     Kept e k m i           each mask of the m entries on the way from entry k keeps segment i
 --     EntrysHandle           what the handle g of entry k is: of the name and the width of the handle supplied; ungapped; its
 --                            way ends at zero; it references exactly the segments that the handle supplied references and
 --                            every mask on the way keeps, and at least one
 --     OpensAsSupplied        where the handle supplied opens a cluster from a primary password, so does every entry's handle
 --     LowestFails            t tells the lowest entry that fails: it does with the number told, and none below it; and 0 is
---                            told only where none fails
+--                            told, with entry 0, only where none fails
 --     SameButPassword h h′   the two handles differ in the password alone
---     FreeOfPasswords        which entries fail, with what number, and which open a segment depends neither on the conversion
+--     FreeOfPasswords, Free  which entries fail, with what number, and which open a segment depends neither on the conversion
 --                            nor on the password of the handle supplied
 --     OwnWay                 what becomes of an entry is the same in two registers of as many entries that agree on the entries on
---                            its way: no other entry plays a part
+--                            its way, as long as it is on entries: no other entry plays a part
 -- Assumes nothing.
-use Prim.Native.Nat.{ℕ, _≤_, _<_}
+use Prim.Native.Nat.{ℕ, suc, _≤_, _<_}
 use mathlib.Core.Path.{_≡_}
 use mathlib.Core.Logic.{_≢_, _⊎_, _↔_}
 use mathlib.Core.Bool.{Bool, true, false}
 use mathlib.Core.List.{List}
 use Rattle.bits.specs.Sets.{has}
 use Rattle.chain.specs.Way.{reached}
-use Rattle.chain.specs.Means.{IsRecord, Whole, Leaves, Again}
+use Rattle.chain.specs.Means.{IsRecord, OnRecords, Whole, Leaves, Again}
 use Rattle.handle.specs.declared.Handle.{Handle}
 use Rattle.handle.specs.Selectors.{references, gapped}
 use Rattle.handle.specs.Handles.{Name, nameOf, widthOf, noWidth, noSuchPlace}
@@ -83,11 +84,12 @@ module _ (f : Name → List ℕ → ℕ → List ℕ) where
     pub entry : t .number ≢ 0 → IsRecord (entries e) (t .entry)
     pub its : t .number ≢ 0 → made f h e (t .entry) .number ≡ t .number
     pub below : (k : ℕ) → 1 ≤ k → k < t .entry → made f h e k .number ≡ 0
+    pub none : t .number ≡ 0 → t .entry ≡ 0
 
   abbrev pub OwnWay : Type 0
   OwnWay =
       (h : Handle) (e e′ : List ℕ) (k : ℕ) → entries e ≡ entries e′
-      → ((i : ℕ) → IsRecord (entries e) (reached (parentOf e) k i)
+      → ((i : ℕ) → OnRecords (entries e) (parentOf e) k (suc i)
       → (parentOf e (reached (parentOf e) k i) ≡ parentOf e′ (reached (parentOf e) k i))
       × (maskOf e (reached (parentOf e) k i) ≡ maskOf e′ (reached (parentOf e) k i)))
       → made f h e k ≡ made f h e′ k
@@ -97,3 +99,6 @@ pub record FreeOfPasswords (f g : Name → List ℕ → ℕ → List ℕ) (h h�
   pub selector : (k : ℕ) → made f h e k .handle .selector ≡ made g h′ e k .handle .selector
   pub told : lowest f h e ≡ lowest g h′ e
   pub openers : (segment n : ℕ) → openersUpTo f h e segment n ≡ openersUpTo g h′ e segment n
+
+abbrev pub Free : (Name → List ℕ → ℕ → List ℕ) → (Name → List ℕ → ℕ → List ℕ) → Type 0
+Free f g = (h h′ : Handle) (e : List ℕ) → SameButPassword h h′ → FreeOfPasswords f g h h′ e

@@ -2,7 +2,6 @@
 use aes::Tables;
 use handle::HANDLE_BYTES;
 use handle::Handle;
-use handle::SUBSELECTORS;
 use numbers::EMPTY;
 use numbers::FIELD;
 use numbers::GAPPED;
@@ -40,6 +39,9 @@ const ROOM: usize = 256;
 // Bytes of a handle of width 8.
 const HANDLE: usize = 23;
 
+// The subselectors of a handle: so many cuts it can take.
+const CUTS: u16 = 4;
+
 // The last segment of width 8.
 const LAST: usize = 7;
 
@@ -65,7 +67,7 @@ struct Climbed {
 // What the weakenings of a handle go by: a bit for each segment that it references, and its first flat subselector.
 struct Seen {
     set: u16,
-    flat: usize,
+    flat: u16,
 }
 
 // What a mask makes of it: 0 and what is left, or the number of the refusal.
@@ -121,9 +123,10 @@ fn seen_of(handle: Handle) -> Seen
     requires { ⌜ work.Standing handle ⌝ }
     ensures { λ r. ⌜ work.Sees handle r ⌝ }
 {
+    let flat = handle.first_flat();
     Seen {
         set: handle.common(),
-        flat: handle.first_flat(),
+        flat: flat as u16,
     }
 }
 
@@ -172,7 +175,7 @@ fn narrow(seen: Seen, mask: u16) -> Narrowed
     if excluded == 0 {
         return Narrowed { number: 0, seen };
     }
-    if SUBSELECTORS <= flat {
+    if CUTS <= flat {
         return Narrowed {
             number: SPENT,
             seen,

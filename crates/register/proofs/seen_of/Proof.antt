@@ -1,6 +1,6 @@
 -- The bits in common, and the first flat subselector.
 -- Assumes nothing.
-use Rattle.register.proofs.NarrowLaws.{sees-of}
+use Rattle.register.proofs.NarrowLaws.{first-fits, sees-of}
 use borrow.Author.Needs.{needs}
 use Rattle.register.proofs.seen_of.Statement.{statement}
 use Rattle.register.proofs.seen_of.Tie as tie
@@ -9,4 +9,4 @@ returns : tie.Need-returns
 returns c = search (needs, sees-of)
 
 pub seen-of-spec : {M : Type 1} → statement M
-seen-of-spec = tie.close (tie.spec (λ c κs. search needs) (λ c κs. search needs) returns)
+seen-of-spec = tie.close (tie.spec (λ c κs. search needs) (λ c κs. search needs) (λ c. search (needs, first-fits)) returns)

@@ -5,10 +5,11 @@
 --     fiveHandles f      their handles, for any conversion f
 --     turning            a conversion of sixteen bytes: the parameter, and then the password's first fifteen
 --     fiveBytes          the bytes of the five handles by it, one after the other
---     Written            FiveMade: these are the handles, the bytes, and the openers of each segment, with bytes behind that stay;
---                        a buffer of one byte fewer is short; a refusal leaves all
+--     FiveMade           these are the handles of the five, and the openers of each segment, with bytes behind that stay; a refusal
+--                        leaves all. FiveWritten: these are the bytes of the handles, with bytes behind that stay
 --     Asks, questions    the second question: handle, segment, register, room; and its answer. Answered: these are the answers
 --     Wants, wanted      the first question: handle, register, room; and its answer. Given: these are the answers
+--     Placed             which bytes belong to entries 128, 129 and 255, and how many entries there are
 --     Wholes             how many bytes a register may have, and a buffer must
 -- Assumes nothing.
 use Prim.Native.Nat.{ℕ}
@@ -21,7 +22,7 @@ use Rattle.handle.specs.declared.Width.the-variants.{Eight}
 use Rattle.handle.specs.Handles.{Name}
 use Rattle.register.specs.declared.Told.{Told}
 use Rattle.register.specs.declared.Opened.{Opened}
-use Rattle.register.specs.Registers.{Made, given, made, told, opened, wholeNumber, handlesTold, handlesLeft, openersTold, openersLeft}
+use Rattle.register.specs.Registers.{entries, parentOf, maskOf, Made, given, made, told, opened, wholeNumber, handlesTold, handlesLeft, openersTold, openersLeft}
 
 abbrev pub p : List ℕ
 p = 16 ∷ 17 ∷ 18 ∷ 19 ∷ 20 ∷ 21 ∷ 22 ∷ 23 ∷ 24 ∷ 25 ∷ 26 ∷ 27 ∷ 28 ∷ 29 ∷ 30 ∷ 31 ∷ []
@@ -49,6 +50,13 @@ elsewhere = bytesOf 4 7 (0xff ∷ 0xfe ∷ 0xff ∷ 0xff ∷ [])
 
 abbrev beyond : List ℕ
 beyond = bytesOf 3 8 (0xff ∷ 0xff ∷ 0xff ∷ 0xff ∷ [])
+
+-- node 257
+abbrev far : List ℕ
+far = 1 ∷ 1 ∷ 2 ∷ (p ++ (0xff ∷ 0xff ∷ 0xff ∷ 0xff ∷ []))
+
+abbrev long : List ℕ
+long = replicate 513 0
 
 abbrev nothing : List ℕ
 nothing = bytesOf 1 2 (0x0f ∷ 0xf0 ∷ 0xff ∷ 0xff ∷ [])
@@ -91,10 +99,12 @@ before = 90 ∷ 91 ∷ 92 ∷ 93 ∷ 94 ∷ 95 ∷ []
 pub record FiveMade (f : Name → List ℕ → ℕ → List ℕ) : Type 0 where
   pub handles : map (made f supplied five) (1 ∷ 2 ∷ 3 ∷ 4 ∷ 5 ∷ []) ≡ fiveHandles f
   pub openers :
-      map (λ (s : ℕ). openersLeft f primary s five before) (0 ∷ 1 ∷ 3 ∷ 5 ∷ 6 ∷ 7 ∷ [])
+      map (λ (s : ℕ). openersLeft f primary s five before) (0 ∷ 1 ∷ 2 ∷ 3 ∷ 4 ∷ 5 ∷ 6 ∷ 7 ∷ [])
       ≡ (1 ∷ 2 ∷ 3 ∷ 4 ∷ 5 ∷ 95 ∷ [])
       ∷ (1 ∷ 2 ∷ 3 ∷ 5 ∷ 94 ∷ 95 ∷ [])
       ∷ (1 ∷ 2 ∷ 3 ∷ 4 ∷ 5 ∷ 95 ∷ [])
+      ∷ (1 ∷ 2 ∷ 3 ∷ 4 ∷ 5 ∷ 95 ∷ [])
+      ∷ (2 ∷ 3 ∷ 5 ∷ 93 ∷ 94 ∷ 95 ∷ [])
       ∷ (2 ∷ 3 ∷ 5 ∷ 93 ∷ 94 ∷ 95 ∷ [])
       ∷ (2 ∷ 91 ∷ 92 ∷ 93 ∷ 94 ∷ 95 ∷ [])
       ∷ before
@@ -110,12 +120,12 @@ FiveWritten = handlesLeft turning primary five (replicate 115 8 ++ (201 ∷ 202 
 pub record Asks : Type 0 where
   pub handle : List ℕ
   pub segment : ℕ
-  pub entries : List ℕ
+  pub register : List ℕ
   pub room : ℕ
   pub answer : Opened
 
 abbrev asks : List ℕ → ℕ → List ℕ → ℕ → ℕ → ℕ → ℕ → Asks
-asks b s e r n k c = record { handle = b; segment = s; entries = e; room = r; answer = opened n k c }
+asks b s e r n k c = record { handle = b; segment = s; register = e; room = r; answer = opened n k c }
 
 abbrev pub questions : List Asks
 questions =
@@ -125,13 +135,21 @@ questions =
     ∷ asks primary 7 five 5 0 0 0
     ∷ asks primary 7 five 4 15 0 0
     ∷ asks primary 0 [] 0 0 0 0
-    -- 25 before 2, 2 before 3, 3 before 4, 4 before 18, 18 before 15, 15 before any entry
+    -- 25 before 2, 2 before 3, 3 before 4, 4 before 18, 18 before 15, 15 before any entry: of a register that is too long, odd and
+    -- has no room
+    ∷ asks (take 21 elsewhere) 8 long 0 25 0 0
+    ∷ asks elsewhere 8 long 0 2 0 0
+    ∷ asks gap 8 long 0 3 0 0
+    ∷ asks gap 7 long 0 4 0 0
+    ∷ asks primary 7 long 0 18 0 0
+    ∷ asks primary 7 (0 ∷ 0 ∷ 0 ∷ []) 0 18 0 0
     ∷ asks (0 ∷ elsewhere) 8 (0 ∷ []) 0 25 0 0
     ∷ asks (take 21 primary) 8 five 5 25 0 0
     ∷ asks (primary ++ (0 ∷ 0 ∷ 0 ∷ 0 ∷ [])) 1 five 5 25 0 0
     ∷ asks [] 1 five 5 25 0 0
     ∷ asks elsewhere 8 (0 ∷ []) 0 2 0 0
     ∷ asks beyond 8 five 5 2 0 0
+    ∷ asks far 8 five 5 2 0 0
     ∷ asks gap 8 (0 ∷ []) 0 3 0 0
     ∷ asks primary 263 five 5 3 0 0
     ∷ asks gap 7 (0 ∷ []) 0 4 0 0
@@ -161,25 +179,31 @@ questions =
 
 abbrev pub Answered : (Name → List ℕ → ℕ → List ℕ) → Type 0
 Answered f =
-    map (λ (q : Asks). openersTold f (q .handle) (q .segment) (q .entries) (q .room)) questions
+    map (λ (q : Asks). openersTold f (q .handle) (q .segment) (q .register) (q .room)) questions
     ≡ map (λ (q : Asks). q .answer) questions
 
 -- ---- the first question
 
 pub record Wants : Type 0 where
   pub handle : List ℕ
-  pub entries : List ℕ
+  pub register : List ℕ
   pub room : ℕ
   pub answer : Told
 
 abbrev wants : List ℕ → List ℕ → ℕ → ℕ → ℕ → Wants
-wants b e r n k = record { handle = b; entries = e; room = r; answer = told n k }
+wants b e r n k = record { handle = b; register = e; room = r; answer = told n k }
 
 abbrev pub wanted : List Wants
 wanted =
     wants primary five 115 0 0
     ∷ wants primary [] 0 0 0
     -- 25 before 2, 2 before 4, 4 before 18, 18 before 15, 15 before any entry
+    ∷ wants (take 21 elsewhere) long 0 25 0
+    ∷ wants (primary ++ (0 ∷ 0 ∷ 0 ∷ 0 ∷ [])) five 115 25 0
+    ∷ wants elsewhere long 0 2 0
+    ∷ wants gap long 0 4 0
+    ∷ wants primary long 0 18 0
+    ∷ wants primary (0 ∷ 0 ∷ 0 ∷ []) 0 18 0
     ∷ wants (0 ∷ elsewhere) (0 ∷ []) 0 25 0
     ∷ wants elsewhere (0 ∷ []) 0 2 0
     ∷ wants gap (0 ∷ []) 0 4 0
@@ -197,10 +221,18 @@ wanted =
 
 abbrev pub Given : (Name → List ℕ → ℕ → List ℕ) → Type 0
 Given f =
-    map (λ (q : Wants). handlesTold f (q .handle) (q .entries) (q .room)) wanted
+    map (λ (q : Wants). handlesTold f (q .handle) (q .register) (q .room)) wanted
     ≡ map (λ (q : Wants). q .answer) wanted
 
 -- ---- how long
+
+abbrev most : List ℕ
+most = replicate 254 0 ++ (3 ∷ 4 ∷ 5 ∷ 6 ∷ (replicate 250 0 ++ (7 ∷ 9 ∷ [])))
+
+abbrev pub Placed : Type 0
+Placed =
+    entries most ∷ map (parentOf most) (128 ∷ 129 ∷ 255 ∷ []) ++ map (maskOf most) (128 ∷ 129 ∷ 255 ∷ [])
+    ≡ 255 ∷ 3 ∷ 5 ∷ 7 ∷ 4 ∷ 6 ∷ 9 ∷ []
 
 abbrev pub Wholes : Type 0
 Wholes =
