@@ -18,7 +18,7 @@ use mir.Syntax.{w16}
 use Rattle.bits.specs.Sets.{has, full, setOf}
 use Rattle.bits.proofs.SetLaws.{setOf-same, has-setOf}
 use Rattle.bits.proofs.OperationLaws.{and-has, mask-test}
-use Rattle.loops.proofs.BelowLaws.{and-left}
+use Rattle.loops.proofs.BelowLaws.{and-left, and-right, and-both}
 use Rattle.numbers.specs.Numbers.{emptyNumber, spentNumber, wrongLengthNumber, placeNumber, gappedNumber}
 use Rattle.sizes.specs.Sizes.{nodes, clusters}
 use Rattle.handle.specs.declared.Handle.{Handle}
@@ -131,21 +131,23 @@ module _ (s : Seen) (mask : ℕ) where
   abbrev x : ℕ
   x = s .set
 
-  pub narrow-empty : bitAnd (s .set) mask ≡ 0 → Narrows s mask (record { number = emptyNumber; seen = s })
+  pub narrow-empty : bitAnd (s .set) mask ≡ 0 → Narrows s mask (record { number = emptyNumber; cut = false; seen = s })
   narrow-empty t =
       record {
         number = λ h v f.
             number-of (refusal emptyNumber) (weakening (widthOf h) f h mask)
             (refused-empty (widthOf h) f h mask 0 (own-none h (v .standing)) refl x (v .set) t (refusal emptyNumber) refl);
         seen = λ z. absurd (omega arith);
+        same = λ z. absurd (omega arith);
       }
 
   module _ (m : Fits w16 mask) (some : bitAnd (s .set) mask ≡ 0 → ⊥) where
-    pub narrow-same : bitAnd (s .set) (full 16 - mask) ≡ 0 → Narrows s mask (record { number = 0; seen = s })
+    pub narrow-same : bitAnd (s .set) (full 16 - mask) ≡ 0 → Narrows s mask (record { number = 0; cut = false; seen = s })
     narrow-same t =
         record {
           number = λ h v f. number-of _ (weakening (widthOf h) f h mask) (same h v f);
           seen = λ z h v f. subst (λ (w : Weakened). Sees (w .handle) s) (same h v f) v;
+          same = λ z q h v f. ap (λ (w : Weakened). w .handle) (sym (same h v f));
         }
       where
         same : (h : Handle) → Sees h s → (f : List ℕ → ℕ → List ℕ)
@@ -155,7 +157,7 @@ module _ (s : Seen) (mask : ℕ) where
             (reply 0 h (referenced (widthOf h) (h .selector))) refl
 
     module _ (t : bitAnd (s .set) (full 16 - mask) ≡ 0 → ⊥) where
-      pub narrow-spent : subselectors ≤ s .flat → Narrows s mask (record { number = spentNumber; seen = s })
+      pub narrow-spent : subselectors ≤ s .flat → Narrows s mask (record { number = spentNumber; cut = false; seen = s })
       narrow-spent l =
           record {
             number = λ h v f.
@@ -163,16 +165,18 @@ module _ (s : Seen) (mask : ℕ) where
                 (refused-spent (widthOf h) f h mask 0 (own-none h (v .standing)) refl (bits-le (h .width)) m x (v .set) some t
                 (v .four) (s .flat) (v .flat) l (refusal spentNumber) refl);
             seen = λ z. absurd (omega arith);
+            same = λ z. absurd (omega arith);
           }
 
       pub narrow-cut : s .flat < subselectors
-          → Narrows s mask (record { number = 0; seen = record { set = bitAnd (s .set) mask; flat = s .flat + 1 } })
+          → Narrows s mask (record { number = 0; cut = true; seen = record { set = bitAnd (s .set) mask; flat = s .flat + 1 } })
       narrow-cut l =
           record {
             number = λ h v f. done h v f;
             seen = λ z h v f.
                 seen-weakened f h mask s _ v (done h v f) (common-weakened f h mask x (v .set) (done h v f))
                 (flats h v f);
+            same = λ z q. absurd (true≢false q);
           }
         where
           q : ℕ → ℕ
@@ -204,7 +208,7 @@ module _ (s : Seen) (mask : ℕ) where
               ∙ ap (λ (w : Weakened). firstFlat (widthOf h) (w .handle .selector)) (is h v f)
               ∙ ap (λ (g : Handle). firstFlat (widthOf h) (g .selector)) (handle-done (widthOf h) f h mask (done h v f))
 
--- ---- what is seen of a handle, and the handle itself where it is wanted
+-- ---- what is seen of a handle, and the handle itself
 
 pub first-fits : (h : Handle) (k : ℕ) → k ≡ firstFlat (widthOf h) (h .selector) → length (h .selector) ≡ subselectors → Fits w16 k
 first-fits h k q l = let a = first-low (widthOf h) (h .selector) in record { fits = omega arith }
@@ -214,13 +218,21 @@ pub sees-of : (h : Handle) → Standing h → length (h .selector) ≡ subselect
     → Sees h (record { set = x; flat = k })
 sees-of h s l x k q r = record { standing = s; four = l; set = q; flat = r }
 
-module _ (wanted : Bool) (parent : Handle) (mask : ℕ) where
-  pub weaker-wanted : (w : Weakened) → w ≡ weakening (widthOf parent) (product (nameOf parent)) parent mask
-      → Weaker wanted parent mask (w .handle)
-  weaker-wanted w q t = ap (λ (w : Weakened). w .handle) q
+module _ (wanted cut : Bool) (parent : Handle) (mask : ℕ) where
+  pub weaker-cut : (wanted && cut) ≡ true → (w : Weakened) → w ≡ weakening (widthOf parent) (product (nameOf parent)) parent mask
+      → Weaker wanted cut parent mask (w .handle)
+  weaker-cut t w q =
+      record {
+        made = λ u v. ap (λ (w : Weakened). w .handle) q;
+        kept = λ u v. absurd (true≢false (sym (and-right wanted cut t) ∙ v));
+      }
 
-  pub weaker-any : wanted ≡ false → (r : Handle) → Weaker wanted parent mask r
-  weaker-any t r u = absurd (true≢false (sym u ∙ t))
+  pub weaker-kept : (wanted && cut) ≡ false → Weaker wanted cut parent mask parent
+  weaker-kept t =
+      record {
+        made = λ u v. absurd (true≢false (sym (and-both wanted cut u v) ∙ t));
+        kept = λ u v. refl;
+      }
 
 pub code-has : (x i : ℕ) → i ≤ 7 → not (eqb (bitAnd x (1 * 2 ^ i % 65536)) 0) ≡ has i x
 code-has x i h =

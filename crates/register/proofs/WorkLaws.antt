@@ -17,7 +17,7 @@ use Rattle.chain.proofs.WayLaws.{reached-none, reached-more}
 use Rattle.handle.specs.declared.Handle.{Handle}
 use Rattle.handle.specs.declared.Weakened.{Weakened}
 use Rattle.handle.specs.Handles.{Name, nameOf, widthOf, weakening}
-use mathlib.Core.Bool.{Bool, true}
+use mathlib.Core.Bool.{Bool, true, false}
 use Rattle.bits.specs.Sets.{has}
 use Rattle.bits.proofs.SetLaws.{has-setOf}
 use Rattle.handle.specs.Selectors.{references}
@@ -264,9 +264,11 @@ module _ (f : Name → List ℕ → ℕ → List ℕ) where
             (bad-more f h e j is-record (parent .handle) (parent .good) w refl (λ y. z (sym number ∙ y)))))))
 
         pub descending-more : r .number ≡ 0 → (g : Handle)
-            → (wanted ≡ true → g ≡ weakening (widthOf (getD handles p blank)) (f (nameOf (getD handles p blank))) (getD handles p blank) mask .handle)
+            → (wanted ≡ true → r .cut ≡ true
+            → g ≡ weakening (widthOf (getD handles p blank)) (f (nameOf (getD handles p blank))) (getD handles p blank) mask .handle)
+            → (wanted ≡ true → r .cut ≡ false → g ≡ getD handles p blank)
             → Descending h e n wanted (set seen j (r .seen)) (set handles j g) (set known j 1) path k (met - 1)
-        descending-more z g weaker =
+        descending-more z g made kept =
             record {
               working =
                   record {
@@ -344,12 +346,23 @@ module _ (f : Name → List ℕ → ℕ → List ℕ) where
                     (sym (good-made f h e p (parent .handle) (parent .good))
                     ∙ good-made f h e p (getD handles p blank) (d .working .memo .good t p parent-known))
 
+                -- where it is not cut, the weakening leaves it as it is
+                is : w .handle ≡ g
+                is = at-cut (r .cut) refl
+                  where
+                    at-cut : (b : Bool) → r .cut ≡ b → w .handle ≡ g
+                    at-cut false c =
+                        q .same z c (parent .handle) (parent .sees) (f (nameOf (parent .handle))) ∙ same ∙ sym (kept t c)
+                    at-cut true c =
+                        ap (λ (k : Handle). weakening (widthOf k) (f (nameOf k)) k (maskOf e j) .handle) same
+                        ∙ ap (λ (m : ℕ). weakening (widthOf (getD handles p blank)) (f (nameOf (getD handles p blank))) (getD handles p blank) m .handle)
+                        (sym em)
+                        ∙ sym (made t c)
+
                 mine : Good f h e j (getD (set handles j g) j blank)
                 mine =
                     subst (Good f h e j)
-                    (ap (λ (k : Handle). weakening (widthOf k) (f (nameOf k)) k (maskOf e j) .handle) same
-                    ∙ ap (λ (m : ℕ). weakening (widthOf (getD handles p blank)) (f (nameOf (getD handles p blank))) (getD handles p blank) m .handle) (sym em)
-                    ∙ sym (weaker t)
+                    (is
                     ∙ sym (getD-set-same handles j g blank (let b = inside in let s = d .working .memo .size in omega arith)))
                     mine-good
 

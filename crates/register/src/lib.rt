@@ -70,9 +70,10 @@ struct Seen {
     flat: u16,
 }
 
-// What a mask makes of it: 0 and what is left, or the number of the refusal.
+// What a mask makes of it: 0, whether the handle is cut, and what is left; or the number of the refusal.
 struct Narrowed {
     number: u8,
+    cut: bool,
     seen: Seen,
 }
 
@@ -168,21 +169,28 @@ fn narrow(seen: Seen, mask: u16) -> Narrowed
     if kept == 0 {
         return Narrowed {
             number: EMPTY,
+            cut: false,
             seen,
         };
     }
     let excluded = set & !mask;
     if excluded == 0 {
-        return Narrowed { number: 0, seen };
+        return Narrowed {
+            number: 0,
+            cut: false,
+            seen,
+        };
     }
     if CUTS <= flat {
         return Narrowed {
             number: SPENT,
+            cut: false,
             seen,
         };
     }
     Narrowed {
         number: 0,
+        cut: true,
         seen: Seen {
             set: kept,
             flat: flat + 1,
@@ -198,12 +206,12 @@ fn mask_of(entries: &[u8], entry: usize) -> u16
     entries[(entry - 1) * ENTRY + 1] as u16
 }
 
-// The handle of an entry from that of the entry it was weakened from; where no handles are asked for, any.
-fn weaker(tables: &Tables, wanted: bool, parent: Handle, mask: u16) -> Handle
+// The handle of an entry from that of the entry it was weakened from, where it is wanted and is cut; else the same.
+fn weaker(tables: &Tables, wanted: bool, cut: bool, parent: Handle, mask: u16) -> Handle
     requires { ⌜ IsTables (now tables) ⌝ }
-    ensures { λ r. ⌜ work.Weaker wanted parent mask r ⌝ }
+    ensures { λ r. ⌜ work.Weaker wanted cut parent mask r ⌝ }
 {
-    if wanted {
+    if wanted & cut {
         let w = parent.weaken_with(tables, mask);
         return w.handle;
     }
@@ -258,7 +266,7 @@ fn work_out(tables: &Tables, wanted: bool, handle: Handle, entries: &[u8]) -> Wo
             let after = w.seen;
             seen[j] = after;
             let parent = handles[p];
-            let made = weaker(tables, wanted, parent, mask);
+            let made = weaker(tables, wanted, w.cut, parent, mask);
             handles[j] = made;
             known[j] = 1;
         }

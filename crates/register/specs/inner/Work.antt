@@ -6,8 +6,8 @@
 --     Standing h         weakening the handle h meets no number but 21 and 17
 --     Sees h s           s is what the weakenings of such a handle of four subselectors go by
 --     Narrows s m r      of every handle of which s is seen, r has the number of its weakening by the mask m and, where that is 0,
---                        what is seen of the weaker handle
---     Weaker w p m r     where handles are wanted, r is that of weakening p by the mask m
+--                        what is seen of the weaker handle; that is the same handle where none is cut
+--     Weaker w c p m r   where handles are wanted: r is that of weakening p by the mask m if it is cut, and else p
 --     Works f h e w t ss hs    t is the lowest entry that fails and its number; where there is none, ss has the bits of what the
 --                        handles of all entries reference, and hs has these, if they are wanted
 --     Put before after at text    the text follows the buffer's first at bytes, and all else is as before
@@ -75,10 +75,12 @@ pub record Narrows (s : Seen) (mask : ℕ) (r : Narrowed) : Type 0 where
   pub number : (h : Handle) → Sees h s → (f : List ℕ → ℕ → List ℕ) → weakening (widthOf h) f h mask .number ≡ r .number
   pub seen : r .number ≡ 0 → (h : Handle) → Sees h s → (f : List ℕ → ℕ → List ℕ)
       → Sees (weakening (widthOf h) f h mask .handle) (r .seen)
+  pub same : r .number ≡ 0 → r .cut ≡ false → (h : Handle) → Sees h s → (f : List ℕ → ℕ → List ℕ)
+      → weakening (widthOf h) f h mask .handle ≡ h
 
-abbrev pub Weaker : Bool → Handle → ℕ → Handle → Type 0
-Weaker wanted parent mask r =
-    wanted ≡ true → r ≡ weakening (widthOf parent) (product (nameOf parent)) parent mask .handle
+pub record Weaker (wanted cut : Bool) (parent : Handle) (mask : ℕ) (r : Handle) : Type 0 where
+  pub made : wanted ≡ true → cut ≡ true → r ≡ weakening (widthOf parent) (product (nameOf parent)) parent mask .handle
+  pub kept : wanted ≡ true → cut ≡ false → r ≡ parent
 
 pub record Works (f : Name → List ℕ → ℕ → List ℕ) (h : Handle) (e : List ℕ) (wanted : Bool) (t : Told) (ss : List Seen)
     (hs : List Handle) : Type 0 where
