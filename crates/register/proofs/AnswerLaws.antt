@@ -1,10 +1,10 @@
 -- The answers in words: what is told for the call as a whole comes first, and then the lowest entry that fails. Of the
 -- buffer: handles of 23 bytes one after the other, and numbers that rise; what is behind them is what was there.
 -- Assumes nothing.
-use Prim.Native.Nat.{ℕ, zero, suc, _+_, _-_, _*_, _/_, _≤_, _<_}
+use Prim.Native.Nat.{ℕ, zero, suc, _+_, _-_, _*_, _≤_, _<_}
 use native.Mathlib.Omega.{arith}
 use native.Mathlib.Decide.{ℕ-discrete, decLt}
-use mathlib.Core.Path.{_≡_, refl, sym, ap, ap₂, _∙_, subst}
+use mathlib.Core.Path.{_≡_, refl, sym, ap, _∙_, subst}
 use mathlib.Core.Logic.{_≢_, _↔_}
 use mathlib.Core.Bool.{Bool, true, false, true≢false}
 use mathlib.Core.List.{List, [], _∷_, _++_, append-nil}
@@ -14,15 +14,13 @@ use lib.Seq.{getD-append-add, getD-drop}
 use borrow.Author.Tests.{le-ltb, ltb-false}
 use Rattle.chain.specs.Means.{IsRecord}
 use Rattle.handle.specs.declared.Handle.{Handle}
-use Rattle.handle.specs.Selectors.{references}
 use Rattle.handle.specs.Handles.{Name, nameOf, decoded, encoded, Holdable}
 use Rattle.handle.specs.Conversion.{SixteenBytes}
 use Rattle.handle.proofs.HeldLaws.{holdable-decoded, holdable-weakened}
 use Rattle.handle.proofs.TripLaws.{decode-encode}
 use Rattle.register.specs.declared.Told.{Told}
-use Rattle.register.specs.declared.Opened.{Opened}
-use Rattle.register.specs.Registers.{entries, wayOf, masksOf, Made, given, made, lowest, told, opened, wholeNumber, toldFirst, leaves, oneIf}
-use Rattle.register.specs.Registers.{openedAs, openedWith, handlesTold, bytesUpTo, handlesLeft, opens, openersUpTo}
+use Rattle.register.specs.Registers.{entries, wayOf, masksOf, given, made, lowest, told, wholeNumber, toldFirst, oneIf}
+use Rattle.register.specs.Registers.{openedAs, handlesTold, bytesUpTo, handlesLeft, opens, openersUpTo}
 use Rattle.register.specs.Registers.{openersEntry, openersTold, openersLeft}
 use Rattle.register.specs.Words.{LowestFails}
 use Rattle.register.specs.Answers.{Clear, Listed, NoneFails, Answers, ReadBack, HandlesDone, HandlesAnswer, HandlesInWords, HandlesBuffer}

@@ -3,7 +3,7 @@
 use mathlib.Core.Path.{_≡_, refl, sym, ap, _∙_}
 use mathlib.Core.Logic.{_⊎_, inl, inr}
 use mathlib.Core.List.{List}
-use Prim.Native.Nat.{ℕ, zero, suc, _+_, _-_, _*_, _/_, _^_, _≤_, _<_}
+use Prim.Native.Nat.{ℕ, _+_, _-_, _*_, _/_, _≤_, _<_}
 use native.Mathlib.Nat.{eq-or-lt-of-le}
 use native.Mathlib.Omega.{arith}
 use lib.ListN.{length, getD, set, length-set}
@@ -11,10 +11,10 @@ use lib.Seq.{getD-set-same, getD-set-other}
 use mir.Val.{Fits}
 use mir.Syntax.{w8}
 use Rattle.numbers.specs.Numbers.{linkNumber, loopNumber}
-use Rattle.chain.specs.Way.{reached, refusal}
-use Rattle.chain.specs.Means.{IsRecord, OnRecords}
+use Rattle.chain.specs.Way.{reached}
+use Rattle.chain.specs.Means.{OnRecords}
 use Rattle.chain.proofs.WalkLaws.{Walking, walking-none, walking-more, walking-inside, walked-beyond, walked-again}
-use Rattle.register.specs.Registers.{entries, parentOf, wayOf}
+use Rattle.register.specs.Registers.{entries, parentOf}
 use Rattle.register.specs.inner.Work.{Small, Climbs}
 
 pub record Climbing (e known start path : List ℕ) (from n met at : ℕ) : Type 0 where

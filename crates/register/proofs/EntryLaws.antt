@@ -2,28 +2,26 @@
 -- without its first entry, so both end, leave or come round together. A step meets no number of a way, and where the handle
 -- supplied is in order no other than 21 and 17.
 -- Assumes nothing.
-use Prim.Native.Nat.{ℕ, zero, suc, _≤_, _<_}
+use Prim.Native.Nat.{ℕ, zero, suc, _<_}
 use native.Mathlib.Omega.{arith}
 use mathlib.Core.Path.{_≡_, refl, sym, ap, _∙_, subst}
 use mathlib.Core.Logic.{_⊎_, inl, inr}
 use mathlib.Core.Bool.{Bool, true, false}
 use mathlib.Core.List.{List, [], _∷_}
 use Rattle.numbers.specs.Numbers.{linkNumber, loopNumber}
-use Rattle.chain.specs.Way.{reached, done, refusal}
+use Rattle.chain.specs.Way.{done}
 use Rattle.chain.specs.Means.{IsRecord, OnRecords, Whole, Leaves, Again}
-use Rattle.chain.specs.declared.Walked.{Walked}
 use Rattle.chain.proofs.MeansLaws.{ending, leaves-way, again-way}
 use Rattle.chain.proofs.RecordLaws.{reached-next}
 use Rattle.chain.proofs.WayLaws.{reached-none}
 use Rattle.handle.specs.declared.Handle.{Handle}
-use Rattle.handle.specs.declared.Weakened.{Weakened}
 use Rattle.handle.specs.Selectors.{gapped, keepsNone, spent, referenced}
 use Rattle.handle.specs.Handles.{Name, nameOf, widthOf, noWidth, noSuchPlace, reply, weakenNumber, weakened, weakening}
 use Rattle.handle.proofs.HandleLaws.{telling}
 use Rattle.register.specs.Registers.{entries, parentOf, maskOf, wayOf, masksOf}
-use Rattle.register.specs.Registers.{Made, given, failed, settled, steppedAt, stepped, steps, ended, made}
+use Rattle.register.specs.Registers.{Made, given, settled, steppedAt, stepped, steps, ended, made}
 use Rattle.register.specs.Words.{MadeInWords, StepNumbers}
-use Rattle.register.proofs.MadeLaws.{Ends, ends-more, ends-way, by-way, way-made, steps-more, good-none, good-made}
+use Rattle.register.proofs.MadeLaws.{ends-more, ends-way, by-way, way-made, steps-more, good-none, good-made}
 use Rattle.register.specs.inner.Work.{Standing}
 use Rattle.register.proofs.NarrowLaws.{standing-weakened}
 use Rattle.register.proofs.KeptLaws.{steps-keep}

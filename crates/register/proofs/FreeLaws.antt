@@ -1,6 +1,6 @@
 -- What becomes of an entry by two conversions, from handles that differ in the password alone, is alike but for passwords.
 -- Assumes nothing.
-use Prim.Native.Nat.{ℕ, zero, suc, _+_, _≤_, _<_}
+use Prim.Native.Nat.{ℕ, zero, suc, _+_}
 use native.Mathlib.Omega.{arith}
 use mathlib.Core.Path.{_≡_, refl, sym, ap, ap₂, _∙_}
 use mathlib.Core.Bool.{Bool, true, false, not}
@@ -10,15 +10,9 @@ use lib.Dec.{eqb}
 use Rattle.loops.specs.Search.{least}
 use Rattle.handle.specs.declared.Handle.{Handle}
 use Rattle.handle.specs.Selectors.{references, referenced, keepsAll, firstFlat, parameter}
-use Rattle.handle.specs.Handles.{Name, nameOf, widthOf, noHandle, renewed, cut, reply, weakenNumber, weakened, weakening}
-use Rattle.register.specs.declared.Told.{Told}
-use Rattle.register.specs.Registers.{entries, wayOf, masksOf, Made, given, failed, settled, weakenedBy, steppedAt, stepped}
+use Rattle.handle.specs.Handles.{Name, nameOf, widthOf, renewed, cut, reply, weakenNumber, weakened, weakening}
+use Rattle.register.specs.Registers.{entries, wayOf, masksOf, Made, failed, settled, weakenedBy, steppedAt}
 use Rattle.register.specs.Registers.{steps, ended, made, fails, tells, lowest, oneIf, openersUpTo}
-use Rattle.handle.specs.Handles.{decoded}
-use lib.Dec.{ltb}
-use lib.ListN.{length}
-use Rattle.register.specs.declared.Opened.{Opened}
-use Rattle.register.specs.Registers.{wholeNumber, toldFirst, leaves, openedWith, openersEntry, openersTold, openersLeft}
 use Rattle.register.specs.Words.{SameButPassword, FreeOfPasswords, Free}
 
 -- a handle without its password

@@ -1,13 +1,13 @@
 -- The first question, return by return.
 -- Assumes nothing.
 use mathlib.Core.Path.{_≡_, refl, sym, ap, ap₂, _∙_, subst}
-use mathlib.Core.Bool.{Bool, true, false}
-use mathlib.Core.List.{List, [], _∷_, _++_}
-use Prim.Native.Nat.{ℕ, zero, suc, _+_, _*_, _/_, _≤_, _<_}
+use mathlib.Core.Bool.{true, false}
+use mathlib.Core.List.{List, _++_}
+use Prim.Native.Nat.{ℕ, zero, suc, _+_, _/_, _≤_, _<_}
 use native.Mathlib.Omega.{arith}
-use lib.ListN.{length, getD, take, drop}
+use lib.ListN.{length, getD, drop}
 use Rattle.handle.specs.declared.Handle.{Handle}
-use Rattle.handle.specs.Handles.{Name, nameOf, widthOf, decoded, encoded, written, weakened}
+use Rattle.handle.specs.Handles.{Name, nameOf, widthOf, decoded, encoded}
 use Rattle.handle.specs.Conversion.{SixteenBytes}
 use Rattle.register.specs.declared.Told.{Told}
 use Rattle.register.specs.declared.Seen.{Seen}

@@ -1,26 +1,23 @@
 -- What every weakening keeps, every entry's handle has.
 -- Assumes nothing.
 use mathlib.Core.Path.{_≡_, refl, sym, ap, _∙_, subst}
-use mathlib.Core.Bool.{Bool, true, false, _&&_}
-use mathlib.Core.List.{List, [], _∷_, _++_}
-use Prim.Native.Nat.{ℕ, zero, suc, _+_}
+use mathlib.Core.List.{List, [], _∷_}
+use Prim.Native.Nat.{ℕ, zero, suc}
 use native.Mathlib.Omega.{arith}
-use lib.ListN.{length, take, drop, length-append, length-drop}
+use lib.ListN.{length, take, drop, length-drop}
 use lib.Seq.{length-take-le, take-append-seam}
 use Rattle.handle.specs.declared.Handle.{Handle}
-use Rattle.handle.specs.declared.HandleBytes.{HandleBytes}
 use Rattle.handle.specs.declared.Weakened.{Weakened}
 use Rattle.handle.specs.declared.Width.{Width}
 use Rattle.handle.specs.declared.Width.the-variants.{Eight}
 use Rattle.handle.specs.Widths.{widthFor, packed}
-use Rattle.handle.specs.Conversion.{SixteenBytes}
 use Rattle.handle.specs.Handles.{Name, nameOf, widthOf, decoded, decodedAs, encoded, encodedAs, written, weakened, weakening}
 use Rattle.handle.proofs.HandleLaws.{weakened-cases}
 use Rattle.handle.proofs.EmptyLaws.{handle-done}
 use Rattle.handle.proofs.CodecLaws.{listed}
 use Rattle.loops.specs.Tabulate.{tabulate}
 use Rattle.bits.specs.Bytes.{bytes}
-use Rattle.register.specs.Registers.{Made, given, failed, settled, steppedAt, stepped, steps, ended, made, masksOf, wayOf}
+use Rattle.register.specs.Registers.{Made, given, failed, settled, steppedAt, steps, ended, made, masksOf, wayOf}
 
 number-of : (m : Made) (g : Handle) → m ≡ given g → m .number ≡ 0
 number-of m g q = ap (λ (m : Made). m .number) q

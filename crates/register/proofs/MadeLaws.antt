@@ -1,16 +1,14 @@
 -- What becomes of an entry, step by step: an entry made from one whose way ends has a way that ends, one entry longer, and
 -- its steps are those of the other and then its own; so a handle gives a handle, and a refusal is handed on.
 -- Assumes nothing.
-use mathlib.Core.Path.{_≡_, refl, sym, ap, ap₂, _∙_, subst}
-use mathlib.Core.Bool.{Bool, true, false, not}
-use mathlib.Core.Option.{Option, none, some}
-use mathlib.Core.List.{List, [], _∷_}
+use mathlib.Core.Path.{_≡_, refl, sym, ap, _∙_, subst}
+use mathlib.Core.Bool.{false, not}
+use mathlib.Core.Option.{some}
+use mathlib.Core.List.{List}
 use Prim.Native.Nat.{ℕ, zero, suc, _+_, _-_, _≤_, _<_}
 use native.Mathlib.Omega.{arith}
-use lib.Dec.{eqb}
 use borrow.Author.Tests.{eq-eqb, ne-eqb}
 use Rattle.loops.proofs.SearchLaws.{least-none, least-is}
-use Rattle.loops.specs.Search.{least}
 use Rattle.chain.specs.Way.{reached, records, done, refusal}
 use Rattle.chain.specs.Means.{IsRecord, OnRecords}
 use Rattle.chain.specs.declared.Walked.{Walked}
@@ -20,7 +18,6 @@ use Rattle.chain.proofs.RecordLaws.{reached-next}
 use Rattle.handle.specs.declared.Handle.{Handle}
 use Rattle.handle.specs.declared.Weakened.{Weakened}
 use Rattle.handle.specs.Handles.{Name, nameOf, widthOf, weakening}
-use Rattle.register.specs.declared.Told.{Told}
 use Rattle.register.specs.Registers.{entries, parentOf, maskOf, wayOf, masksOf}
 use Rattle.register.specs.Registers.{Made, given, failed, settled, stepped, steps, ended, made, fails, tells, lowest}
 

@@ -5,18 +5,18 @@ use Prim.Native.Nat.{ℕ, zero, suc, _+_, _-_, _*_, _%_, _^_, _≤_, _<_}
 use native.Mathlib.Nat.{one-mul, mod-eq-of-lt}
 use native.Mathlib.Numerals.{add-one}
 use native.Mathlib.Omega.{arith}
-use mathlib.Core.Path.{_≡_, refl, sym, ap, ap₂, _∙_, subst}
+use mathlib.Core.Path.{_≡_, refl, sym, ap, _∙_, subst}
 use mathlib.Core.Bool.{Bool, true, false, not, _&&_, _||_, true≢false}
 use mathlib.Core.List.{List, [], _∷_}
 use lib.Bits.{bitAnd}
 use lib.Dec.{eqb, leb}
 use lib.Pow.{pow-lt}
-use lib.ListN.{length, getD, set, length-set}
+use lib.ListN.{length, set, length-set}
 use borrow.Author.Tests.{ne-eqb}
 use mir.Val.{Fits}
 use mir.Syntax.{w16}
-use Rattle.bits.specs.Sets.{has, full, setOf}
-use Rattle.bits.proofs.SetLaws.{setOf-same, has-setOf}
+use Rattle.bits.specs.Sets.{has, full}
+use Rattle.bits.proofs.SetLaws.{setOf-same}
 use Rattle.bits.proofs.OperationLaws.{and-has, mask-test}
 use Rattle.loops.proofs.BelowLaws.{and-left, and-right, and-both}
 use Rattle.numbers.specs.Numbers.{emptyNumber, spentNumber, wrongLengthNumber, placeNumber, gappedNumber}
@@ -25,15 +25,14 @@ use Rattle.handle.specs.declared.Handle.{Handle}
 use Rattle.handle.specs.declared.Weakened.{Weakened}
 use Rattle.handle.specs.Sizes.{subselectors}
 use Rattle.handle.specs.Conversion.{product}
-use Rattle.handle.specs.Selectors.{references, flat, allFlat, gapped, firstFlat, common, referenced, keepsAll, parameter}
-use Rattle.handle.specs.Handles.{Name, nameOf, widthOf, noWidth, noSuchPlace, Row, firstOf, ownRows, refusal, reply, cut, weakened, weakening}
-use Rattle.handle.proofs.SelectorLaws.{first-here, first-past, rest-flat, rest-ungapped, parameter-not-flat}
+use Rattle.handle.specs.Selectors.{references, flat, allFlat, gapped, firstFlat, common, referenced, parameter}
+use Rattle.handle.specs.Handles.{Name, nameOf, widthOf, Row, firstOf, ownRows, refusal, reply, cut, weakened, weakening}
+use Rattle.handle.proofs.SelectorLaws.{first-here, first-past, rest-flat, rest-ungapped}
 use Rattle.handle.proofs.HandleLaws.{weakened-cases, name-weakened, width-weakened, gapped-weakened, references-weakened, unspent}
 use Rattle.handle.proofs.EmptyLaws.{handle-done, number-done}
 use Rattle.handle.proofs.WeakenLaws.{refused-empty, refused-spent, weaken-unchanged, weaken-changed, excluded-le}
 use Rattle.handle.proofs.WidthLaws.{bits-le}
 use Rattle.register.specs.declared.Seen.{Seen}
-use Rattle.register.specs.declared.Narrowed.{Narrowed}
 use Rattle.register.specs.inner.Work.{Standing, Sees, Narrows, Weaker}
 
 -- ---- the first flat subselector after a cut

@@ -1,8 +1,8 @@
 -- The second question, return by return.
 -- Assumes nothing.
-use mathlib.Core.Path.{_≡_, refl, sym, ap, ap₂, _∙_, subst}
-use mathlib.Core.Bool.{Bool, true, false}
-use mathlib.Core.List.{List, [], _∷_, _++_}
+use mathlib.Core.Path.{_≡_, refl, sym, ap, ap₂, _∙_}
+use mathlib.Core.Bool.{Bool}
+use mathlib.Core.List.{List, _++_}
 use Prim.Native.Nat.{ℕ, zero, suc, _+_, _/_, _≤_, _<_}
 use native.Mathlib.Omega.{arith}
 use lib.Dec.{ltb}
@@ -14,8 +14,7 @@ use borrow.Author.Tests.{ltb-false}
 use Rattle.handle.specs.Handles.{Name, widthOf, decoded}
 use Rattle.register.specs.declared.Seen.{Seen}
 use Rattle.register.specs.declared.Told.{Told}
-use Rattle.register.specs.declared.Opened.{Opened}
-use Rattle.register.specs.Registers.{entries, Made, given, made, lowest, wholeNumber, toldFirst, leaves, oneIf, openedAs}
+use Rattle.register.specs.Registers.{entries, made, lowest, wholeNumber, toldFirst, leaves, oneIf, openedAs}
 use Rattle.register.specs.Registers.{openedWith, openersUpTo, openersEntry, openersTold, openersLeft}
 use Rattle.register.specs.inner.Work.{Works, Put, openersIn, unseen}
 use Rattle.register.proofs.PutLaws.{put-start}

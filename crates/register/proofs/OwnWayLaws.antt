@@ -6,14 +6,13 @@ use native.Mathlib.Omega.{arith}
 use native.Mathlib.Decide.{decLt}
 use mathlib.Core.Path.{_≡_, refl, sym, ap, ap₂, _∙_, subst}
 use mathlib.Core.Option.{Option, none, some}
-use mathlib.Core.List.{List, [], _∷_}
+use mathlib.Core.List.{List, _∷_}
 use Rattle.numbers.specs.Numbers.{linkNumber, loopNumber}
 use Rattle.chain.specs.Way.{reached, records, met, done, refusal}
 use Rattle.chain.specs.Means.{IsRecord, OnRecords}
 use Rattle.chain.proofs.WayLaws.{reached-none, way-zero, way-beyond, way-again, met-none, met-on, met-off}
 use Rattle.chain.proofs.MeansLaws.{few}
 use Rattle.chain.proofs.RecordLaws.{reached-next}
-use Rattle.handle.specs.declared.Handle.{Handle}
 use Rattle.handle.specs.Handles.{Name}
 use Rattle.register.specs.Registers.{entries, parentOf, maskOf, wayOf, masksOf, steps, ended, made}
 use Rattle.register.specs.Words.{OwnWay}

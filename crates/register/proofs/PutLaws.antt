@@ -3,11 +3,11 @@
 use mathlib.Core.Path.{_≡_, refl, sym, ap, _∙_, subst}
 use mathlib.Core.Bool.{Bool, true, false}
 use mathlib.Core.List.{List, [], _∷_, _++_, append-assoc, append-nil}
-use Prim.Native.Nat.{ℕ, zero, suc, _+_, _*_, _≤_, _<_}
+use Prim.Native.Nat.{ℕ, _+_, _*_, _≤_, _<_}
 use native.Mathlib.Numerals.{add-one}
 use native.Mathlib.Omega.{arith}
 use lib.ListN.{length, getD, set, take, drop, length-append, length-set, take-append-drop}
-use lib.Seq.{take-suc, take-suc-set, take-all, drop-drop, drop-set-lt, length-take-le}
+use lib.Seq.{take-suc, take-suc-set, drop-drop, drop-set-lt, length-take-le}
 use Rattle.handle.specs.declared.Handle.{Handle}
 use Rattle.handle.specs.declared.HandleBytes.{HandleBytes}
 use Rattle.bits.specs.Sets.{has}

@@ -1,13 +1,13 @@
 -- Each use is read off its statement by the clause that it is there for.
 -- Assumes nothing.
-use Prim.Native.Nat.{ℕ, zero, suc, _≤_, _<_}
+use Prim.Native.Nat.{ℕ, zero, suc, _<_}
 use native.Mathlib.Omega.{arith}
-use mathlib.Core.Path.{_≡_, refl, sym, ap, ap₂, _∙_, subst}
+use mathlib.Core.Path.{_≡_, refl, sym, ap, _∙_, subst}
 use mathlib.Core.Logic.{_≢_, _⊎_, inl, inr}
 use mathlib.Core.Bool.{true, false, true≢false}
 use mathlib.Core.List.{List}
 use lib.Dec.{ltb}
-use lib.ListN.{length, getD}
+use lib.ListN.{length}
 use borrow.Author.Tests.{lt-ltb, le-ltb}
 use Rattle.bits.specs.Sets.{has}
 use Rattle.chain.specs.Way.{reached}
@@ -15,12 +15,11 @@ use Rattle.chain.specs.Means.{IsRecord, OnRecords, Leaves, Again}
 use Rattle.chain.proofs.WayLaws.{reached-none}
 use Rattle.handle.specs.declared.Handle.{Handle}
 use Rattle.handle.specs.Selectors.{references}
-use Rattle.handle.specs.Handles.{Name, widthOf, decoded}
+use Rattle.handle.specs.Handles.{Name}
 use Rattle.handle.specs.Conversion.{SixteenBytes}
-use Rattle.register.specs.Registers.{entries, parentOf, maskOf, Made, given, failed, stepped, made, told, wholeNumber}
+use Rattle.register.specs.Registers.{entries, parentOf, maskOf, Made, given, stepped, made, told, wholeNumber}
 use Rattle.register.specs.Registers.{handlesTold, openersTold}
 use Rattle.register.specs.Words.{EntrysHandle}
-use Rattle.register.specs.Answers.{Clear, Answers}
 use Rattle.register.specs.cases.Uses.{Full, EntryUses, FreeUses, HandleUses, BackUses, LowestUses, WholeUses}
 use Rattle.register.specs.cases.Uses.{HandlesUses, OpenersUses}
 use Rattle.register.proofs.EntryLaws.{made-in-words, step-numbers}

@@ -1,10 +1,10 @@
 -- An entry's handle in words: each part is kept by every step, or is what the last step gives. And the lowest entry that fails.
 -- Assumes nothing.
-use Prim.Native.Nat.{ℕ, zero, suc, _+_, _≤_, _<_}
+use Prim.Native.Nat.{ℕ, zero, suc, _≤_, _<_}
 use native.Mathlib.Omega.{arith}
 use native.Mathlib.Decide.{decLt}
 use mathlib.Core.Path.{_≡_, refl, sym, ap, ap₂, _∙_, subst}
-use mathlib.Core.Logic.{_≢_, _↔_}
+use mathlib.Core.Logic.{_≢_}
 use mathlib.Core.Bool.{Bool, true, false, not, _&&_, true≢false}
 use mathlib.Core.Option.{Option, none, some, Option·none-ne-some}
 use mathlib.Core.List.{List, [], _∷_}
@@ -20,18 +20,15 @@ use Rattle.chain.proofs.WayLaws.{reached-none}
 use Rattle.chain.proofs.RecordLaws.{reached-next}
 use Rattle.chain.proofs.MeansLaws.{number-whole}
 use Rattle.handle.specs.declared.Handle.{Handle}
-use Rattle.handle.specs.declared.Weakened.{Weakened}
-use Rattle.handle.specs.declared.Width.{Width}
 use Rattle.handle.specs.Selectors.{references, gapped}
 use Rattle.handle.specs.Widths.{bitsOf}
-use Rattle.handle.specs.Handles.{Name, nameOf, widthOf, weakenNumber, weakened, weakening}
+use Rattle.handle.specs.Handles.{Name, nameOf, widthOf, weakened, weakening}
 use Rattle.handle.specs.Opens.{Opens}
 use Rattle.handle.specs.Empty.{SomeLeft}
-use Rattle.handle.proofs.HandleLaws.{unspent, weakened-cases, name-weakened, width-weakened, gapped-weakened, references-weakened, ungapped-done}
+use Rattle.handle.proofs.HandleLaws.{unspent, name-weakened, gapped-weakened, references-weakened, ungapped-done}
 use Rattle.handle.proofs.EmptyLaws.{handle-done, done-references, number-done}
 use Rattle.handle.proofs.OpensLaws.{opens-weakening}
-use Rattle.register.specs.declared.Told.{Told}
-use Rattle.register.specs.Registers.{entries, parentOf, maskOf, wayOf, masksOf, Made, given, failed, steps, ended, made, fails, tells, lowest}
+use Rattle.register.specs.Registers.{entries, parentOf, maskOf, wayOf, masksOf, Made, given, steps, ended, made, fails, tells, lowest}
 use Rattle.register.specs.Words.{Kept, EntrysHandle, EntrysHandles, OpensAsSupplied, LowestFails}
 use Rattle.register.proofs.KeptLaws.{Last, last-step, steps-keep, made-steps, handle-of, width-steps}
 

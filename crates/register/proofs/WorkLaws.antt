@@ -22,10 +22,9 @@ use Rattle.bits.specs.Sets.{has}
 use Rattle.bits.proofs.SetLaws.{has-setOf}
 use Rattle.handle.specs.Selectors.{references}
 use Rattle.handle.specs.Widths.{bitsOf}
-use Rattle.register.specs.declared.Told.{Told}
 use Rattle.register.specs.declared.Seen.{Seen}
-use Rattle.register.specs.declared.Narrowed.{Narrowed}
-use Rattle.register.specs.Registers.{entries, parentOf, maskOf, masksOf, wayOf, Made, given, failed, made, lowest}
+use Rattle.register.specs.declared.work.Narrowed.{Narrowed}
+use Rattle.register.specs.Registers.{entries, parentOf, maskOf, masksOf, Made, given, failed, made}
 use Rattle.register.specs.inner.Work.{Entry, Small, Climbs, Works, blank, unseen, Sees, Narrows}
 use Rattle.register.proofs.KeptLaws.{handle-of, width-steps}
 use Rattle.register.proofs.MadeLaws.{Good, Bad, good-none, good-more, bad-more, bad-reached, good-made, bad-made, way-made}

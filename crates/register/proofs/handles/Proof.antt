@@ -1,3 +1,5 @@
+-- What is told for the call as a whole; or what working the entries out tells; or their handles, laid in the buffer.
+-- Assumes nothing.
 use borrow.Author.Needs.{needs}
 use Rattle.handle.specs.Conversion.{product, SixteenBytes}
 use Rattle.handle.proofs.PasswordLaws.{length-conversion}
@@ -6,12 +8,6 @@ use Rattle.register.proofs.HandlesLaws.{handles-done-left, handles-few,
 use Rattle.register.proofs.WholeLaws.{going-stands}
 use Rattle.register.proofs.handles.Statement.{statement}
 use Rattle.register.proofs.handles.Tie as tie
-use Rattle.register.proofs.handles.Reads as reads
-use Rattle.aes.proofs.tables.Reads as tables-reads
-use Rattle.handle.proofs.Handle.decode.Reads as decode-reads
-use Rattle.register.proofs.lay.Reads as lay-reads
-use Rattle.register.proofs.whole.Reads as whole-reads
-use Rattle.register.proofs.work_out.Reads as work-out-reads
 
 sixteen : SixteenBytes product
 sixteen n = length-conversion

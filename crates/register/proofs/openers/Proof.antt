@@ -1,15 +1,11 @@
+-- What is told for the call as a whole; or what working the entries out tells; or the openers, listed in the buffer.
+-- Assumes nothing.
 use borrow.Author.Needs.{needs}
 use Rattle.register.proofs.OpenerLaws.{openers-whole, openers-whole-left, openers-failed, openers-failed-left}
 use Rattle.register.proofs.OpenerLaws.{openers-done, openers-done-left, openers-few, openers-room, openers-segment}
 use Rattle.register.proofs.WholeLaws.{going-stands}
 use Rattle.register.proofs.openers.Statement.{statement}
 use Rattle.register.proofs.openers.Tie as tie
-use Rattle.register.proofs.openers.Reads as reads
-use Rattle.aes.proofs.tables.Reads as tables-reads
-use Rattle.handle.proofs.Handle.decode.Reads as decode-reads
-use Rattle.register.proofs.list.Reads as list-reads
-use Rattle.register.proofs.whole.Reads as whole-reads
-use Rattle.register.proofs.work_out.Reads as work-out-reads
 
 returns : tie.Need-returns
 returns c = (

@@ -1,12 +1,10 @@
+-- Each return is the number of the first row that applies: the tests before it are off.
+-- Assumes nothing.
 use borrow.Author.Needs.{needs}
 use Rattle.register.proofs.WholeLaws.{whole-length, whole-node, whole-local, whole-field, whole-gapped}
 use Rattle.register.proofs.WholeLaws.{whole-odd, whole-many, whole-short, whole-none, times-fits}
 use Rattle.register.proofs.whole.Statement.{statement}
 use Rattle.register.proofs.whole.Tie as tie
-use Rattle.register.proofs.whole.Reads as reads
-use Rattle.handle.proofs.Handle.decode.Reads as decode-reads
-use Rattle.handle.proofs.Handle.gapped.Reads as gapped-reads
-use Rattle.handle.proofs.Handle.node.Reads as node-reads
 
 returns : tie.Need-returns
 returns c = search (needs, whole-length)

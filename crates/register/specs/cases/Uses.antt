@@ -20,7 +20,6 @@ use mathlib.Core.List.{List}
 use lib.ListN.{length, getD}
 use Rattle.bits.specs.Sets.{has}
 use Rattle.bits.specs.Bytes.{Bytes}
-use Rattle.chain.specs.Way.{reached}
 use Rattle.chain.specs.Means.{IsRecord, Leaves, Again}
 use Rattle.handle.specs.declared.Handle.{Handle}
 use Rattle.handle.specs.Selectors.{references, gapped}

@@ -19,7 +19,7 @@ use mathlib.Core.Path.{_≡_}
 use mathlib.Core.List.{List, [], _++_}
 use lib.ListN.{length, getD, take, drop}
 use Rattle.chain.specs.Way.{reached, refusal}
-use Rattle.chain.specs.Means.{IsRecord, OnRecords}
+use Rattle.chain.specs.Means.{OnRecords}
 use Rattle.handle.specs.declared.Handle.{Handle}
 use Rattle.handle.specs.declared.Width.the-variants.{None}
 use Rattle.handle.specs.Selectors.{references, gapped, common, firstFlat}
@@ -30,7 +30,7 @@ use mathlib.Core.Bool.{Bool, true, false}
 use Rattle.handle.specs.Handles.{Name, nameOf, widthOf, noWidth, noSuchPlace, written, weakening}
 use Rattle.register.specs.declared.Told.{Told}
 use Rattle.register.specs.declared.Seen.{Seen}
-use Rattle.register.specs.declared.Narrowed.{Narrowed}
+use Rattle.register.specs.declared.work.Narrowed.{Narrowed}
 use Rattle.register.specs.Registers.{entries, parentOf, wayOf, given, made, lowest, oneIf, handleBytes}
 
 pub record Entry (e : List ℕ) (k : ℕ) : Type 0 where

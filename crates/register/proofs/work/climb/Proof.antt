@@ -1,11 +1,12 @@
+-- Before each turn the way has met `met` entries, which are kept in order, and is at `at`.
+-- Assumes nothing.
 use borrow.Author.Needs.{needs}
-use native.Mathlib.Omega.{arith}
 use mir.Facts.{fits-8-64}
 use Prim.Native.Nat.{_-_}
-use Rattle.register.proofs.ClimbLaws.{Climbing, climbing-none, climbing-more, climbing-few, climbing-met, climbing-flag, climbing-room}
+use Rattle.register.proofs.ClimbLaws.{Climbing, climbing-none, climbing-more, climbing-flag, climbing-room}
 use Rattle.register.proofs.ClimbLaws.{climbing-first, climbing-inside, climbs-link, climbs-loop, climbs-known}
-use Rattle.register.proofs.climb.Statement.{statement}
-use Rattle.register.proofs.climb.Tie as tie
+use Rattle.register.proofs.work.climb.Statement.{statement}
+use Rattle.register.proofs.work.climb.Tie as tie
 
 abbrev Inv-loop : tie.InvT-loop
 Inv-loop entries known path₀ from n at₀ met₀ path at met = Climbing entries known path₀ path from n met at

@@ -1,11 +1,11 @@
+-- Before each turn the openers among the first k entries stand at the start of the buffer.
+-- Assumes nothing.
 use mathlib.Core.Logic.{⊎-elim}
 use borrow.Author.Needs.{needs}
 use Prim.Native.Nat.{_-_}
 use Rattle.register.proofs.PutLaws.{Listing, listing-none, listing-inside, listing-opens-as, listing-not-as, listed-count, listed-put}
-use Rattle.register.proofs.list.Statement.{statement}
-use Rattle.register.proofs.list.Tie as tie
-use Rattle.register.proofs.list.Reads as reads
-use Rattle.handle.proofs.Handle.references.Reads as references-reads
+use Rattle.register.proofs.lay.list.Statement.{statement}
+use Rattle.register.proofs.lay.list.Tie as tie
 
 abbrev Inv-loop : tie.InvT-loop
 Inv-loop n segment buffer₀ handles count₀ k₀ buffer count k = Listing handles n segment buffer₀ buffer count k

@@ -2,8 +2,8 @@
 -- Assumes nothing.
 use mir.Facts.{fits-8-16}
 use borrow.Author.Needs.{needs}
-use Rattle.register.proofs.mask_of.Statement.{statement}
-use Rattle.register.proofs.mask_of.Tie as tie
+use Rattle.register.proofs.work.mask_of.Statement.{statement}
+use Rattle.register.proofs.work.mask_of.Tie as tie
 
 cast-result : tie.Need-cast-result
 cast-result c = fits-8-16 (search (needs, c .shared-slice-known .given))

@@ -2,8 +2,8 @@
 -- Assumes nothing.
 use Rattle.register.proofs.NarrowLaws.{code-has}
 use borrow.Author.Needs.{needs}
-use Rattle.register.proofs.has.Statement.{statement}
-use Rattle.register.proofs.has.Tie as tie
+use Rattle.register.proofs.lay.has.Statement.{statement}
+use Rattle.register.proofs.lay.has.Tie as tie
 
 returns : tie.Need-returns
 returns c = search (needs, code-has)

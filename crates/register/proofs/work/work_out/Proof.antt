@@ -10,8 +10,8 @@ use Rattle.register.proofs.WorkLaws.{Working, Descending, working-none,
 use Rattle.register.proofs.WorkLaws.{inner-holds, inner-ends, inner-returns, descending-entry, descending-more}
 use Rattle.register.proofs.WorkLaws.{descending-first, descending-byte, descending-fits, descending-inside, descending-place}
 use Rattle.register.proofs.WorkLaws.{descending-times, descending-sight, parent-byte, parent-fits, parent-times, parent-sight}
-use Rattle.register.proofs.work_out.Statement.{statement}
-use Rattle.register.proofs.work_out.Tie as tie
+use Rattle.register.proofs.work.work_out.Statement.{statement}
+use Rattle.register.proofs.work.work_out.Tie as tie
 
 abbrev Inv-loop2 : tie.InvT-loop2
 Inv-loop2 tables wanted entries n seen₀ handles₀ known₀ path k number met₀ seen handles known met =

@@ -2,8 +2,8 @@
 -- Assumes nothing.
 use Rattle.register.proofs.NarrowLaws.{first-fits, sees-of}
 use borrow.Author.Needs.{needs}
-use Rattle.register.proofs.seen_of.Statement.{statement}
-use Rattle.register.proofs.seen_of.Tie as tie
+use Rattle.register.proofs.work.seen_of.Statement.{statement}
+use Rattle.register.proofs.work.seen_of.Tie as tie
 
 returns : tie.Need-returns
 returns c = search (needs, sees-of)

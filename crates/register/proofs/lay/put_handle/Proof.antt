@@ -1,10 +1,9 @@
+-- The bytes that the handle is written as.
+-- Assumes nothing.
 use borrow.Author.Needs.{needs}
 use Rattle.register.proofs.PutLaws.{put-written}
-use Rattle.register.proofs.put_handle.Statement.{statement}
-use Rattle.register.proofs.put_handle.Tie as tie
-use Rattle.register.proofs.put_handle.Reads as reads
-use Rattle.handle.proofs.Handle.encode.Reads as encode-reads
-use Rattle.register.proofs.put.Reads as put-reads
+use Rattle.register.proofs.lay.put_handle.Statement.{statement}
+use Rattle.register.proofs.lay.put_handle.Tie as tie
 
 returns : tie.Need-returns
 returns c = search (needs, put-written)

@@ -2,8 +2,8 @@
 -- Assumes nothing.
 use Rattle.register.proofs.NarrowLaws.{weaker-cut, weaker-kept}
 use borrow.Author.Needs.{needs}
-use Rattle.register.proofs.weaker.Statement.{statement}
-use Rattle.register.proofs.weaker.Tie as tie
+use Rattle.register.proofs.work.weaker.Statement.{statement}
+use Rattle.register.proofs.work.weaker.Tie as tie
 
 returns : tie.Need-returns
 returns c = search (needs, weaker-cut)

@@ -2,8 +2,8 @@
 -- Assumes nothing.
 use Rattle.register.proofs.NarrowLaws.{narrow-empty, narrow-same, narrow-spent, narrow-cut}
 use borrow.Author.Needs.{needs}
-use Rattle.register.proofs.narrow.Statement.{statement}
-use Rattle.register.proofs.narrow.Tie as tie
+use Rattle.register.proofs.work.narrow.Statement.{statement}
+use Rattle.register.proofs.work.narrow.Tie as tie
 
 returns : tie.Need-returns
 returns c = search (needs, narrow-empty)

@@ -1,10 +1,10 @@
+-- Before each turn the first k handles stand at the start of the buffer.
+-- Assumes nothing.
 use borrow.Author.Needs.{needs}
 use Prim.Native.Nat.{_-_}
 use Rattle.register.proofs.PutLaws.{Laying, laying-none, laying-more, laying-fits, laying-few, laid-all}
-use Rattle.register.proofs.lay.Statement.{statement}
-use Rattle.register.proofs.lay.Tie as tie
-use Rattle.register.proofs.lay.Reads as reads
-use Rattle.register.proofs.put_handle.Reads as put-handle-reads
+use Rattle.register.proofs.lay.lay.Statement.{statement}
+use Rattle.register.proofs.lay.lay.Tie as tie
 
 abbrev Inv-loop : tie.InvT-loop
 Inv-loop n buffer₀ handles k₀ buffer k = Laying handles n buffer₀ buffer k

@@ -1,8 +1,10 @@
+-- Before each turn the first i bytes stand in their place.
+-- Assumes nothing.
 use borrow.Author.Needs.{needs}
 use Prim.Native.Nat.{_-_}
 use Rattle.register.proofs.PutLaws.{Putting, putting-none, putting-more, putting-inside, put-all}
-use Rattle.register.proofs.put.Statement.{statement}
-use Rattle.register.proofs.put.Tie as tie
+use Rattle.register.proofs.lay.put.Statement.{statement}
+use Rattle.register.proofs.lay.put.Tie as tie
 
 abbrev Inv-loop : tie.InvT-loop
 Inv-loop buffer₀ at bytes i₀ buffer i = Putting buffer₀ buffer at bytes i
