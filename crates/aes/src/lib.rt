@@ -1,5 +1,7 @@
 // AES-128 of FIPS 197, one byte at a time. The substitution table is lent to the rounds: a constant is laid out anew
 // wherever it is named, so whoever encrypts several blocks takes `tables()` once.
+#![tactic(auto)]
+
 ghost use Rattle.std.specs.Prelude.{◌≡◌, [], ◌∷◌, ◌*◌, ◌≤◌, min};
 ghost use Rattle.std.specs.Int.Bits.{bit_xor};
 ghost use Rattle.field.specs.Field.{dot};

@@ -1,6 +1,8 @@
 // Reads a list of calls from standard input, runs it from the starting store, and writes its text to standard output
 // (document 01, "The list of calls"). Where a read or a write fails, standard error says so; after a failed read nothing
 // has been written, and after a failed write the last line is missing.
+#![tactic(auto)]
+
 ghost use Rattle.std.specs.Prelude.{◌≡◌, ◌<◌, length};
 ghost use Rattle.io.specs.Counts.{IsPrefixLen};
 ghost use Rattle.list.specs.Records.{most_bytes};

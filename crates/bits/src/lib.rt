@@ -1,4 +1,6 @@
 // Numbers as sets of bits and as rows of bytes: laws for a width left open, and the number that two bytes hold.
+#![tactic(auto)]
+
 ghost use Rattle.std.specs.Prelude.{◌≡◌, [], ◌∷◌};
 ghost use Rattle.bits.specs.Bytes as bytes;
 

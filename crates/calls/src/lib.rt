@@ -1,5 +1,7 @@
 // The calls of document 01: `specs/` says what each gives and leaves; here are the codes of the calls and what code
 // answers.
+#![tactic(auto)]
+
 ghost use Rattle.std.specs.Prelude.{◌≡◌};
 ghost use Rattle.handle.specs.Handles.{laid};
 ghost use Rattle.calls.specs.Steps.{no_bytes};

@@ -1,5 +1,7 @@
 // The way from a record to zero (document 01, "The list of calls"): records of one width lie one after the other,
 // numbered from 1, and the first byte of each is the number of its next.
+#![tactic(auto)]
+
 ghost use Rattle.std.specs.Prelude.{◌≡◌, ◌/◌};
 ghost use Rattle.chain.specs.Bytes.{way_in};
 

@@ -2,6 +2,7 @@
 // is sound, the handle, that record and the call's other arguments, and tells the answer and the record as it is left; so
 // it serves a store of records and its image alike. A contract speaks of every store that holds what was given (`Given`).
 // No core touches a byte outside its memory, even where it is told of a soundness that is not so.
+#![tactic(auto)]
 
 mod bytes; // bytes.rt: reading, writing and looking
 mod change; // change.rt: the calls that change the record and no byte

@@ -1,4 +1,6 @@
 // A handle as a caller holds it: 28 bytes, of which the last tells how many of the others are the handle's own.
+#![tactic(auto)]
+
 ghost use Rattle.std.specs.Prelude.{◌≡◌};
 ghost use Rattle.handle.specs.Handles.{decoded};
 ghost use Rattle.codec.specs.Held as spec;

@@ -1,4 +1,6 @@
 // The field of 256 elements and the substitution of bytes: FIPS 197, section 4 and the table of section 5.1.1.
+#![tactic(auto)]
+
 ghost use Rattle.std.specs.Prelude.{◌≡◌};
 ghost use Rattle.field.specs.Field.{dot};
 

@@ -4,6 +4,8 @@
 // returns the number of the table, and gives no handle and zero counts, lengths and places with a refusal. A handle of none of
 // the three lengths is refused with 25, an image that holds no store with 1. A call judges soundness on the image's bytes,
 // reads the record of its cluster, has the core (`cluster`) do the call on it, and writes it back.
+#![tactic(auto)]
+
 ghost use Rattle.std.specs.Prelude.{◌≡◌};
 ghost use Rattle.codec.specs.Held.{bytes_held};
 ghost use Rattle.image.specs.Verdicts.{sound_in};

@@ -2,6 +2,8 @@
 // the records by value and the memory lent, and gives what `step` gives: a refused call leaves all as it was. It looks up the
 // record of the cluster that the call is about, has the core (`cluster`) do the call on it, and puts the record back where
 // the call may change it.
+#![tactic(auto)]
+
 ghost use Rattle.std.specs.Prelude.{◌≡◌, List, [], ℕ, ◌<◌, length};
 ghost use Rattle.sizes.specs.Sizes.{records};
 ghost use Rattle.store.specs.declared.Store as declared;

@@ -1,6 +1,8 @@
 // Handles (document 01, "The handle", and document 02, §8, their widths): what they reference, conversion, validation; their
 // bytes are in `codec`, weakening in `weaken`, reduction and joining in `sets`. A function whose name ends in `_with` is lent
 // the tables of the cipher, which a caller takes once.
+#![tactic(auto)]
+
 mod codec; // codec.rt: a handle from its bytes, and back
 mod sets; // sets.rt: reduction and joining, which put a set of segments in subselector 0
 mod weaken; // weaken.rt: weakening, and what it is refused with

@@ -1,4 +1,6 @@
 // The image of a store: its records as 3,648 bytes, for callers who keep the store themselves.
+#![tactic(auto)]
+
 ghost use Rattle.std.specs.Prelude.{◌≡◌, true};
 ghost use Rattle.store.specs.Records.{put_record};
 ghost use Rattle.image.specs.Images as images;

@@ -1,1 +1,2 @@
 // Laws alone: what the calls keep, two copies that run one list, and that readers alter nothing.
+#![tactic(auto)]

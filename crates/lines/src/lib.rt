@@ -1,5 +1,7 @@
 // The lines that `benchrun` writes (document 01, "The list of calls"), each put at the start of a lent buffer. An inner
 // function puts its text after the buffer's first `at` bytes and tells where it ends.
+#![tactic(auto)]
+
 ghost use Rattle.std.specs.Prelude.{◌+◌, ◌*◌, ◌≤◌, ◌<◌, ◌≡◌, [], ◌∷◌, ◌++◌, length, take};
 ghost use Rattle.handle.specs.Widths.{most_bytes};
 ghost use Rattle.handle.specs.Handles.{bytes_in};

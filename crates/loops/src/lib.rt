@@ -1,1 +1,2 @@
 // Laws alone: tests and searches over the numbers below a bound, and the loops that make them or fill an array.
+#![tactic(auto)]

@@ -1,4 +1,6 @@
 // What the measurements under bench/ call, over bytes and numbers alone. It is linked into them and nowhere else.
+#![tactic(auto)]
+
 ghost use Rattle.std.specs.Prelude.{◌≡◌, ◌<◌, length};
 ghost use Rattle.aes.specs.Cipher.{cipher};
 ghost use Rattle.loops.specs.Tabulate.{tabulate};

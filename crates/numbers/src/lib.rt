@@ -1,5 +1,7 @@
 // The numbers of document 01's table and of document 02 by their words, named once for all code; `specs/` has those that
 // definitions name.
+#![tactic(auto)]
+
 pub const UNSOUND: u8 = 1;
 
 pub const NO_SUCH_PLACE: u8 = 2;

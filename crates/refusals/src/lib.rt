@@ -1,5 +1,7 @@
 // The refusals that calls share, by what their tests look at: 25 in its two places, 1 to 5, 8 and 9 of the calls that open a
 // cluster by a handle, and 10 of those that need the write primary handle on its own node; and those of a join, which takes two.
+#![tactic(auto)]
+
 mod pair; // pair.rt: the refusals of a join
 
 ghost use Rattle.std.specs.Prelude.{◌≡◌};

@@ -1,4 +1,6 @@
 // A register of handles given out (document 02, §9). No store plays a part.
+#![tactic(auto)]
+
 ghost use Rattle.std.specs.Prelude.{◌≡◌, ◌≤◌, length};
 ghost use Rattle.handle.specs.Conversion.{product};
 ghost use Rattle.register.specs.Registers as spec;

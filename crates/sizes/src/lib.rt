@@ -1,4 +1,5 @@
 // The sizes that document 01 gives, named once for all code; `specs/` has the same for the definitions.
+#![tactic(auto)]
 
 // Nodes of the store, clusters of a node, segments that a cluster's record has room for; the records are the clusters of
 // all nodes.

@@ -1,5 +1,7 @@
 // A map of bits in words of 64: the bits of a span are set word by word, those of its first and its last word by masks; bits are
 // looked for word by word, the first in a word by the zeros below it.
+#![tactic(auto)]
+
 ghost use Rattle.std.specs.Prelude.{◌≡◌, suc, ◌-◌, ◌*◌, ◌^◌, ◌≤◌, ◌<◌, eqb, length, get_or, set};
 ghost use Rattle.std.specs.Int.Bits.{bit_and, bit_or};
 ghost use Rattle.bits.specs.Sets.{full};

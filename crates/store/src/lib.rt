@@ -1,4 +1,6 @@
 // The store of document 01: the clusters' records, whether they are sound, and where a new segment goes.
+#![tactic(auto)]
+
 mod placement; // placement.rt: the base of a new segment
 mod records; // records.rt: the parts of a record, read and replaced
 mod soundness; // soundness.rt: the test of the records and of the slice's length

@@ -3,6 +3,8 @@
 // the password 2b7e..4f3c by the parameters f3 and 8ef3, as `openssl enc -aes-128-ecb -nopad -K
 // 2b7e151628aed2a6abf7158809cf4f3c` encrypts fifteen zero bytes and the byte f3, and fourteen and the bytes 8e, f3; the first
 // is in docs/vectors/handles.txt too.
+#![tactic(auto)]
+
 use libc::STDOUT_FILENO;
 
 // The lower-case hexadecimal digit of a number below 16.
