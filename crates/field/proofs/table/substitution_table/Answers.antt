@@ -7,12 +7,8 @@ use Rattle.loops.specs.Below.{every}
 use Rattle.field.specs.Field.{product, remainder, times, dot, squares, inverse}
 use Rattle.field.specs.Substitution.{affine, sbox}
 use Rattle.field.proofs.SubstitutionLaws.{obeys, substitution_tested}
-use Rattle.field.proofs.table.substitution_table.Statement.{statement}
-use Rattle.field.proofs.table.substitution_table.Tie as tie
+use Rattle.field.proofs.table.substitution_table.Goals as goal
 
-returns : tie.Need-returns
+pub returns : goal.returns
 unfolding obeys every sbox affine set_of has xor inverse squares dot times remainder product
 returns c = substitution_tested _ refl refl
-
-pub substitution-table-spec : {M : Type 1} → statement M
-substitution-table-spec = tie.close (tie.spec returns)

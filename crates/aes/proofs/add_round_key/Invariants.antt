@@ -1,0 +1,20 @@
+-- Before turn i the first i bytes have the key added.
+-- Assumes nothing.
+use mathlib.Core.Path.{refl, ap₂}
+use mathlib.Core.List.{List}
+use Prim.Native.Nat.{ℕ, ◌-◌}
+use borrow.Author.Rules.{rules}
+use lib.Bits.{bit_xor}
+use Rattle.loops.proofs.TabulateLaws.{Filled, filled_none, filled_more, filled_all}
+use Rattle.aes.specs.Transformations.{cell, add_round_key}
+use Rattle.aes.proofs.StateLaws.{cells, cell_at}
+use Rattle.aes.proofs.add_round_key.Given as goal
+
+abbrev byte : List ℕ → List ℕ → ℕ → ℕ
+byte s k = cells (λ r c. bit_xor (cell s r c) (cell k r c))
+
+abbrev pub invariant-loop-i : goal.invariant-loop-i
+invariant-loop-i l = Filled 16 (byte l.s l.k) 0 l.i l.r
+
+abbrev pub decreases-loop-i : goal.decreases-loop-i
+decreases-loop-i l = 16 - l.i
