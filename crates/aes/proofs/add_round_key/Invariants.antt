@@ -1,13 +1,11 @@
 -- Before turn i the first i bytes have the key added.
 -- Assumes nothing.
-use mathlib.Core.Path.{refl, ap₂}
 use mathlib.Core.List.{List}
 use Prim.Native.Nat.{ℕ, ◌-◌}
-use borrow.Author.Rules.{rules}
 use lib.Bits.{bit_xor}
-use Rattle.loops.proofs.TabulateLaws.{Filled, filled_none, filled_more, filled_all}
-use Rattle.aes.specs.Transformations.{cell, add_round_key}
-use Rattle.aes.proofs.StateLaws.{cells, cell_at}
+use Rattle.loops.proofs.TabulateLaws.{Filled}
+use Rattle.aes.specs.Transformations.{cell}
+use Rattle.aes.proofs.StateLaws.{cells}
 use Rattle.aes.proofs.add_round_key.Given as goal
 
 abbrev byte : List ℕ → List ℕ → ℕ → ℕ

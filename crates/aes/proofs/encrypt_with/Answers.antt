@@ -1,8 +1,5 @@
-use Prim.Native.Nat.{◌-◌}
 use borrow.Author.Rules.{rules}
-use Rattle.aes.proofs.CipherLaws.{Rounds, rounds_none, rounds_more, rounds_all}
-use Rattle.aes.proofs.encrypt_with.Reads as reads
-use Rattle.aes.proofs.encrypt_with.Lts as lts
+use Rattle.aes.proofs.CipherLaws.{rounds_none, rounds_more, rounds_all}
 use Rattle.aes.proofs.encrypt_with.Goals as goal
 
 pub loop-i-init : goal.loop-i-init

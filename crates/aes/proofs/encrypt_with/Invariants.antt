@@ -1,10 +1,7 @@
 -- Before turn i, i whole rounds are done and the key is the round key of round i.
 -- Assumes nothing.
 use Prim.Native.Nat.{◌-◌}
-use borrow.Author.Rules.{rules}
-use Rattle.aes.proofs.CipherLaws.{Rounds, rounds_none, rounds_more, rounds_all}
-use Rattle.aes.proofs.encrypt_with.Reads as reads
-use Rattle.aes.proofs.encrypt_with.Lts as lts
+use Rattle.aes.proofs.CipherLaws.{Rounds}
 use Rattle.aes.proofs.encrypt_with.Given as goal
 
 abbrev pub invariant-loop-i : goal.invariant-loop-i

@@ -3,7 +3,6 @@
 -- four columns, byte by byte
 use mathlib.Core.List.{List, [], ◌∷◌}
 use Prim.Native.Nat.{ℕ}
-use borrow.Author.Rules.{rules}
 use lib.ListN.{get_or}
 use Rattle.loops.specs.Tabulate.{tabulate}
 use Rattle.aes.specs.Transformations.{mix_columns}

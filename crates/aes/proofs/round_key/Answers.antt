@@ -1,6 +1,5 @@
-use Prim.Native.Nat.{◌-◌}
 use borrow.Author.Rules.{rules}
-use Rattle.aes.proofs.KeyExpansionLaws.{Keys, keys_none, keys_more, keys_there, keys_last}
+use Rattle.aes.proofs.KeyExpansionLaws.{keys_none, keys_more, keys_there, keys_last}
 use Rattle.aes.proofs.round_key.Goals as goal
 
 pub loop-i-init : goal.loop-i-init

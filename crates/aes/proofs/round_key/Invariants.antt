@@ -1,8 +1,7 @@
 -- Before turn i the key is the round key of round i.
 -- Assumes nothing.
 use Prim.Native.Nat.{◌-◌}
-use borrow.Author.Rules.{rules}
-use Rattle.aes.proofs.KeyExpansionLaws.{Keys, keys_none, keys_more, keys_there, keys_last}
+use Rattle.aes.proofs.KeyExpansionLaws.{Keys}
 use Rattle.aes.proofs.round_key.Given as goal
 
 abbrev pub invariant-loop-i : goal.invariant-loop-i

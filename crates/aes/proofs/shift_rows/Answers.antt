@@ -1,7 +1,6 @@
 -- Sixteen bytes, each in its place by computation.
 -- Assumes nothing.
 use mathlib.Core.Path.{refl}
-use borrow.Author.Rules.{rules}
 use Rattle.loops.specs.Tabulate.{tabulate}
 use Rattle.aes.specs.Transformations.{shift_rows}
 use Rattle.aes.proofs.shift_rows.Goals as goal
