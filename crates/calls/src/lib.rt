@@ -35,7 +35,7 @@ pub const JOIN: u8 = 11;
 
 // What a call answers: its number; the handles, the count and the length that it gives; zero where it gives none, and of a
 // handle the length 0.
-#[derive(Drop)]
+#[derive(Clone, Copy)]
 pub struct Answer {
     pub number: u8,
     pub first: HandleBytes,
@@ -45,28 +45,28 @@ pub struct Answer {
 }
 
 // The records that a call leaves, and its answer.
-#[derive(Drop)]
+#[derive(Clone, Copy)]
 pub struct Left {
     pub store: Store,
     pub answer: Answer,
 }
 
 // A part of the memory: where it begins and where it ends, the first byte behind it. A part of no bytes goes from 0 to 0.
-#[derive(Drop)]
+#[derive(Clone, Copy)]
 pub struct Part {
     pub from: usize,
     pub to: usize,
 }
 
 // What a look tells: its number, and the part of the memory that is the segment; of a refused look a part of no bytes.
-#[derive(Drop)]
+#[derive(Clone, Copy)]
 pub struct Looked {
     pub number: u8,
     pub part: Part,
 }
 
 // The record that a call leaves of the cluster that it is about, and its answer.
-#[derive(Drop)]
+#[derive(Clone, Copy)]
 pub struct RecordLeft {
     pub cluster: Cluster,
     pub answer: Answer,

@@ -8,7 +8,7 @@ ghost use Rattle.chain.specs.Bytes.{way_in};
 use numbers::{LINK, LOOP};
 
 // The answer for a way: 0 and how many records it meets; or the number of the refusal and 0.
-#[derive(Drop)]
+#[derive(Clone, Copy)]
 pub struct Walked {
     pub number: u8,
     pub records: usize,

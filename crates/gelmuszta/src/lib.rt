@@ -51,7 +51,7 @@ pub extern "C" fn gelmuszta_version() -> u32
 
 // What a call finds in an image: the number and the record of its cluster, the first where there is no such place; whether
 // the image holds a sound store.
-#[derive(Drop)]
+#[derive(Clone, Copy)]
 struct Located {
     at: usize,
     cluster: Cluster,
@@ -69,7 +69,7 @@ fn locate(image: &[u8; IMAGE], node: usize, local: usize, sound: bool) -> Locate
 
 // The same for the cluster that a handle names, the handle, and what its length and the image are turned down with before
 // all else.
-#[derive(Drop)]
+#[derive(Clone, Copy)]
 struct Opened {
     handle: Handle,
     at: usize,
@@ -116,7 +116,7 @@ fn opened_by(image: &[u8; IMAGE], handle: Handle, sound: bool) -> Opened
 }
 
 // The same, and the base of a new segment of `size` bytes on the handle's node.
-#[derive(Drop)]
+#[derive(Clone, Copy)]
 struct Sited {
     opened: Opened,
     found: Found,

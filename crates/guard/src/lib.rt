@@ -30,7 +30,7 @@ pub fn weaken(bytes: &[u8], mask: u16) -> Answer
 
 // What a call that opens a cluster begins with: the handle; the number and the record of its cluster, the first where there
 // is no such place; whether the store is sound.
-#[derive(Drop)]
+#[derive(Clone, Copy)]
 struct Opened {
     handle: Handle,
     at: usize,

@@ -8,7 +8,7 @@
 --                        other: bytes of the lengths beside these hold no handle, whatever they are, nor does none at all
 --                        none, reply: no handle has no bytes; bytes laid out in a reply are there, more than a handle's too
 -- Assumes nothing.
-use Rattle.std.specs.Prelude.{ℕ, ◌≡◌, List, [], ◌∷◌, ◌++◌, length, replicate}
+use Rattle.std.specs.Prelude.{ℕ, ◌≡◌, List, [], ◌∷◌, length}
 use Rattle.handle.specs.declared.Handle.{Handle}
 use Rattle.handle.specs.declared.Width.{Width}
 use Rattle.handle.specs.declared.Width.TheVariants.{Four, Eight, Sixteen}

@@ -11,7 +11,7 @@
 --                        last of sixteen bytes, after fifteen zeros
 --     WordConverted      what a parameter of two bytes encrypts, as at width 16: fourteen zeros, its high byte and its low one
 -- Assumes nothing.
-use Rattle.std.specs.Prelude.{ℕ, ◌/◌, ◌%◌, ◌<◌, ◌≡◌, ◌⊎◌, true, List, [], ◌∷◌, ◌++◌, eqb, length, get_or, take, drop, replicate}
+use Rattle.std.specs.Prelude.{ℕ, ◌/◌, ◌%◌, ◌<◌, ◌≡◌, ◌⊎◌, List, [], ◌∷◌, ◌++◌, eqb, length, get_or, take, drop, replicate}
 use Rattle.bits.specs.Bytes.{bytes, word, Bytes}
 use Rattle.aes.specs.Cipher.{cipher}
 use Rattle.handle.specs.declared.Handle.{Handle}

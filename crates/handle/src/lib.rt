@@ -48,7 +48,7 @@ const LONGER: u8 = 23;
 const LONGEST: u8 = 27;
 
 // How many segments a cluster has, and how many bits a subselector of its handles; none for what is no handle.
-#[derive(Drop)]
+#[derive(Clone, Copy)]
 pub enum Width {
     None,
     Four,
@@ -111,7 +111,7 @@ impl Width {
 }
 
 // What opens some segments of the cluster that it names by node and local number.
-#[derive(Drop)]
+#[derive(Clone, Copy)]
 pub struct Handle {
     pub node: u16,
     pub local: u8,
@@ -121,7 +121,7 @@ pub struct Handle {
 }
 
 // The bytes of a handle, as many as `length` tells, and then zeros.
-#[derive(Drop)]
+#[derive(Clone, Copy)]
 pub struct HandleBytes {
     pub length: u8,
     pub bytes: [u8; HANDLE_BYTES],
@@ -129,7 +129,7 @@ pub struct HandleBytes {
 
 // The reply of a weakening: 0, the new handle and how many segments it references; or the number of the refusal, no
 // handle and 0.
-#[derive(Drop)]
+#[derive(Clone, Copy)]
 pub struct Weakened {
     pub number: u8,
     pub handle: Handle,

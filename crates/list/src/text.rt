@@ -56,7 +56,7 @@ pub fn check(list: &[u8]) -> Walked
 }
 
 // What is left by a record: the store, the next record, and how many bytes its line has.
-#[derive(Drop)]
+#[derive(Clone, Copy)]
 struct Ran {
     store: Store,
     next: usize,

@@ -29,14 +29,14 @@ const HANDLE: usize = 23;
 const LAST: usize = 7;
 
 // The answer of a question: 0, or the number of the refusal and the lowest entry that fails, 0 for the call as a whole.
-#[derive(Drop)]
+#[derive(Clone, Copy)]
 pub struct Told {
     pub number: u8,
     pub entry: usize,
 }
 
 // The answer of the second question: also how many entries open the segment.
-#[derive(Drop)]
+#[derive(Clone, Copy)]
 pub struct Opened {
     pub number: u8,
     pub entry: usize,
@@ -44,7 +44,7 @@ pub struct Opened {
 }
 
 // What the weakenings of a handle go by: a bit for each segment that it references, and its first flat subselector.
-#[derive(Drop)]
+#[derive(Clone, Copy)]
 struct Seen {
     set: u16,
     flat: u16,
@@ -52,7 +52,7 @@ struct Seen {
 
 // The answer for the entries. Where it is 0: what was seen of the handles of all, and these, if they were asked for; what
 // belongs to the handle supplied stands at 0.
-#[derive(Drop)]
+#[derive(Clone, Copy)]
 struct Worked {
     told: Told,
     seen: [Seen; ROOM],

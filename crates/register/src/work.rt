@@ -15,14 +15,14 @@ use numbers::{EMPTY, LINK, LOOP, SPENT};
 const CUTS: u16 = 4;
 
 // Where a climb ends: 0 and how many entries it met before one whose handle is known; or the number of the way.
-#[derive(Drop)]
+#[derive(Clone, Copy)]
 struct Climbed {
     number: u8,
     met: usize,
 }
 
 // What a mask makes of it: 0, whether the handle is cut, and what is left; or the number of the refusal.
-#[derive(Drop)]
+#[derive(Clone, Copy)]
 struct Narrowed {
     number: u8,
     cut: bool,
