@@ -15,14 +15,14 @@ use sizes::{Password, RECORDS, SEGMENTS};
 pub use soundness::{MAP_WORDS, sound};
 
 // A segment is absent, or present with a base within its node's memory and a length.
-#[derive(Drop)]
+#[derive(Clone, Copy)]
 pub enum Place {
     Absent,
     Present { base: u16, length: u16 },
 }
 
 // Where a segment lies, and its mark: frozen or not. In a sound store an absent one is not.
-#[derive(Drop)]
+#[derive(Clone, Copy)]
 pub struct Segment {
     pub place: Place,
     pub frozen: bool,
@@ -30,7 +30,7 @@ pub struct Segment {
 
 // A cluster's record: whether it is active, its width (4, 8 or 16 segments, 0 while it is inactive), its two primary
 // passwords, its segments. In a sound store those at or above the width are absent.
-#[derive(Drop)]
+#[derive(Clone, Copy)]
 pub struct Cluster {
     pub active: bool,
     pub width: u8,
@@ -40,13 +40,13 @@ pub struct Cluster {
 }
 
 // The records of all clusters, node 0 first: local number l of node v is record v * CLUSTERS + l.
-#[derive(Drop)]
+#[derive(Clone, Copy)]
 pub struct Store {
     pub clusters: [Cluster; RECORDS],
 }
 
 // The answer of placement: the base, or that there is none.
-#[derive(Drop)]
+#[derive(Clone, Copy)]
 pub enum Found {
     At(usize),
     Nowhere,

@@ -1,0 +1,14 @@
+-- The loop tells whether the segments so far are absent.
+-- Assumes nothing.
+use Prim.Native.Nat.{◌-◌}
+use Rattle.loops.proofs.RunningLaws.{Running}
+use Rattle.sizes.specs.Sizes.{segments}
+use Rattle.store.specs.Records.{table_of, place_of}
+use Rattle.store.specs.Sound.{is_absent}
+use Rattle.store.proofs.soundness.empty.Given as goal
+
+abbrev pub invariant-loop-i : goal.invariant-loop-i
+invariant-loop-i l = Running segments (λ k. is_absent (place_of (table_of l.cluster) k)) l.i l.ok
+
+abbrev pub decreases-loop-i : goal.decreases-loop-i
+decreases-loop-i l = segments - l.i

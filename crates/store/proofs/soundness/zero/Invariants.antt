@@ -1,0 +1,14 @@
+-- The loop tells whether the bytes so far are zero.
+-- Assumes nothing.
+use Prim.Native.Nat.{◌-◌}
+use lib.Dec.{eqb}
+use lib.ListN.{get_or}
+use Rattle.loops.proofs.RunningLaws.{Running}
+use Rattle.sizes.specs.Sizes.{password_bytes}
+use Rattle.store.proofs.soundness.zero.Given as goal
+
+abbrev pub invariant-loop-i : goal.invariant-loop-i
+invariant-loop-i l = Running password_bytes (λ k. eqb (get_or l.password k 0) 0) l.i l.ok
+
+abbrev pub decreases-loop-i : goal.decreases-loop-i
+decreases-loop-i l = password_bytes - l.i
