@@ -59,7 +59,7 @@ module _ (w : ℕ) (f : List ℕ → ℕ → List ℕ) (p : List ℕ) where
   opens_cut name {r} [] h o e = opens_as w f name p o (λ i l. sym (and-true (r i)))
   opens_cut name {r} (m ∷ ms) h o e =
       opens_as w f name p
-      (opens_cut name ms (weakening w f h m).handle (opens_weakening w f name p h o m (number_done w f h m e.0)) e.1)
+      (opens_cut name {r = λ i. r i && has i m} ms (weakening w f h m).handle (opens_weakening w f name p h o m (number_done w f h m e.0)) e.1)
       (λ i l. and_assoc (r i) (has i m) (kept ms i))
 
   any_cuts : (h : Handle) → Valid w f p h → AnyCuts w f p h

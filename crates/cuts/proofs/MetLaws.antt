@@ -101,7 +101,7 @@ low_by : (v : Wide) (p : List ℕ) → Bytes 16 p → (i : ℕ) → get_or (by p
 low_by v p o =
     low_after (0 ∷ 3 ∷ 7 ∷ []) (p ++ (written v).whole) (low (0 ∷ 3 ∷ 7 ∷ []) refl)
     (low_after p (written v).whole o.below
-    (low (written v).whole (elim v [ of_four ↦ refl | of_eight ↦ refl | of_sixteen ↦ refl ])))
+    (low (written v).whole (elim v as (λ (u : Wide). low_bytes (written u).whole ≡ true) [ of_four ↦ refl | of_eight ↦ refl | of_sixteen ↦ refl ])))
 
 module _ (f : Name → List ℕ → ℕ → List ℕ) (v : Wide) (r w : List ℕ) (b c d y z : ℕ) where
   abbrev on : Copy
@@ -163,7 +163,7 @@ module _ (f : Name → List ℕ → ℕ → List ℕ) (v : Wide) (r w : List ℕ
           both =
               subst (λ (n : ℕ). Both n t.first t.second t.shared) (sym (ap width_of back))
               (both_tested (bits_of (kind v)) t.first t.second t.shared
-              (elim v [ of_four ↦ refl | of_eight ↦ refl | of_sixteen ↦ refl ]));
+              (elim v as (λ (u : Wide). every (bits_of (kind u)) (λ i. same (has i (written u).shared) (has i (written u).first && has i (written u).second)) ≡ true) [ of_four ↦ refl | of_eight ↦ refl | of_sixteen ↦ refl ]));
           done = λ x. (gives x).done;
           gives = λ x. (gives x).bytes;
         }

@@ -94,54 +94,61 @@ module _ (f : Name → List ℕ → ℕ → List ℕ) (p : List ℕ) (v : Wide) 
         reductions = both ∷ both ∷ both ∷ [];
       }
 
-  sheet : computed ≡ expected
-  unfolding encoded packed bytes has set_of count weaken_number weakened weakening reduced
-  sheet = elim v [ of_four ↦ refl | of_eight ↦ refl | of_sixteen ↦ refl ]
+sheet : (f : Name → List ℕ → ℕ → List ℕ) (p : List ℕ) (v : Wide) → computed f p v ≡ expected f p v
+unfolding encoded packed bytes has set_of count weaken_number weakened weakening reduced
+sheet f p of_four = refl
+sheet f p of_eight = refl
+sheet f p of_sixteen = refl
 
-  low : Within (bits_of (kind v)) (t.by_first ∷ t.then_second ∷ t.by_second ∷ t.then_first ∷ t.by_shared ∷ flat v ∷ [])
-  low = elim v [ of_four ↦ omega arith | of_eight ↦ omega arith | of_sixteen ↦ omega arith ]
+low : (v : Wide)
+    → let t = L.written v in
+    Within (bits_of (kind v)) (t.by_first ∷ t.then_second ∷ t.by_second ∷ t.then_first ∷ t.by_shared ∷ flat v ∷ [])
+low of_four = omega arith
+low of_eight = omega arith
+low of_sixteen = omega arith
 
+module _ (f : Name → List ℕ → ℕ → List ℕ) (p : List ℕ) (v : Wide) where
   abbrev name : Name
   name = record { node = 3; local = 7 }
 
   -- each handle can be held
-  pub whole_holds : length p ≡ 16 → Holdable whole
+  pub whole_holds : length p ≡ 16 → Holdable (whole f p v)
   whole_holds l =
-      let u = low.1.1.1.1.1.0 in holds v p (flat v) (flat v) (flat v) (flat v) l (u, (u, (u, (u, tt))))
+      let u = (low v).1.1.1.1.1.0 in holds v p (flat v) (flat v) (flat v) (flat v) l (u, (u, (u, (u, tt))))
 
-  pub whole_bytes : encoded whole ≡ by p t.whole
-  whole_bytes = ap (λ (a : Sheet). get_or a.bytes 0 []) sheet
+  pub whole_bytes : encoded (whole f p v) ≡ by p (t f p v).whole
+  whole_bytes = ap (λ (a : Sheet f p v). get_or a.bytes 0 []) (sheet f p v)
 
-  pub whole_back : length p ≡ 16 → decoded (by p t.whole) ≡ whole
-  whole_back l = ap decoded (sym whole_bytes) ∙ decode_encode whole (whole_holds l)
+  pub whole_back : length p ≡ 16 → decoded (by p (t f p v).whole) ≡ (whole f p v)
+  whole_back l = ap decoded (sym whole_bytes) ∙ decode_encode (whole f p v) (whole_holds l)
 
   module _ (sixteen : SixteenBytes f) where
     cut_holds : (q : List ℕ) (n x y : ℕ) → x < 2 ^ bits_of (kind v) → y < 2 ^ bits_of (kind v)
-        → Holdable (of v (G q n) (x ∷ y ∷ flat v ∷ flat v ∷ []))
+        → Holdable (of v ((g f) q n) (x ∷ y ∷ flat v ∷ flat v ∷ []))
     cut_holds q n x y i j =
-        let u = low.1.1.1.1.1.0 in holds v (G q n) x y (flat v) (flat v) (sixteen name q n) (i, (j, (u, (u, tt))))
+        let u = (low v).1.1.1.1.1.0 in holds v ((g f) q n) x y (flat v) (flat v) (sixteen name q n) (i, (j, (u, (u, tt))))
 
-    one_holds : Holdable one
-    one_holds = cut_holds p t.by_first t.by_first (flat v) low.0 low.1.1.1.1.1.0
+    one_holds : Holdable (one f p v)
+    one_holds = cut_holds p (t f p v).by_first (t f p v).by_first (flat v) (low v).0 (low v).1.1.1.1.1.0
 
-    one_two_holds : Holdable one_two
-    one_two_holds = cut_holds (G p t.by_first) t.then_second t.by_first t.then_second low.0 low.1.0
+    one_two_holds : Holdable (one_two f p v)
+    one_two_holds = cut_holds ((g f) p (t f p v).by_first) (t f p v).then_second (t f p v).by_first (t f p v).then_second (low v).0 (low v).1.0
 
-    two_holds : Holdable two
-    two_holds = cut_holds p t.by_second t.by_second (flat v) low.1.1.0 low.1.1.1.1.1.0
+    two_holds : Holdable (two f p v)
+    two_holds = cut_holds p (t f p v).by_second (t f p v).by_second (flat v) (low v).1.1.0 (low v).1.1.1.1.1.0
 
-    two_one_holds : Holdable two_one
-    two_one_holds = cut_holds (G p t.by_second) t.then_first t.by_second t.then_first low.1.1.0 low.1.1.1.0
+    two_one_holds : Holdable (two_one f p v)
+    two_one_holds = cut_holds ((g f) p (t f p v).by_second) (t f p v).then_first (t f p v).by_second (t f p v).then_first (low v).1.1.0 (low v).1.1.1.0
 
     -- and is read back from its bytes
-    pub one_two_back : decoded (by (G (G p t.by_first) t.then_second) t.one_two) ≡ one_two
-    one_two_back = ap (λ (a : Sheet). decoded (get_or a.bytes 2 [])) (sym sheet) ∙ decode_encode one_two one_two_holds
+    pub one_two_back : decoded (by ((g f) ((g f) p (t f p v).by_first) (t f p v).then_second) (t f p v).one_two) ≡ (one_two f p v)
+    one_two_back = ap (λ (a : Sheet f p v). decoded (get_or a.bytes 2 [])) (sym (sheet f p v)) ∙ decode_encode (one_two f p v) one_two_holds
 
-    pub two_one_back : decoded (by (G (G p t.by_second) t.then_first) t.two_one) ≡ two_one
-    two_one_back = ap (λ (a : Sheet). decoded (get_or a.bytes 4 [])) (sym sheet) ∙ decode_encode two_one two_one_holds
+    pub two_one_back : decoded (by ((g f) ((g f) p (t f p v).by_second) (t f p v).then_first) (t f p v).two_one) ≡ (two_one f p v)
+    two_one_back = ap (λ (a : Sheet f p v). decoded (get_or a.bytes 4 [])) (sym (sheet f p v)) ∙ decode_encode (two_one f p v) two_one_holds
 
-    both_holds : Holdable both
-    both_holds = cut_holds p t.by_shared t.by_shared (flat v) low.1.1.1.1.0 low.1.1.1.1.1.0
+    both_holds : Holdable (both f p v)
+    both_holds = cut_holds p (t f p v).by_shared (t f p v).by_shared (flat v) (low v).1.1.1.1.0 (low v).1.1.1.1.1.0
 
 -- ---- the calls of the three ways
 
@@ -163,15 +170,31 @@ module _ (f : Name → List ℕ → ℕ → List ℕ) (sixteen : SixteenBytes f)
   shown_read : Shown 1 r
   shown_read = record {
     primary = refl;
-    ends = elim v [ of_four ↦ refl | of_eight ↦ refl | of_sixteen ↦ refl ];
-    none = elim v [ of_four ↦ refl | of_eight ↦ refl | of_sixteen ↦ refl ];
+    ends =
+        elim v as (λ (u : Wide).
+        map (λ (k : Handle). through (width_of k) (f (name_of k)) k.selector (from f u r w b c d y z k 1)) (whole f r u ∷ one_two f r u ∷ two_one f r u ∷ both f r u ∷ [])
+        ≡ map (λ (k : Handle). k.password) (whole f r u ∷ one_two f r u ∷ two_one f r u ∷ both f r u ∷ []))
+        [ of_four ↦ refl | of_eight ↦ refl | of_sixteen ↦ refl ];
+    none =
+        elim v as (λ (u : Wide).
+        map (λ (k : Handle). by_tests f u r w b c d y z k 1 true true) (whole f r u ∷ one_two f r u ∷ two_one f r u ∷ both f r u ∷ [])
+        ≡ 0 ∷ 0 ∷ 0 ∷ 0 ∷ [])
+        [ of_four ↦ refl | of_eight ↦ refl | of_sixteen ↦ refl ];
   }
 
   shown_write : Shown 2 w
   shown_write = record {
     primary = refl;
-    ends = elim v [ of_four ↦ refl | of_eight ↦ refl | of_sixteen ↦ refl ];
-    none = elim v [ of_four ↦ refl | of_eight ↦ refl | of_sixteen ↦ refl ];
+    ends =
+        elim v as (λ (u : Wide).
+        map (λ (k : Handle). through (width_of k) (f (name_of k)) k.selector (from f u r w b c d y z k 2)) (whole f w u ∷ one_two f w u ∷ two_one f w u ∷ both f w u ∷ [])
+        ≡ map (λ (k : Handle). k.password) (whole f w u ∷ one_two f w u ∷ two_one f w u ∷ both f w u ∷ []))
+        [ of_four ↦ refl | of_eight ↦ refl | of_sixteen ↦ refl ];
+    none =
+        elim v as (λ (u : Wide).
+        map (λ (k : Handle). by_tests f u r w b c d y z k 2 true true) (whole f w u ∷ one_two f w u ∷ two_one f w u ∷ both f w u ∷ [])
+        ≡ 0 ∷ 0 ∷ 0 ∷ 0 ∷ [])
+        [ of_four ↦ refl | of_eight ↦ refl | of_sixteen ↦ refl ];
   }
 
   module _ (m : ℕ) (p : List ℕ) (l : length p ≡ 16) (h : Shown m p) where

@@ -1,0 +1,8 @@
+-- The core, on what was looked up.
+-- Assumes nothing.
+use mathlib.Core.Path.{refl}
+use borrow.Author.Rules.{rules}
+use Rattle.guard.proofs.read.Goals as goal
+
+pub returns : goal.returns
+returns c = c.read.ensures _ _ (c.look_up-o.ensures.given _ refl)

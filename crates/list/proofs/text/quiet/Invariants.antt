@@ -1,0 +1,17 @@
+-- The loop tells whether no record so far is a read.
+-- Assumes nothing.
+use Prim.Native.Nat.{suc, ◌-◌}
+use mathlib.Core.Bool.{not}
+use Rattle.loops.proofs.RunningLaws.{Running, running_none, running_more, running_all}
+use Rattle.chain.specs.Bytes.{count}
+use Rattle.list.specs.Records.{record_bytes}
+use Rattle.list.specs.Texts.{is_read, quiet}
+use Rattle.list.proofs.RoomLaws.{read_at}
+use borrow.Author.Rules.{rules}
+use Rattle.list.proofs.text.quiet.Given as goal
+
+abbrev pub invariant-loop-i : goal.invariant-loop-i
+invariant-loop-i l = Running (count l.list record_bytes) (λ k. not (is_read l.list (suc k))) l.i l.ok
+
+abbrev pub decreases-loop-i : goal.decreases-loop-i
+decreases-loop-i l = l.n - l.i

@@ -1,0 +1,17 @@
+-- The lines so far, and those of the records ahead, are the lines of the chain.
+-- Assumes nothing.
+use Prim.Native.Nat.{◌-◌}
+use Rattle.list.proofs.RunLaws.{Going, going_none, going_reach, going_more, going_all, going_ends}
+use Rattle.list.proofs.RunLaws.{going_inside, going_fits}
+use borrow.Author.Rules.{rules}
+use Rattle.list.proofs.text.run_calls.Reads as reads
+use Rattle.list.proofs.text.one.Reads as one-reads
+use Rattle.store.proofs.starting.Reads as starting-reads
+use Rattle.list.proofs.text.run_calls.Given as goal
+
+abbrev pub invariant-loop-i : goal.invariant-loop-i
+invariant-loop-i l =
+    Going l.list l.total l.initial.memory l.initial.buffer l.initial.out l.store l.memory l.buffer l.out l.at l.i l.end
+
+abbrev pub decreases-loop-i : goal.decreases-loop-i
+decreases-loop-i l = l.total - l.i
