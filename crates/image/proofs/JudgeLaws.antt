@@ -129,8 +129,8 @@ module _ (b : List ℕ) where
   abbrev all_fine : Bool
   all_fine = every nodes (λ v. every clusters (fine v))
 
-  abbrev all_sound_lem : Bool
-  all_sound_lem = every nodes (λ v. every clusters (sounds v))
+  abbrev all_sound : Bool
+  all_sound = every nodes (λ v. every clusters (sounds v))
 
   all_fine_lem : all_fine ≡ good b
   unfolding good
@@ -145,7 +145,7 @@ module _ (b : List ℕ) where
       split : (n : ℕ) → record_of (n / clusters) (n % clusters) ≡ n
       split n = omega arith
 
-  both : every nodes (λ v. every clusters (passes v)) ≡ all_fine && all_sound_lem
+  both : every nodes (λ v. every clusters (passes v)) ≡ all_fine && all_sound
   both =
       every_same nodes (λ v. every clusters (passes v)) (λ v. every clusters (fine v) && every clusters (sounds v))
       (λ v hv.
@@ -153,9 +153,9 @@ module _ (b : List ℕ) where
       ∙ every_both clusters (fine v) (sounds v))
       ∙ every_both nodes (λ v. every clusters (fine v)) (λ v. every clusters (sounds v))
 
-  all_sound_lem : all_sound_lem ≡ sound (store_in b) memory
+  all_sound_lem : all_sound ≡ sound (store_in b) memory
   all_sound_lem =
-      tested_told (store_in b) memory nodes all_sound_lem (record { low = omega arith; told = refl }) (omega arith)
+      tested_told (store_in b) memory nodes all_sound (record { low = omega arith; told = refl }) (omega arith)
 
   -- the loop over the nodes has come to its end
   nodes_told : (node : ℕ) (ok : Bool) → Running nodes (λ v. every clusters (passes v)) node ok → nodes ≤ node

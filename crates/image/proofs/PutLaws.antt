@@ -138,7 +138,7 @@ module _ (b : List ℕ) (n : ℕ) (c : Cluster) where
   module _ (long : length b ≡ image_bytes) (known : (i : ℕ) → Fits w8 (get_or b i 0)) where
     left : (after : List ℕ) → after ≡ with_record b n c
         → (after ≡ with_record b n c) × (good b ≡ true → after ≡ image_of (put_record (store_in b) n c))
-    left after e = (e, λ g. e ∙ with_store (record { long = long; below = λ i. (known i).fits }) g)
+    left _ e = (e, λ g. e ∙ with_store (record { long = long; below = λ i. (known i).fits }) g)
 
     pub put_none : records ≤ n
         → (b ≡ with_record b n c) × (good b ≡ true → b ≡ image_of (put_record (store_in b) n c))

@@ -34,7 +34,7 @@ const SEGMENTS_AT: usize = 34;
 const MARK_AT: usize = 4;
 
 // What was judged of an image: whether it holds a sound store, and the base of a new segment, nowhere where it does not.
-#[derive(Drop)]
+#[derive(Clone, Copy)]
 pub struct Judged {
     pub sound: bool,
     pub found: Found,

@@ -1,0 +1,7 @@
+-- The number alone, beside the record.
+-- Assumes nothing.
+use borrow.Author.Rules.{rules}
+use Rattle.calls.proofs.record_alone.Goals as goal
+
+pub returns : goal.returns
+returns c = cc

@@ -1,0 +1,7 @@
+-- The number alone, beside the records.
+-- Assumes nothing.
+use borrow.Author.Rules.{rules}
+use Rattle.calls.proofs.unchanged.Goals as goal
+
+pub returns : goal.returns
+returns c = cc

@@ -1,0 +1,14 @@
+use Rattle.loops.proofs.RunningLaws.{running_none, running_more, running_all}
+use Rattle.image.specs.inner.Claims.{zeros}
+use borrow.Author.Rules.{rules}
+use Rattle.image.proofs.soundness.zero.Goals as goal
+
+pub loop-i-init : goal.loop-i-init
+loop-i-init c = running_none _ _
+
+pub loop-i-preserved : goal.loop-i-preserved
+loop-i-preserved c = search (rules, running_more)
+
+pub returns : goal.returns
+unfolding zeros
+returns c = search (rules, running_all)

@@ -1,0 +1,12 @@
+-- Before each turn the first k handles stand at the start of the buffer.
+-- Assumes nothing.
+use borrow.Author.Rules.{rules}
+use Prim.Native.Nat.{◌-◌}
+use Rattle.register.proofs.PutLaws.{Laying, laying_none, laying_more, laying_fits, laying_few, laid_all}
+use Rattle.register.proofs.lay.lay.Given as goal
+
+abbrev pub invariant-loop-k : goal.invariant-loop-k
+invariant-loop-k l = Laying l.handles l.n l.initial.buffer l.buffer l.k
+
+abbrev pub decreases-loop-k : goal.decreases-loop-k
+decreases-loop-k l = l.n - l.k
