@@ -1,6 +1,6 @@
 SHELL = /bin/bash
 .SHELLFLAGS = -eo pipefail -c
-# one after the other, also with -j: rt's runs share target/
+# one after the other, also with -j: rt's runs share the folders out/ of the crates
 .NOTPARALLEL:
 
 # make help                  this list; a bare make prints it too
@@ -26,7 +26,7 @@ $(foreach name,$(filter-out $(TAKES),$(GIVEN)),$(error make $(ASKED) takes no '$
 # ---- what commands need
 
 # The toolchain that the tree was last proved with, as `rt version` says it.
-PROVED_WITH = rattle-kit-5b-plain logic 097e4c862dff5811
+PROVED_WITH = rattle-kit-13f logic dac8208d650f15bf
 
 BENCHRUN = target/bin/benchrun
 LIBRARY = target/staticlib/libgelmuszta.a
@@ -110,16 +110,17 @@ lib: need-rt
 	@tools/prove library gelmuszta
 	@$(if $(filter lib,$(MAKECMDGOALS)),echo 'link with: cc -Iinclude FILE.c $(LIBRARY)')
 
-# make test                  the whole gate, from nothing; the last line is rt's 'N passed, 0 failed'
-# Layout, the names in STATEMENTS, proofs and must-fail edits with the Rust tests beside them, programs, the comparison with the
-# model: that of the library, which is proved once more for its archive, beside that of the program.
+# make test                  the whole gate; the last line is rt's 'N passed, 0 failed'
+# The names in STATEMENTS, layout, proofs and must-fail edits with the Rust tests beside them, programs, the comparison with the
+# model: that of the library, which is proved once more for its archive, beside that of the program. rt ci passes where an edit
+# cannot be tried; the gate does not.
 GATE = tests/target
 # not $(MAKE) in the recipe, for make -n would then run the line
 PART = $(MAKE) --no-print-directory
 .PHONY: test
 test: $(NEEDED:%=need-%)
 	docs/check-statements
-	rt fmt --check
+	@grep -qF '$(PROVED_WITH)' README.md || { echo 'make: README.md does not name $(PROVED_WITH)' >&2; exit 1; }
 	cargo fmt --check --manifest-path tests/Cargo.toml
 	cargo fmt --check --manifest-path tests/library/Cargo.toml
 	cargo fmt --check --manifest-path tools/Cargo.toml
@@ -127,6 +128,8 @@ test: $(NEEDED:%=need-%)
 	cargo fmt --check --manifest-path bench/Cargo.toml
 	@mkdir -p $(GATE)
 	tools/beside $(GATE)/rust.log 'nice -n 19 $(PART) rust' 'rt ci 2>&1 | tee $(GATE)/gate.log'
+	@! grep '^rt: ok.*, [1-9][0-9]* bad' $(GATE)/gate.log || { echo 'make: a must-fail edit is bad' >&2; exit 1; }
+	@tools/prove built benchrun
 	@awk '/^test result/ { passed += $$4; failed += $$6 } END { print "Rust tests: " passed " passed, " failed " failed" }' $(GATE)/rust.log
 	tools/beside $(GATE)/program.log '$(PART) compared-program' '$(PART) caller compared-library compared-office'
 	@cat $(GATE)/program.log
@@ -189,7 +192,7 @@ bench: need-rt need-cargo need-cc benchrun lib
 	cargo build --quiet --release --offline --manifest-path tests/Cargo.toml
 	$(MODEL)/time-lists $(BENCHRUN) $(MODEL)/model-benchrun 500 examples/measured/reads.list examples/measured/clusters.list
 
-# make more-edits            the edits of crates/*/must-fail/more, which the gate leaves out for its time
+# make more-edits            the edits of crates/*/more, which the gate leaves out for its time
 # The prover refuses these too.
 .PHONY: more-edits
 more-edits: need-rt
@@ -198,4 +201,4 @@ more-edits: need-rt
 # make clean                 remove all that these commands write
 .PHONY: clean
 clean:
-	rm -rf target $(CARGO_TARGETS)
+	rm -rf target crates/*/out $(CARGO_TARGETS)

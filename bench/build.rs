@@ -1,4 +1,4 @@
-//! Links the proved libraries that `rt staticlib measured` and `rt staticlib gelmuszta` write.
+//! Links the proved libraries `measured` and `gelmuszta`, which `make bench` builds.
 
 fn main() {
     let root = std::env::var("CARGO_MANIFEST_DIR").expect("cargo sets it");

@@ -1,5 +1,5 @@
-//! Links the proved library, which `rt staticlib gelmuszta` writes. Tests of the model that are asked of the library
-//! know it by `of_the_library`.
+//! Links the proved library, which `make lib` builds. Tests of the model that are asked of the library know it by
+//! `of_the_library`.
 
 const ARCHIVE_FOLDER: &str = "../../target/staticlib";
 
