@@ -70,7 +70,9 @@ fn blank_text() -> [u8; 2092283]
     [0; MOST_TEXT]
 }
 
-// Runs a list in the large room and writes its text.
+// Runs a list in the large room and writes its text. It is never inlined: a function touches the pages of all its room as it
+// begins, and those of the large one take longer than most lists.
+#[inline(never)]
 fn run_large<W: Write>(to: &mut W, list: &[u8]) -> bool
     ensures { OnTrue result (Appends (W.contents to.old) (W.contents to.new) (output list.now)) }
 {
@@ -87,8 +89,7 @@ fn blank_brief() -> [u8; 39315]
 }
 
 // Runs a list and writes its text, in the small room unless `large` is asked for. Where the small room may be too little
-// no call is done there, and the list is run in the large one. That is a call of itself, so that the compiler leaves the
-// large room to a function of its own: touching its pages takes longer than most lists.
+// no call is done there, and the list is run in the large one, by a call of itself.
 fn run<W: Write>(to: &mut W, list: &[u8], large: bool) -> bool
     ensures { OnTrue result (Appends (W.contents to.old) (W.contents to.new) (output list.now)) }
 {

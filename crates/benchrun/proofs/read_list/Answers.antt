@@ -1,6 +1,6 @@
 -- One more read: what it puts stands behind what was there.
 -- Assumes nothing.
-use Rattle.std.proofs.Common.{◌≡◌, ◌<◌, ◌≤◌, ◌+◌, ◌-◌, ℕ, List, ◌++◌, rules, arith, length, take, drop, sym, ap, ◌∙◌, subst, le_refl, drop_at, length-take-le}
+use Rattle.std.proofs.Common.{◌≡◌, ◌≤◌, ◌+◌, ◌-◌, ℕ, List, ◌++◌, rules, arith, length, take, drop, sym, ap, ◌∙◌, subst, le_refl, drop_at, length-take-le}
 use Rattle.std.proofs.lemmas.Slice.{take-put_mid_below}
 use Rattle.std.proofs.KnownBytes.{Consumes-trans}
 use Rattle.std.specs.Io.KnownBytes.{Consumes}
@@ -20,11 +20,10 @@ put_taken at n old part within fits =
 
 pub loop-have-preserved : goal.loop-have-preserved
 loop-have-preserved g c =
-    let within : c.loop-have.have ≤ length c.loop-have.space = omega arith in
-    (
+    let within : c.loop-have.have ≤ length c.loop-have.space = omega arith in (
       search rules,
       search rules,
       subst (Consumes _ _)
-      (put_taken c.loop-have.have c.in-Ok.more c.loop-have.space c.read.new.buf within c.in-Ok.ensures.bound.0)
-      (Consumes-trans _ _ _ _ _ c.loop-have.invariant.2 c.in-Ok.ensures.bytes.0),
+          (put_taken c.loop-have.have c.in-Ok.more c.loop-have.space c.read.new.buf within c.in-Ok.ensures.bound.0)
+          (Consumes-trans _ _ _ _ _ c.loop-have.invariant.2 c.in-Ok.ensures.bytes.0),
     )
