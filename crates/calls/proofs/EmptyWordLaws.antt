@@ -2,7 +2,7 @@
 -- the handle crate's. A weakening done is that crate's too, its handle references a segment, and it is read back from the
 -- bytes given.
 -- Assumes nothing.
-use mathlib.Core.Path.{◌≡◌, refl, sym, ap, ◌∙◌, subst}
+use mathlib.Core.Path.{◌≡◌, sym, ap, ◌∙◌, subst}
 use mathlib.Core.Logic.{◌⊎◌, inl, inr}
 use Prim.Native.Nat.{ℕ, ◌≤◌, ◌<◌}
 use native.Mathlib.Omega.{arith}
@@ -22,7 +22,6 @@ use Rattle.handle.proofs.EmptyLaws.{empty_out, empty_in, handle_done, done_refer
 use Rattle.store.specs.declared.Store.{Store}
 use Rattle.calls.specs.Calls.{Call, Kind, weaken, call, handle_of}
 use Rattle.calls.specs.Numbers.{empty_handle, at, rows, number}
-use Rattle.calls.specs.Words.{Named}
 use Rattle.calls.specs.Steps.{Outcome, weaken_reply}
 use Rattle.calls.specs.EmptyWords.{Emptied, EmptyInWords, SomeGiven, NeverToNothing}
 use Rattle.calls.proofs.FirstLaws.{first_holding}

@@ -10,7 +10,6 @@ use mathlib.Core.Bool.{true}
 use mathlib.Core.List.{List}
 use lib.ListN.{length}
 use borrow.Author.Tests.{not-false}
-use Rattle.sizes.specs.Sizes.{segments}
 use Rattle.handle.specs.Handles.{Name}
 use Rattle.store.specs.declared.Segment.{Segment}
 use Rattle.store.specs.declared.Store.{Store}
@@ -18,7 +17,7 @@ use Rattle.store.specs.Records.{table_at, place_at}
 use Rattle.store.specs.Sound.{sound}
 use Rattle.store.proofs.ChangeLaws.{sound_frozen}
 use Rattle.calls.specs.Calls.{Copy, Call, Arguments, call, delete_cluster, delete_segment}
-use Rattle.calls.specs.Calls.{read, write, freeze, freezing}
+use Rattle.calls.specs.Calls.{write, freeze, freezing}
 use Rattle.calls.specs.Calls.{record_for}
 use Rattle.calls.specs.Calls.{code}
 use Rattle.calls.specs.Numbers.{unsound}

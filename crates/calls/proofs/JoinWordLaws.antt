@@ -2,7 +2,7 @@
 -- references. What it makes is read back from its bytes, and in words it is what the handle crate says of the union.
 -- Assumes nothing.
 use mathlib.Core.Path.{◌≡◌, refl, sym, ap, ◌∙◌, subst}
-use mathlib.Core.Logic.{◌≢◌, ◌⊎◌, inl, inr, ◌↔◌}
+use mathlib.Core.Logic.{◌⊎◌, inl, inr, ◌↔◌}
 use Prim.Native.Nat.{ℕ, ◌<◌}
 use native.Mathlib.Omega.{arith}
 use mathlib.Core.Bool.{Bool, false, ◌||◌, cond, false≢true}
@@ -36,7 +36,7 @@ use Rattle.calls.proofs.FirstLaws.{first_clear}
 use Rattle.calls.proofs.StepLaws.{step_done, step_number}
 use Rattle.calls.proofs.TestLaws.{Is, off_is, or_is}
 use Rattle.calls.proofs.SelectorWords.{references_is, whole_is, four}
-use Rattle.calls.proofs.CallLaws.{or_left, or_right}
+use Rattle.calls.proofs.CallLaws.{or_left}
 use Rattle.calls.proofs.JoinNumberLaws.{name_same, same_name_lem, widths_same, idle, other, each_rows, one_rows, one_numbered, number_each, valid_one}
 use Rattle.calls.proofs.JoinNumberLaws.{Cleared, cleared, cleared_first, cleared_second}
 

@@ -2,7 +2,7 @@
 -- with room for the segment, since the current node is the handle's; so it gets the same number and shows what is read.
 -- Assumes nothing.
 use mathlib.Core.Path.{◌≡◌, refl, sym, ap, ◌∙◌}
-use Prim.Native.Nat.{ℕ, zero, suc, ◌+◌, ◌-◌, ◌≤◌}
+use Prim.Native.Nat.{ℕ, zero, suc, ◌≤◌}
 use native.Mathlib.Omega.{arith}
 use mathlib.Core.Bool.{Bool, true, false, not, ◌||◌, cond}
 use mathlib.Core.List.{List, ◌++◌}
@@ -19,7 +19,7 @@ use Rattle.calls.specs.Numbers.{tests, bad_length, unsound, bad_field, gapped_ha
 use Rattle.calls.specs.Numbers.{not_referenced, segment_absent}
 use Rattle.calls.specs.Words.{place}
 use Rattle.calls.specs.Steps.{read_reply, outcome, step, effects}
-use Rattle.calls.specs.LookWords.{number, reply, LookReads, LookNeeds, LookUses}
+use Rattle.calls.specs.LookWords.{reply, LookReads, LookNeeds, LookUses}
 use Rattle.calls.proofs.StepLaws.{step_done}
 use Rattle.calls.proofs.LookLaws.{look_here, told, cut, shown_length}
 

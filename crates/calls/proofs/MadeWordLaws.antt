@@ -7,7 +7,6 @@ use native.Mathlib.Omega.{arith}
 use native.Mathlib.Decide.{dec_lt}
 use mathlib.Core.Bool.{true, true≢false}
 use mathlib.Core.List.{List}
-use mathlib.Core.Option.{Option}
 use lib.ListN.{length, get_or, replicate, length-replicate, get_or-replicate, get_or-eq_default}
 use lib.Seq.{get_or-set_same}
 use borrow.Author.Tests.{leb-false, not-false}
@@ -19,7 +18,7 @@ use Rattle.store.specs.declared.Store.{Store}
 use Rattle.store.specs.Records.{segment_at, absent_segment, no_cluster, table_of, cluster_at, table_at, segment_of, frozen_of, with_place}
 use Rattle.store.specs.Sound.{sound}
 use Rattle.store.specs.SoundWords.{SoundInWords}
-use Rattle.store.specs.Placement.{placed_at, new_base, placement}
+use Rattle.store.specs.Placement.{placed_at, placement}
 use Rattle.store.specs.PlacementWords.{Room}
 use Rattle.store.proofs.ChangeLaws.{put_same}
 use Rattle.store.proofs.SoundWordLaws.{sound_in_words}
@@ -31,7 +30,7 @@ use Rattle.calls.specs.Numbers.{unsound, bad_segment, number}
 use Rattle.calls.specs.Words.{place, cluster_of}
 use Rattle.calls.specs.Steps.{Outcome, about, new_base_for, new_place, segment_made, left, given, step}
 use Rattle.calls.specs.MadeWords.{Sixteen, MadeInWords}
-use Rattle.calls.proofs.DoneLaws.{NoRow, no_row, done_range, done_segment, done_active, new_base_lem}
+use Rattle.calls.proofs.DoneLaws.{no_row, done_range, done_segment, done_active, new_base_lem}
 use Rattle.calls.proofs.MemoryLaws.{length_overwritten, overwritten_inside, overwritten_out}
 use Rattle.calls.proofs.StepLaws.{step_done}
 

@@ -1,27 +1,26 @@
 -- What is held is taken back. The length stands behind 27 bytes, of which the handle's own are the first; any other last byte
 -- takes a number of bytes that no handle has.
 -- Assumes nothing.
-use Prim.Native.Nat.{ℕ, zero, suc, ◌+◌, ◌-◌, ◌≤◌, ◌<◌}
+use Prim.Native.Nat.{ℕ, ◌+◌, ◌-◌, ◌≤◌, ◌<◌}
 use native.Mathlib.Omega.{arith}
 use mathlib.Core.Path.{◌≡◌, refl, sym, ap, ◌∙◌, subst}
 use mathlib.Core.Logic.{inl, inr}
-use mathlib.Core.Bool.{Bool, true, false, cond}
+use mathlib.Core.Bool.{cond}
 use mathlib.Core.List.{List, [], ◌∷◌, ◌++◌}
 use lib.Dec.{eqb}
-use lib.ListN.{length, get_or, take, drop, replicate, length-append, length-replicate, length-take}
-use lib.Seq.{take_all, take_at, get_or_at, take-append-le, take-append_seam, length-take-le, take-suc}
+use lib.ListN.{length, get_or, take, replicate, length-append, length-replicate, length-take}
+use lib.Seq.{take_all, get_or_at, take-append-le, take-append_seam, take-suc}
 use Rattle.numbers.specs.Numbers.{wrong_length_number}
 use Rattle.handle.specs.declared.Handle.{Handle}
-use Rattle.handle.specs.declared.HandleBytes.{HandleBytes}
 use Rattle.handle.specs.declared.Width.{Width}
 use Rattle.handle.specs.declared.Width.TheVariants.{None, Four, Eight, Sixteen}
-use Rattle.handle.specs.Widths.{bits_of, length_of, most_bytes, width_for}
+use Rattle.handle.specs.Widths.{bits_of, length_of, most_bytes}
 use Rattle.handle.specs.Handles.{laid, written, encoded, decoded, no_handle, Holdable}
 use Rattle.handle.specs.Trips.{OfWidth}
 use Rattle.handle.proofs.CodecLaws.{width_cases}
 use Rattle.handle.proofs.TripLaws.{decode_encode, length_decoded}
 use Rattle.handle.proofs.TripStatements.{round_trips}
-use Rattle.codec.specs.Held.{held_bytes, held_in, handed, bytes_held, no_handles, held_from, length_number, HeldTrips}
+use Rattle.codec.specs.Held.{held_in, handed, bytes_held, no_handles, held_from, length_number, HeldTrips}
 use Rattle.codec.proofs.HeldLaws.{handed_held}
 
 -- ---- the handle's own bytes, and what stands behind them

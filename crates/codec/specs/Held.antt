@@ -17,7 +17,7 @@
 --                      from, none: bytes from elsewhere are held as they are where a handle has so many, and else 28 zeros are;
 --                      done, refused: their number is 0 then, and else 25
 -- Assumes nothing.
-use Rattle.std.specs.Prelude.{ℕ, ◌+◌, ◌≤◌, ◌≡◌, Bool, true, false, cond, List, [], ◌∷◌, ◌++◌, eqb, length, get_or, take, replicate}
+use Rattle.std.specs.Prelude.{ℕ, ◌+◌, ◌≤◌, ◌≡◌, Bool, cond, List, [], ◌∷◌, ◌++◌, eqb, length, get_or, take, replicate}
 use Rattle.numbers.specs.Numbers.{wrong_length_number}
 use Rattle.handle.specs.declared.Handle.{Handle}
 use Rattle.handle.specs.declared.HandleBytes.{HandleBytes}

@@ -12,7 +12,7 @@ use Rattle.bits.specs.Sets.{has}
 use Rattle.bits.proofs.SetLaws.{count_out, count_in}
 use Rattle.loops.proofs.BelowLaws.{and_both}
 use Rattle.handle.specs.declared.Handle.{Handle}
-use Rattle.handle.specs.Selectors.{references, excludes, keeps, flat, any_flat, gapped, first_flat_lem, keeps_all, keeps_none, parameter, spent}
+use Rattle.handle.specs.Selectors.{references, excludes, keeps, flat, any_flat, gapped, first_flat, keeps_all, keeps_none, parameter, spent}
 use Rattle.handle.specs.Handles.{no_width, no_such_place, weaken_number, weakened, weakening}
 use Rattle.handle.proofs.SelectorLaws.{keeps_each, first_here, first_past, any_flat_lem, parameter_not_flat}
 use Rattle.handle.proofs.HandleLaws.{telling, wide_kept, place_kept, ungapped_done, some_kept, unspent, weakened_cases}
@@ -109,12 +109,12 @@ module _ (w : ℕ) (f : List ℕ → ℕ → List ℕ) (h : Handle) (a b s : ℕ
 -- ---- where two subselectors are flat
 
 -- the first flat one is no further than any that is flat
-pub first_within : (w : ℕ) (ss : List ℕ) (k : ℕ) → k < length ss → flat w (get_or ss k 0) ≡ true → first_flat_lem w ss ≤ k
+pub first_within : (w : ℕ) (ss : List ℕ) (k : ℕ) → k < length ss → flat w (get_or ss k 0) ≡ true → first_flat w ss ≤ k
 first_within w [] k l e = absurd (omega arith)
 first_within w (s ∷ ss) zero l e = let q = first_here w s ss e in omega arith
 first_within w (s ∷ ss) (suc k) l e = go (flat w s) refl (first_within w ss k (omega arith) e)
   where
-    go : (b : Bool) → flat w s ≡ b → first_flat_lem w ss ≤ k → first_flat_lem w (s ∷ ss) ≤ suc k
+    go : (b : Bool) → flat w s ≡ b → first_flat w ss ≤ k → first_flat w (s ∷ ss) ≤ suc k
     go true t r = let q = first_here w s ss t in omega arith
     go false t r = let q = first_past w s ss t in omega arith
 
@@ -127,7 +127,7 @@ module _ (w : ℕ) (f : List ℕ → ℕ → List ℕ) where
       ∙ done_placed w h m r (count_in w (keeps m h.selector) i l (and_both (references h.selector i) (has i m) e k))
       (ap (λ (b : Bool). not (keeps_all w m h.selector) && not b) t ∙ and-false (not (keeps_all w m h.selector)))
 
-  module _ (h : Handle) (r : Placed w h) (four : length h.selector ≡ 4) (two : first_flat_lem w h.selector < 3) where
+  module _ (h : Handle) (r : Placed w h) (four : length h.selector ≡ 4) (two : first_flat w h.selector < 3) where
     first_flat_lem : any_flat w h.selector ≡ true
     first_flat_lem = any_flat_lem w h.selector (omega arith)
 
@@ -137,8 +137,8 @@ module _ (w : ℕ) (f : List ℕ → ℕ → List ℕ) where
         weakened_cases w f h m (λ k. any_flat w k.selector ≡ true) (λ e. first_flat_lem)
         (λ e.
         let n = first_cut w v (parameter_not_flat w m h.selector e) h.selector r.ungapped (omega arith) in
-        let l = length-set h.selector (first_flat_lem w h.selector) v in
-        any_flat_lem w (set h.selector (first_flat_lem w h.selector) v) (omega arith))
+        let l = length-set h.selector (first_flat w h.selector) v in
+        any_flat_lem w (set h.selector (first_flat w h.selector) v) (omega arith))
       where
         v : ℕ
         v = parameter w m h.selector

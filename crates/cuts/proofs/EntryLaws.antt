@@ -20,7 +20,7 @@ use Rattle.calls.proofs.SelectorWords.{references_is, four}
 use Rattle.calls.proofs.MaskLaws.{same_test}
 use Rattle.calls.proofs.HandleWords.{handle_in_words}
 use Rattle.register.proofs.KeptLaws.{made_steps}
-use Rattle.register.proofs.WordLaws.{kept_by_lem, references_steps, opens_as_supplied}
+use Rattle.register.proofs.WordLaws.{kept_by, references_steps, opens_as_supplied}
 use Rattle.register.proofs.AnswerLaws.{read_back}
 use Rattle.cuts.specs.Cuts.{kept}
 use Rattle.cuts.specs.Words.{Validates, Start, on_copy}
@@ -31,7 +31,7 @@ use Rattle.cuts.proofs.WordLaws.{kept_is}
 use Rattle.cuts.proofs.OpenedLaws.{w, p, valid, validated, reduction}
 
 -- the masks of a way, the last of them first
-kept_by_lem : (b : Bool) (ms : List ℕ) (i : ℕ) → kept_by_lem b ms i ≡ b && kept ms i
+kept_by_lem : (b : Bool) (ms : List ℕ) (i : ℕ) → kept_by b ms i ≡ b && kept ms i
 kept_by_lem b [] i = sym (and-true b)
 kept_by_lem b (m ∷ ms) i =
     ap (λ (t : Bool). t && has i m) (kept_by_lem b ms i)

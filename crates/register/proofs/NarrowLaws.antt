@@ -25,7 +25,7 @@ use Rattle.handle.specs.declared.Handle.{Handle}
 use Rattle.handle.specs.declared.Weakened.{Weakened}
 use Rattle.handle.specs.Sizes.{subselectors}
 use Rattle.handle.specs.Conversion.{product}
-use Rattle.handle.specs.Selectors.{references, flat, all_flat, gapped, first_flat, common, referenced, parameter}
+use Rattle.handle.specs.Selectors.{references, flat, all_flat, gapped, first_flat, common, referenced}
 use Rattle.handle.specs.Handles.{Name, name_of, width_of, Row, first_of, own_rows, refusal, reply, cut, weakened, weakening}
 use Rattle.handle.proofs.SelectorLaws.{first_here, first_past, rest_flat, rest_ungapped}
 use Rattle.handle.proofs.HandleLaws.{weakened_cases, name_weakened, width_weakened, gapped_weakened, references_weakened, unspent}

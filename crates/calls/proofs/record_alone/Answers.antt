@@ -1,6 +1,5 @@
 -- The number alone, beside the record.
 -- Assumes nothing.
-use borrow.Author.Rules.{rules}
 use Rattle.calls.proofs.record_alone.Goals as goal
 
 pub returns : goal.returns

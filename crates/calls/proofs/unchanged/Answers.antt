@@ -1,6 +1,5 @@
 -- The number alone, beside the records.
 -- Assumes nothing.
-use borrow.Author.Rules.{rules}
 use Rattle.calls.proofs.unchanged.Goals as goal
 
 pub returns : goal.returns

@@ -1,6 +1,5 @@
 use borrow.Author.Rules.{rules}
-use Prim.Native.Nat.{◌-◌}
-use Rattle.register.proofs.PutLaws.{Laying, laying_none, laying_more, laying_fits, laying_few, laid_all}
+use Rattle.register.proofs.PutLaws.{laying_none, laying_more, laying_fits, laying_few, laid_all}
 use Rattle.register.proofs.lay.lay.Goals as goal
 
 pub loop-k-init : goal.loop-k-init

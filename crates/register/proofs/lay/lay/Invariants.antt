@@ -1,8 +1,7 @@
 -- Before each turn the first k handles stand at the start of the buffer.
 -- Assumes nothing.
-use borrow.Author.Rules.{rules}
 use Prim.Native.Nat.{◌-◌}
-use Rattle.register.proofs.PutLaws.{Laying, laying_none, laying_more, laying_fits, laying_few, laid_all}
+use Rattle.register.proofs.PutLaws.{Laying}
 use Rattle.register.proofs.lay.lay.Given as goal
 
 abbrev pub invariant-loop-k : goal.invariant-loop-k

@@ -1,9 +1,7 @@
 -- Before each turn the openers among the first k entries stand at the start of the buffer.
 -- Assumes nothing.
-use mathlib.Core.Logic.{⊎_elim}
-use borrow.Author.Rules.{rules}
 use Prim.Native.Nat.{◌-◌}
-use Rattle.register.proofs.PutLaws.{Listing, listing_none, listing_inside, listing_opens_as, listing_not_as, listed_count, listed_put}
+use Rattle.register.proofs.PutLaws.{Listing}
 use Rattle.register.proofs.lay.list.Given as goal
 
 abbrev pub invariant-loop-k : goal.invariant-loop-k

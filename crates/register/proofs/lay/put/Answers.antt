@@ -1,6 +1,5 @@
 use borrow.Author.Rules.{rules}
-use Prim.Native.Nat.{◌-◌}
-use Rattle.register.proofs.PutLaws.{Putting, putting_none, putting_more, putting_inside, put_all}
+use Rattle.register.proofs.PutLaws.{putting_none, putting_more, putting_inside, put_all}
 use Rattle.register.proofs.lay.put.Goals as goal
 
 pub loop-i-init : goal.loop-i-init

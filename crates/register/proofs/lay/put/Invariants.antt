@@ -1,8 +1,7 @@
 -- Before each turn the first i bytes stand in their place.
 -- Assumes nothing.
-use borrow.Author.Rules.{rules}
 use Prim.Native.Nat.{◌-◌}
-use Rattle.register.proofs.PutLaws.{Putting, putting_none, putting_more, putting_inside, put_all}
+use Rattle.register.proofs.PutLaws.{Putting}
 use Rattle.register.proofs.lay.put.Given as goal
 
 abbrev pub invariant-loop-i : goal.invariant-loop-i

@@ -1,7 +1,6 @@
 use borrow.Author.Rules.{rules}
 use mir.Facts.{Fits-8_64}
-use Prim.Native.Nat.{◌-◌}
-use Rattle.register.proofs.ClimbLaws.{Climbing, climbing_none, climbing_more, climbing_flag, climbing_room}
+use Rattle.register.proofs.ClimbLaws.{climbing_none, climbing_more, climbing_flag, climbing_room}
 use Rattle.register.proofs.ClimbLaws.{climbing_first, climbing_inside, climbs_link, climbs_loop, climbs_known}
 use Rattle.register.proofs.work.climb.Goals as goal
 

@@ -1,10 +1,7 @@
 -- Before each turn the way has met `met` entries, which are kept in order, and is at `at`.
 -- Assumes nothing.
-use borrow.Author.Rules.{rules}
-use mir.Facts.{Fits-8_64}
 use Prim.Native.Nat.{◌-◌}
-use Rattle.register.proofs.ClimbLaws.{Climbing, climbing_none, climbing_more, climbing_flag, climbing_room}
-use Rattle.register.proofs.ClimbLaws.{climbing_first, climbing_inside, climbs_link, climbs_loop, climbs_known}
+use Rattle.register.proofs.ClimbLaws.{Climbing}
 use Rattle.register.proofs.work.climb.Given as goal
 
 abbrev pub invariant-loop-at : goal.invariant-loop-at

@@ -1,9 +1,5 @@
 use borrow.Author.Rules.{rules}
-use lib.ListN.{get_or}
-use Prim.Native.Nat.{◌+◌, ◌-◌}
-use Rattle.handle.specs.Conversion.{product}
-use Rattle.register.specs.inner.Work.{blank}
-use Rattle.register.proofs.WorkLaws.{Working, Descending, working_none, working_small, works_way, works_all}
+use Rattle.register.proofs.WorkLaws.{working_none, working_small, works_way, works_all}
 use Rattle.register.proofs.WorkLaws.{inner_holds, inner_ends, inner_returns, descending_entry, descending_more}
 use Rattle.register.proofs.WorkLaws.{descending_first, descending_byte, descending_fits, descending_inside, descending_place}
 use Rattle.register.proofs.WorkLaws.{descending_times, descending_sight, parent_byte, parent_fits, parent_times, parent_sight}
