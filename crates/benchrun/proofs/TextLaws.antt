@@ -6,7 +6,7 @@ use native.Mathlib.Omega.{arith}
 use mathlib.Core.List.{List}
 use lib.ListN.{length, take}
 use lib.Seq.{length-take-le}
-use Rattle.io.specs.Counts.{IsPrefixLen}
+use Rattle.std.specs.Counts.{IsPrefixLen}
 use Rattle.lines.specs.Buffers.{Begins}
 use Rattle.list.specs.Texts.{output, most_text, room_for, output_within}
 use Rattle.list.proofs.RoomLaws.{room_most}

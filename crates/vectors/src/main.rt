@@ -5,7 +5,7 @@
 // is in docs/vectors/handles.txt too.
 #![tactic(auto)]
 
-use libc::STDOUT_FILENO;
+use std::io;
 
 // The lower-case hexadecimal digit of a number below 16.
 fn digit(n: u8) -> u8 {
@@ -29,45 +29,46 @@ fn hexadecimal(bytes: [u8; 16]) -> [u8; 32] {
 }
 
 // Writes sixteen bytes on one line.
-fn write_block(bytes: [u8; 16]) {
+fn write_block(rt: &impl Print, bytes: [u8; 16]) -> io::Result<()> {
     let text = hexadecimal(bytes);
-    io::write_all(STDOUT_FILENO, &text);
-    io::write_all(STDOUT_FILENO, b"\n");
+    rt.write_all(&text)?;
+    rt.write_all(b"\n")
 }
 
 // Writes sixteen bytes as four words, each on a line.
-fn write_words(bytes: [u8; 16]) {
+fn write_words(rt: &impl Print, bytes: [u8; 16]) -> io::Result<()> {
     let text = hexadecimal(bytes);
     for i in 0..4usize {
         let from = 8 * i;
         let to = from + 8;
-        io::write_all(STDOUT_FILENO, &text[from..to]);
-        io::write_all(STDOUT_FILENO, b"\n");
+        rt.write_all(&text[from..to])?;
+        rt.write_all(b"\n")?;
     }
+    Ok(())
 }
 
 // Writes what a parameter turns a password into.
-fn write_conversion(password: [u8; 16], parameter: u16) {
+fn write_conversion(rt: &impl Print, password: [u8; 16], parameter: u16) -> io::Result<()> {
     let tables = aes::tables();
-    write_block(handle::convert_with(&tables, password, parameter));
+    write_block(rt, handle::convert_with(&tables, password, parameter))
 }
 
-fn main() {
+fn main(rt: HostRuntime) -> io::Result<()> {
     let key = [
         0x2b, 0x7e, 0x15, 0x16, 0x28, 0xae, 0xd2, 0xa6, 0xab, 0xf7, 0x15, 0x88, 0x09, 0xcf, 0x4f,
         0x3c,
     ];
-    io::write_all(STDOUT_FILENO, b"A.1\n");
+    rt.write_all(b"A.1\n")?;
     for round in 0..11usize {
-        write_words(aes::round_key(key, round));
+        write_words(&rt, aes::round_key(key, round))?;
     }
-    io::write_all(STDOUT_FILENO, b"B\n");
+    rt.write_all(b"B\n")?;
     let block = [
         0x32, 0x43, 0xf6, 0xa8, 0x88, 0x5a, 0x30, 0x8d, 0x31, 0x31, 0x98, 0xa2, 0xe0, 0x37, 0x07,
         0x34,
     ];
-    write_block(aes::encrypt(key, block));
-    io::write_all(STDOUT_FILENO, b"C.1\n");
+    write_block(&rt, aes::encrypt(key, block))?;
+    rt.write_all(b"C.1\n")?;
     let counting = [
         0x00, 0x01, 0x02, 0x03, 0x04, 0x05, 0x06, 0x07, 0x08, 0x09, 0x0a, 0x0b, 0x0c, 0x0d, 0x0e,
         0x0f,
@@ -76,8 +77,8 @@ fn main() {
         0x00, 0x11, 0x22, 0x33, 0x44, 0x55, 0x66, 0x77, 0x88, 0x99, 0xaa, 0xbb, 0xcc, 0xdd, 0xee,
         0xff,
     ];
-    write_block(aes::encrypt(counting, pairs));
-    io::write_all(STDOUT_FILENO, b"conversion\n");
-    write_conversion(key, 0xf3);
-    write_conversion(key, 0x8ef3);
+    write_block(&rt, aes::encrypt(counting, pairs))?;
+    rt.write_all(b"conversion\n")?;
+    write_conversion(&rt, key, 0xf3)?;
+    write_conversion(&rt, key, 0x8ef3)
 }

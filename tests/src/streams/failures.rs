@@ -3,7 +3,7 @@
 
 use super::{all, check, unequal, Checked};
 use crate::list::output;
-use crate::program::{run, Ending, Outcome, Program};
+use crate::program::{run, Outcome, Program};
 use std::fs::{self, File};
 use std::io::{self, Write};
 use std::os::fd::OwnedFd;
@@ -12,8 +12,6 @@ use std::process::{Command, Stdio};
 
 const UNREAD: &str = "benchrun: the list could not be read\n";
 const UNWRITTEN: &str = "benchrun: the text could not be written whole\n";
-/// The system ends a program by this signal when it writes to a pipe that nobody reads.
-const SIGPIPE: i32 = 13;
 
 fn alone(command: Command) -> io::Result<Outcome> {
     run(command, |_| {})
@@ -67,7 +65,8 @@ fn writing_to(program: &Program, list: &[u8], to: io::Result<impl Into<Stdio>>) 
     writing(command, list)
 }
 
-/// A pipe whose reader is gone. Who starts a program says whether the signal ends it.
+/// A pipe whose reader is gone. The signal does not end the program, whatever is said of it by who starts the program: the
+/// program's own start has it ignored.
 fn unread_pipe(mut command: Command, list: &[u8]) -> io::Result<Outcome> {
     let (reader, writer) = io::pipe()?;
     drop(reader);
@@ -79,7 +78,6 @@ fn unread_pipe(mut command: Command, list: &[u8]) -> io::Result<Outcome> {
 pub fn of_writes(program: &Program, list: &[u8]) -> Checked {
     let told = Outcome::ended(b"", UNWRITTEN);
     let untold = Outcome::ended(b"", "");
-    let killed = Outcome { ending: Ending::Signal(SIGPIPE), ..untold.clone() };
     let full = || File::options().write(true).open("/dev/full");
     let after = |script| program.command_after(script);
     #[rustfmt::skip]
@@ -88,7 +86,7 @@ pub fn of_writes(program: &Program, list: &[u8]) -> Checked {
         check("standard output full", &told, writing_to(program, list, full())),
         check("standard output not for writing", &told, writing_to(program, list, File::open("/dev/null"))),
         check("nobody reads, the signal ignored", &told, unread_pipe(after("trap '' PIPE"), list)),
-        check("nobody reads, the signal as usual", &killed, unread_pipe(program.command(), list)),
+        check("nobody reads, the signal as usual", &told, unread_pipe(program.command(), list)),
         check("standard output and error closed", &untold, writing(after("exec >&- 2>&-"), list)),
     ];
     all(checks)
