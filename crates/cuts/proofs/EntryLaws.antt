@@ -31,7 +31,7 @@ use Rattle.cuts.proofs.WordLaws.{kept_is}
 use Rattle.cuts.proofs.OpenedLaws.{w, p, valid, validated, reduction}
 
 -- the masks of a way, the last of them first
-kept_by_lem : (b : Bool) (ms : List ℕ) (i : ℕ) →kept_by b ms i ≡ b && kept ms i
+kept_by_lem : (b : Bool) (ms : List ℕ) (i : ℕ) → kept_by b ms i ≡ b && kept ms i
 kept_by_lem b [] i = sym (and-true b)
 kept_by_lem b (m ∷ ms) i =
     ap (λ (t : Bool). t && has i m) (kept_by_lem b ms i)

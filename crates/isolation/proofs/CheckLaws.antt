@@ -27,7 +27,6 @@ use Rattle.handle.proofs.PasswordLaws.{equal_validates, validates_equal}
 use Rattle.handle.proofs.CodecLaws.{width_cases}
 use Rattle.store.specs.declared.Store.{Store}
 use Rattle.store.specs.Records.{cluster_at, table_at, read_mode, write_mode, primary_of}
-use Rattle.store.specs.Sound.{sound}
 use Rattle.calls.specs.Calls.{Call, call, Arguments, Kind, new_cluster, delete_cluster, new_segment, delete_segment}
 use Rattle.calls.specs.Calls.{read, write, weaken, reduce, new_password, freeze, join, validate, look, opens, needed}
 use Rattle.calls.specs.Calls.{handle_of, other_of, buffer, record_named}

@@ -11,7 +11,7 @@ use Rattle.sizes.specs.Sizes.{memory}
 use Rattle.handle.specs.Handles.{Name, decoded}
 use Rattle.calls.specs.Calls.{Copy, Call, weakening_by, reducing, joining, writing}
 use Rattle.calls.specs.Numbers.{valid, violated, tests, other_tests}
-use Rattle.calls.specs.Steps.{Ran, effects, outcome, step, run}
+use Rattle.calls.specs.Steps.{Ran, effects, outcome, step}
 use Rattle.calls.specs.Literals.{sixteen, none, told}
 use Rattle.calls.proofs.StepLaws.{number_below}
 use Rattle.calls.proofs.Computing.{computing}
@@ -42,7 +42,7 @@ module _ (f : Name → List ℕ → ℕ → List ℕ) (v : Wide) (r : List ℕ) 
   valid_top : valid f 2 (decoded (shown f (selector v) (parameter v))) (records v r (sixteen 34)) ≡ true
   unfolding valid computing tabulate
   valid_top =
-      elim v [
+      elim v as (λ (u : Wide). valid f 2 (decoded (shown f (selector u) (parameter u))) (records u r (sixteen 34)) ≡ true) [
         | of_four ↦ same_bytes (turned f 8)
         | of_eight ↦ same_bytes (turned f 128)
         | of_sixteen ↦ same_bytes (turned f 32768)
@@ -51,7 +51,8 @@ module _ (f : Name → List ℕ → ℕ → List ℕ) (v : Wide) (r : List ℕ) 
   valid_lowest : valid f 2 (decoded (shown f (lowest v) 1)) (records v r (sixteen 34)) ≡ true
   unfolding valid computing tabulate
   valid_lowest =
-      elim v [ of_four ↦ same_bytes (turned f 1) | of_eight ↦ same_bytes (turned f 1) | of_sixteen ↦ same_bytes (turned f 1) ]
+      elim v as (λ (u : Wide). valid f 2 (decoded (shown f (lowest u) 1)) (records u r (sixteen 34)) ≡ true)
+      [ of_four ↦ same_bytes (turned f 1) | of_eight ↦ same_bytes (turned f 1) | of_sixteen ↦ same_bytes (turned f 1) ]
 
   not_violated : (violated f reduction (records v r (sixteen 34)) ≡ false)
       × (violated f joint (records v r (sixteen 34)) ≡ false) × (violated f write (records v r (sixteen 34)) ≡ false)
@@ -67,7 +68,14 @@ module _ (f : Name → List ℕ → ℕ → List ℕ) (v : Wide) (r : List ℕ) 
 
   nine : Nine reduction × Nine joint × Nine write
   unfolding other_tests computing tabulate
-  nine = elim v [ of_four ↦ (refl, refl, refl) | of_eight ↦ (refl, refl, refl) | of_sixteen ↦ (refl, refl, refl) ]
+  nine =
+      elim v as (λ (u : Wide).
+      let reduction = reducing 2 (shown f (selector u) (parameter u)) in
+      let joint = joining 2 (shown f (selector u) (parameter u)) (shown f (lowest u) 1) in
+      let write = writing 0 (shown f (lowest u) 1) (8 ∷ 9 ∷ 7 ∷ []) in
+      let told = λ (x : Call). number_below f x (records u r (sixteen 34)) memory ≡ cond {A = ℕ} (violated f x (records u r (sixteen 34))) 9 0 in
+      told reduction × told joint × told write)
+      [ of_four ↦ (refl, refl, refl) | of_eight ↦ (refl, refl, refl) | of_sixteen ↦ (refl, refl, refl) ]
 
   module _ (b c d y z : ℕ) where
     abbrev copy : Copy
@@ -88,19 +96,31 @@ module _ (f : Name → List ℕ → ℕ → List ℕ) (v : Wide) (r : List ℕ) 
     weakened : step_below f weakening copy
         ≡ record { copy = copy; reply = told 0 (made f (selector v) (parameter v)) none 1 0 [] }
     unfolding tests effects computing
-    weakened = elim v [ of_four ↦ refl | of_eight ↦ refl | of_sixteen ↦ refl ]
+    weakened =
+        elim v as (λ (u : Wide). step_below f (weakening_by (parameter u) (own u 3 7 34)) (keeping u r (sixteen 34) b c d y z)
+        ≡ record { copy = (keeping u r (sixteen 34) b c d y z); reply = told 0 (made f (selector u) (parameter u)) none 1 0 [] })
+        [ of_four ↦ refl | of_eight ↦ refl | of_sixteen ↦ refl ]
 
     reduced : outcome f 0 reduction copy ≡ record { copy = copy; reply = told 0 (made f (selector v) (parameter v)) none 0 0 [] }
     unfolding effects computing tabulate
-    reduced = elim v [ of_four ↦ refl | of_eight ↦ refl | of_sixteen ↦ refl ]
+    reduced =
+        elim v as (λ (u : Wide). outcome f 0 (reducing 2 (shown f (selector u) (parameter u))) (keeping u r (sixteen 34) b c d y z)
+        ≡ record { copy = (keeping u r (sixteen 34) b c d y z); reply = told 0 (made f (selector u) (parameter u)) none 0 0 [] })
+        [ of_four ↦ refl | of_eight ↦ refl | of_sixteen ↦ refl ]
 
     joined : outcome f 0 joint copy ≡ record { copy = copy; reply = told 0 (made f (both v) (pair v)) none 0 0 [] }
     unfolding effects computing tabulate
-    joined = elim v [ of_four ↦ refl | of_eight ↦ refl | of_sixteen ↦ refl ]
+    joined =
+        elim v as (λ (u : Wide). outcome f 0 (joining 2 (shown f (selector u) (parameter u)) (shown f (lowest u) 1)) (keeping u r (sixteen 34) b c d y z)
+        ≡ record { copy = (keeping u r (sixteen 34) b c d y z); reply = told 0 (made f (both u) (pair u)) none 0 0 [] })
+        [ of_four ↦ refl | of_eight ↦ refl | of_sixteen ↦ refl ]
 
     written : outcome f 0 write copy ≡ record { copy = after; reply = told 0 none none 0 0 (8 ∷ 9 ∷ 7 ∷ []) }
     unfolding effects computing tabulate
-    written = elim v [ of_four ↦ refl | of_eight ↦ refl | of_sixteen ↦ refl ]
+    written =
+        elim v as (λ (u : Wide). outcome f 0 (writing 0 (shown f (lowest u) 1) (8 ∷ 9 ∷ 7 ∷ [])) (keeping u r (sixteen 34) b c d y z)
+        ≡ record { copy = keeping u r (sixteen 34) b 8 9 y z; reply = told 0 none none 0 0 (8 ∷ 9 ∷ 7 ∷ []) })
+        [ of_four ↦ refl | of_eight ↦ refl | of_sixteen ↦ refl ]
 
     ran : run_below f (cuts f v) copy ≡ record { replies = cut_answers f v; copy = after }
     ran =

@@ -7,9 +7,8 @@ use Prim.Native.Nat.{ℕ, ◌+◌, ◌*◌, ◌<◌}
 use native.Mathlib.Omega.{arith}
 use mathlib.Core.Bool.{true}
 use mathlib.Core.List.{List, [], ◌∷◌, ◌++◌}
-use lib.ListN.{length, get_or}
+use lib.ListN.{get_or}
 use Rattle.handle.specs.Handles.{Name}
-use Rattle.store.specs.declared.Place.TheVariants.{Present}
 use Rattle.store.specs.Records.{cluster_at}
 use Rattle.store.proofs.ChangeLaws.{put_other}
 use Rattle.calls.specs.Calls.{Copy, Call, renewing, freezing}
@@ -20,7 +19,7 @@ use Rattle.calls.proofs.Computing.{computing}
 use Rattle.calls.proofs.StepLaws.{number_below_lem}
 use Rattle.isolation.specs.Copies.{Done}
 use Rattle.isolation.specs.Renewals.{SameButOther, Guess, Untold}
-use Rattle.isolation.specs.Frozen.{place_at, frozen_at, Fixed, FromThenOn}
+use Rattle.isolation.specs.Frozen.{frozen_at, Fixed, FromThenOn}
 use Rattle.isolation.specs.UseLists.{Wide, of_four, of_eight, of_sixteen, top, own, rest, apart, records, low, high, keeping}
 use Rattle.isolation.specs.Uses.{UntoldUses, OtherUses, FrozenUses, FreezeUses}
 use Rattle.isolation.proofs.UseCopyLaws.{sound_keeping, top_low, at_top, at_high, its_top, its_first}
@@ -115,7 +114,9 @@ top_bytes v r w b c d y z e fixed i h =
 module _ (f : Name → List ℕ → ℕ → List ℕ) (v : Wide) where
   module _ (r w : List ℕ) (b c d y z : ℕ) (xs : List Call) where
     pub its_mark : frozen_at (keeping v r w b c d y z).store 3 7 (top v) ≡ true
-    its_mark = elim v [ of_four ↦ refl | of_eight ↦ refl | of_sixteen ↦ refl ]
+    its_mark =
+        elim v as (λ (u : Wide). frozen_at (keeping u r w b c d y z).store 3 7 (top u) ≡ true)
+        [ of_four ↦ refl | of_eight ↦ refl | of_sixteen ↦ refl ]
 
     fixed : Fixed 3 7 (top v) 0 4 (keeping v r w b c d y z) (run f xs (keeping v r w b c d y z)).copy
     fixed =

@@ -20,7 +20,7 @@ use Rattle.calls.specs.Looks.{looked_by}
 use Rattle.calls.proofs.StepLaws.{number_below}
 use Rattle.isolation.specs.Copies.{also}
 use Rattle.isolation.specs.UseLists.{repeated}
-use Rattle.isolation.proofs.RunLaws.{step_below, run_below, append_below, places_below, append_places, some_below, append_some, ran_by}
+use Rattle.isolation.proofs.RunLaws.{run_below, append_below, places_below, append_places, some_below, append_some, ran_by}
 
 module _ (f : Name → List ℕ → ℕ → List ℕ) where
   -- ---- one pass

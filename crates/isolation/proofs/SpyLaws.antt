@@ -12,7 +12,6 @@ use Rattle.store.specs.declared.Store.{Store}
 use Rattle.store.specs.Records.{cluster_at}
 use Rattle.store.specs.Records.{read_mode}
 use Rattle.calls.specs.Calls.{Call, Kind, read, reduce, new_password, join, validate, look, opens, needed}
-use Rattle.calls.specs.Calls.{reading}
 use Rattle.calls.specs.Words.{Named, ReadMode}
 use Rattle.isolation.specs.Copies.{set_apart, keyed}
 use Rattle.isolation.specs.Writers.{Spies}

@@ -15,7 +15,7 @@ use Rattle.calls.specs.Calls.{Copy, Call, call, Arguments, Kind, new_cluster, de
 use Rattle.calls.specs.Calls.{read, write, weaken, reduce, new_password, freeze, join, validate, look, opens}
 use Rattle.calls.specs.Numbers.{number}
 use Rattle.calls.specs.Steps.{left, step, run}
-use Rattle.isolation.specs.Copies.{SoundCopy, Done, InPlace, set_apart, Alike, Held, Shut, places}
+use Rattle.isolation.specs.Copies.{SoundCopy, Done, InPlace, set_apart, Alike, Held, Shut}
 use Rattle.isolation.specs.Statements.{TwoCopies}
 use Rattle.isolation.proofs.AddressLaws.{place_outside}
 use Rattle.calls.proofs.DoneLaws.{new_away}

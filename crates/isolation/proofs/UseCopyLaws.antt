@@ -21,7 +21,6 @@ use Rattle.store.specs.declared.Place.TheVariants.{Absent, Present}
 use Rattle.store.specs.Records.{record_of, table_at, place_at, place_on}
 use Rattle.store.proofs.QuickLaws.{quick, quickly, sound_quick}
 use Rattle.store.proofs.ChangeLaws.{put_other}
-use Rattle.calls.specs.Calls.{Copy}
 use Rattle.isolation.specs.Copies.{SoundCopy, InPlace, Outside, Alike}
 use Rattle.isolation.specs.Writers.{SameToWriters}
 use Rattle.isolation.specs.UseLists.{Wide, of_four, of_eight, of_sixteen, top, rest, apart, records, low, high, keeping}
@@ -31,7 +30,9 @@ use Rattle.isolation.specs.UseLists.{Wide, of_four, of_eight, of_sixteen, top, r
 quick_keeping : (v : Wide) (r w : List ℕ) (b c d y z : ℕ)
     → quick (records v r w) (length (keeping v r w b c d y z).memory) ≡ true
 unfolding quickly
-quick_keeping v r w b c d y z = elim v [ of_four ↦ refl | of_eight ↦ refl | of_sixteen ↦ refl ]
+quick_keeping of_four r w b c d y z = refl
+quick_keeping of_eight r w b c d y z = refl
+quick_keeping of_sixteen r w b c d y z = refl
 
 pub sound_keeping : (v : Wide) (r w : List ℕ) (b c d y z : ℕ) → SoundCopy (keeping v r w b c d y z)
 sound_keeping v r w b c d y z =
@@ -60,7 +61,9 @@ in_between node lo hi (Present base size) p e (l, h) =
 module _ (v : Wide) (r w : List ℕ) where
   its_ends : every segments (λ i. between 0 6 (place_at (table_at (records v r w)) 31 i)) ≡ true
   unfolding every
-  its_ends = elim v [ of_four ↦ refl | of_eight ↦ refl | of_sixteen ↦ refl ]
+  its_ends =
+      elim v as (λ (u : Wide). every segments (λ i. between 0 6 (place_at (table_at (records u r w)) 31 i)) ≡ true)
+      [ of_four ↦ refl | of_eight ↦ refl | of_sixteen ↦ refl ]
 
   pub its_bytes : (i p : ℕ) → i < segments → InPlace 3 (place_at (table_at (records v r w)) 31 i) p → (12288 ≤ p) × (p < 12294)
   its_bytes i p hi u =
@@ -68,10 +71,10 @@ module _ (v : Wide) (r w : List ℕ) where
       (every_at segments (λ j. between 0 6 (place_at (table_at (records v r w)) 31 j)) its_ends i hi) u
 
   pub its_top : place_at (table_at (records v r w)) 31 (top v) ≡ Present 0 4
-  its_top = elim v [ of_four ↦ refl | of_eight ↦ refl | of_sixteen ↦ refl ]
+  its_top = elim v as (λ (u : Wide). place_at (table_at (records u r w)) 31 (top u) ≡ Present 0 4) [ of_four ↦ refl | of_eight ↦ refl | of_sixteen ↦ refl ]
 
   pub its_first : place_at (table_at (records v r w)) 31 0 ≡ Present 4 2
-  its_first = elim v [ of_four ↦ refl | of_eight ↦ refl | of_sixteen ↦ refl ]
+  its_first = elim v as (λ (u : Wide). place_at (table_at (records u r w)) 31 0 ≡ Present 4 2) [ of_four ↦ refl | of_eight ↦ refl | of_sixteen ↦ refl ]
 
   pub in_top : (q : ℕ) → q < 4 → InPlace 3 (place_at (table_at (records v r w)) 31 (top v)) (12288 + q)
   in_top q l = subst (λ (p : Place). InPlace 3 p (12288 + q)) (sym its_top) (omega arith, omega arith)

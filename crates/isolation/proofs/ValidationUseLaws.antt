@@ -97,7 +97,9 @@ module _ (f : Name → List ℕ → ℕ → List ℕ) where
         × (chained f (validating 2 (own v 3 7 k)).args (judged f v a b).store ≡ sixteen b)
         × ((decoded (own v 3 7 k)).password ≡ sixteen k)
     unfolding computing
-    chain_own v a b k = elim v [ of_four ↦ (refl, refl, refl) | of_eight ↦ (refl, refl, refl) | of_sixteen ↦ (refl, refl, refl) ]
+    chain_own of_four a b k = (refl, refl, refl)
+    chain_own of_eight a b k = (refl, refl, refl)
+    chain_own of_sixteen a b k = (refl, refl, refl)
 
     chain_cut : (v : Wide) (a b k : ℕ)
         → (chained f (validating 1 (cut f v k)).args (judged f v a b).store ≡ password f v a)

@@ -42,23 +42,28 @@ module _ (f : Name → List ℕ → ℕ → List ℕ) where
 
   unspied_one : (v : Sort) → some_below f (spying 0 2 f) (writes v) (one v) ≡ false
   unfolding keyed tests effects computing
-  unspied_one v = elim v [ of_four ↦ refl | of_sixteen ↦ refl ]
+  unspied_one of_four = refl
+  unspied_one of_sixteen = refl
 
   unspied_mate : (v : Sort) → some_below f (spying 0 2 f) (writes v) (mate v) ≡ false
   unfolding keyed tests effects computing
-  unspied_mate v = elim v [ of_four ↦ refl | of_sixteen ↦ refl ]
+  unspied_mate of_four = refl
+  unspied_mate of_sixteen = refl
 
   writes_numbered : (v : Sort) → numbered f (numbers_of f (writes_answers v)) (writes v) (one v) ≡ true
   unfolding tests effects computing
-  writes_numbered v = elim v [ of_four ↦ refl | of_sixteen ↦ refl ]
+  writes_numbered of_four = refl
+  writes_numbered of_sixteen = refl
 
   written : (v : Sort) → (ran_by f (numbers_of f (writes_answers v)) (writes v) (one v)).replies ≡ writes_answers v
   unfolding effects computing
-  written v = elim v [ of_four ↦ refl | of_sixteen ↦ refl ]
+  written of_four = refl
+  written of_sixteen = refl
 
   looked : (v : Sort) → places_below f (writes v) (one v) ≡ writes_places
   unfolding tests effects computing
-  looked v = elim v [ of_four ↦ refl | of_sixteen ↦ refl ]
+  looked of_four = refl
+  looked of_sixteen = refl
 
   no_reader : (v : Sort) (c : Copy) → SoundCopy c → some_below f (spying 0 2 f) (writes v) c ≡ false
       → NoReader 0 2 f (step f) (writes v) c
@@ -112,15 +117,18 @@ module _ (f : Name → List ℕ → ℕ → List ℕ) where
 
   unwritten : (v : Sort) → some_below f (keyed 0 2 f write_mode) (reads v) (one v) ≡ false
   unfolding keyed tests effects computing
-  unwritten v = elim v [ of_four ↦ refl | of_sixteen ↦ refl ]
+  unwritten of_four = refl
+  unwritten of_sixteen = refl
 
   reads_numbered : (v : Sort) → numbered f (numbers_of f (reads_answers v)) (reads v) (one v) ≡ true
   unfolding tests effects computing
-  reads_numbered v = elim v [ of_four ↦ refl | of_sixteen ↦ refl ]
+  reads_numbered of_four = refl
+  reads_numbered of_sixteen = refl
 
   read : (v : Sort) → (ran_by f (numbers_of f (reads_answers v)) (reads v) (one v)).replies ≡ reads_answers v
   unfolding effects computing
-  read v = elim v [ of_four ↦ refl | of_sixteen ↦ refl ]
+  read of_four = refl
+  read of_sixteen = refl
 
   pub reads_met : (v : Sort) → ReadsMet f v
   reads_met v =
@@ -153,11 +161,13 @@ module _ (f : Name → List ℕ → ℕ → List ℕ) where
 
   attempts_numbered : (v : Sort) → numbered f (numbers_of f attempt_answers) (the_freeze v ∷ attempts v) (one v) ≡ true
   unfolding tests effects computing
-  attempts_numbered v = elim v [ of_four ↦ refl | of_sixteen ↦ refl ]
+  attempts_numbered of_four = refl
+  attempts_numbered of_sixteen = refl
 
   attempted : (v : Sort) → (ran_by f (numbers_of f attempt_answers) (the_freeze v ∷ attempts v) (one v)).replies ≡ attempt_answers
   unfolding effects computing
-  attempted v = elim v [ of_four ↦ refl | of_sixteen ↦ refl ]
+  attempted of_four = refl
+  attempted of_sixteen = refl
 
   pub frozen_met : (v : Sort) → FrozenMet f v
   frozen_met v =

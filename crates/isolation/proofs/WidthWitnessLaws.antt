@@ -40,7 +40,8 @@ use Rattle.isolation.proofs.WitnessLaws.{same_bytes}
 
 quick_here : (v : Sort) (r p b : ℕ) → quick (here v r p b).store (length (here v r p b).memory) ≡ true
 unfolding quickly
-quick_here v r p b = elim v [ of_four ↦ refl | of_sixteen ↦ refl ]
+quick_here of_four r p b = refl
+quick_here of_sixteen r p b = refl
 
 pub sound_here : (v : Sort) (r p b : ℕ) → SoundCopy (here v r p b)
 sound_here v r p b = sound_quick (here v r p b).store (length (here v r p b).memory) ∙ quick_here v r p b
@@ -67,18 +68,21 @@ module _ (f : Name → List ℕ → ℕ → List ℕ) where
 
   numbers_before : (v : Sort) → numbered f (numbers_of f (before_answers f v)) (before v) (one v) ≡ true
   unfolding tests effects computing
-  numbers_before v = elim v [ of_four ↦ refl | of_sixteen ↦ refl ]
+  numbers_before of_four = refl
+  numbers_before of_sixteen = refl
 
   ran_before : (v : Sort) → run_below f (before v) (one v) ≡ ran v
   ran_before v = ran_by_lem f (numbers_of f (before_answers f v)) (before v) (one v) (numbers_before v)
 
   replies_before : (v : Sort) → (ran v).replies ≡ before_answers f v
   unfolding effects computing
-  replies_before v = elim v [ of_four ↦ refl | of_sixteen ↦ refl ]
+  replies_before of_four = refl
+  replies_before of_sixteen = refl
 
   places_before : (v : Sort) → places_below f (before v) (one v) ≡ telling 25 0 0 ∷ telling 9 0 0 ∷ telling 0 4 6 ∷ []
   unfolding tests effects computing
-  places_before v = elim v [ of_four ↦ refl | of_sixteen ↦ refl ]
+  places_before of_four = refl
+  places_before of_sixteen = refl
 
   -- the records that they leave: the other cluster has its segment
   abbrev records : Sort → Store
@@ -87,7 +91,8 @@ module _ (f : Name → List ℕ → ℕ → List ℕ) where
 
   records_before : (v : Sort) → (left v).store ≡ records v
   unfolding effects computing
-  records_before v = elim v [ of_four ↦ refl | of_sixteen ↦ refl ]
+  records_before of_four = refl
+  records_before of_sixteen = refl
 
   -- ---- the last
 
@@ -140,16 +145,19 @@ module _ (f : Name → List ℕ → ℕ → List ℕ) where
   outcome_read : (v : Sort) → outcome f 0 (last_read f v) (left v)
       ≡ record { copy = left v; reply = told 0 none none 0 2 (5 ∷ 6 ∷ 3 ∷ []) }
   unfolding effects computing tabulate
-  outcome_read v = elim v [ of_four ↦ refl | of_sixteen ↦ refl ]
+  outcome_read of_four = refl
+  outcome_read of_sixteen = refl
 
   outcome_look : (v : Sort) → outcome f 0 (last_look f v) (left v) ≡ record { copy = left v; reply = shows 0 (5 ∷ 6 ∷ []) }
   unfolding effects computing tabulate
-  outcome_look v = elim v [ of_four ↦ refl | of_sixteen ↦ refl ]
+  outcome_look of_four = refl
+  outcome_look of_sixteen = refl
 
   outcome_join : (v : Sort) → outcome f 0 (last_join f v) (left v)
       ≡ record { copy = left v; reply = told 0 (cut_made f (both (turned v))) none 0 0 [] }
   unfolding effects computing tabulate
-  outcome_join v = elim v [ of_four ↦ refl | of_sixteen ↦ refl ]
+  outcome_join of_four = refl
+  outcome_join of_sixteen = refl
 
   step_read : (v : Sort) → step_below f (last_read f v) (left v)
       ≡ record { copy = left v; reply = told 0 none none 0 2 (5 ∷ 6 ∷ 3 ∷ []) }
@@ -180,7 +188,8 @@ module _ (f : Name → List ℕ → ℕ → List ℕ) where
 
   looked_part : (v : Sort) → looked_by 0 (last_look f v) (table_at (records v)) ≡ telling 0 4 6
   unfolding computing tabulate
-  looked_part v = elim v [ of_four ↦ refl | of_sixteen ↦ refl ]
+  looked_part of_four = refl
+  looked_part of_sixteen = refl
 
   place_look : (v : Sort) → looked_below f (last_look f v) (left v) ≡ telling 0 4 6
   place_look v =
@@ -200,11 +209,13 @@ module _ (f : Name → List ℕ → ℕ → List ℕ) where
 
   unkeyed_one : (v : Sort) → some_below f (is_keyed f 0 2) (tries f v) (one v) ≡ false
   unfolding keyed tests effects computing tabulate
-  unkeyed_one v = elim v [ of_four ↦ refl | of_sixteen ↦ refl ]
+  unkeyed_one of_four = refl
+  unkeyed_one of_sixteen = refl
 
   unkeyed_two : (v : Sort) → some_below f (is_keyed f 0 2) (tries f v) (two v) ≡ false
   unfolding keyed tests effects computing tabulate
-  unkeyed_two v = elim v [ of_four ↦ refl | of_sixteen ↦ refl ]
+  unkeyed_two of_four = refl
+  unkeyed_two of_sixteen = refl
 
   weak : SixteenBytes f → (c : Cut) → cut_made f c ≡ cut_shown f c
   weak gives c =

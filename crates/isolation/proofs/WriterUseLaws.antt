@@ -15,7 +15,7 @@ use Rattle.calls.specs.Numbers.{tests}
 use Rattle.calls.specs.Steps.{Ran, effects, step, run}
 use Rattle.calls.specs.Literals.{sixteen}
 use Rattle.calls.proofs.Computing.{computing}
-use Rattle.isolation.specs.Copies.{InPlace, keyed, places}
+use Rattle.isolation.specs.Copies.{InPlace, keyed}
 use Rattle.isolation.specs.Writers.{Spies, NoReader, Untold}
 use Rattle.isolation.specs.UseLists.{Wide, of_four, of_eight, of_sixteen, records, keeping, repeated, writes, write_answers}
 use Rattle.isolation.specs.UseLists.{write_places}
@@ -35,17 +35,23 @@ module _ (f : Name → List ℕ → ℕ → List ℕ) where
   numbers_checked : (v : Wide) (r : List ℕ) (b c d y z : ℕ)
       → checked f (spying 3 7 f) (numbers_of f (write_answers v)) (writes v) (copy v r b c d y z) ≡ true
   unfolding keyed tests effects computing
-  numbers_checked v r b c d y z = elim v [ of_four ↦ refl | of_eight ↦ refl | of_sixteen ↦ refl ]
+  numbers_checked of_four r b c d y z = refl
+  numbers_checked of_eight r b c d y z = refl
+  numbers_checked of_sixteen r b c d y z = refl
 
   ran : (v : Wide) (r : List ℕ) (b c d y z : ℕ) → ran_by f (numbers_of f (write_answers v)) (writes v) (copy v r b c d y z)
       ≡ record { replies = write_answers v; copy = copy v r b 8 9 0 z }
   unfolding effects computing
-  ran v r b c d y z = elim v [ of_four ↦ refl | of_eight ↦ refl | of_sixteen ↦ refl ]
+  ran of_four r b c d y z = refl
+  ran of_eight r b c d y z = refl
+  ran of_sixteen r b c d y z = refl
 
   told : (v : Wide) (r : List ℕ) (b c d y z : ℕ)
       → told_by f (numbers_of f (write_answers v)) (writes v) (copy v r b c d y z) ≡ write_places
   unfolding effects computing
-  told v r b c d y z = elim v [ of_four ↦ refl | of_eight ↦ refl | of_sixteen ↦ refl ]
+  told of_four r b c d y z = refl
+  told of_eight r b c d y z = refl
+  told of_sixteen r b c d y z = refl
 
   module _ (v : Wide) (r : List ℕ) (b c d y z n : ℕ) where
     one : (c d y : ℕ)

@@ -16,7 +16,7 @@ use Rattle.calls.specs.Calls.{Copy, Call, reading, writing, weakening_by, reduci
 use Rattle.calls.specs.Numbers.{valid, violated, tests, other_tests}
 use Rattle.calls.specs.Steps.{Reply, Ran, followed, Outcome, effects, outcome, step, run}
 use Rattle.calls.specs.Literals.{primary, none, told}
-use Rattle.isolation.specs.Copies.{SoundCopy, InPlace, keyed, places}
+use Rattle.isolation.specs.Copies.{SoundCopy, InPlace, keyed}
 use Rattle.isolation.specs.Writers.{Spies, NoReader, Untold}
 use Rattle.isolation.specs.WriterLists.{kept, beyond, keeping, ours, theirs, opening, rest, whole_list, opening_answers, rest_answers}
 use Rattle.isolation.specs.WriterLists.{marks, marks_answers, told_places, password, weaker_made, weaker_shown, gapped_shown}

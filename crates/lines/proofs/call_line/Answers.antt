@@ -13,5 +13,4 @@ returns-then-segment-gt-NODE_MEMORY c = record { begins = search (rules, call_lo
 
 pub returns : goal.returns
 returns c =
-    let told = c.put_told-q.ensures in
-    record { begins = search (rules, call_whole); upper_bound = omega arith; upper_bound_2 = λ other. let b = told.1.1 other in omega arith }
+    record { begins = search (rules, call_whole); upper_bound = omega arith; upper_bound_2 = λ other. let b = c.put_told-q.ensures.upper_bound_2 other in omega arith }

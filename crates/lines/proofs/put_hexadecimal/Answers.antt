@@ -1,10 +1,6 @@
-use Prim.Native.Nat.{◌≤◌, ◌-◌, ◌+◌, ◌*◌}
 use native.Mathlib.Omega.{arith}
-use mathlib.Core.Path.{◌≡◌}
-use lib.ListN.{length, take, length-set}
+use lib.ListN.{length-set}
 use borrow.Author.Rules.{rules}
-use Rattle.lines.specs.Text.{hexadecimal}
-use Rattle.lines.specs.Buffers.{Put}
 use Rattle.lines.proofs.PutLaws.{hexadecimal_none, hexadecimal_next, hexadecimal_all}
 use Rattle.lines.proofs.put_hexadecimal.Goals as goal
 
@@ -21,4 +17,5 @@ pub loop-i-preserved : goal.loop-i-preserved
 loop-i-preserved c = (search rules, search rules, search rules, search (rules, hexadecimal_next))
 
 pub returns : goal.returns
-returns c = record { put = search (rules, hexadecimal_all); value = omega arith }
+returns c =
+    record { put = hexadecimal_all _ _ _ _ _ _ c.loop-i.invariant.3 (omega arith); value = omega arith }

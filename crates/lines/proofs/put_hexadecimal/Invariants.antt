@@ -1,13 +1,10 @@
 -- After i turns the digits of the first i bytes are put, two places a byte; the measure is what is left of the bytes.
 -- Assumes nothing.
 use Prim.Native.Nat.{◌≤◌, ◌-◌, ◌+◌, ◌*◌}
-use native.Mathlib.Omega.{arith}
 use mathlib.Core.Path.{◌≡◌}
-use lib.ListN.{length, take, length-set}
-use borrow.Author.Rules.{rules}
+use lib.ListN.{length, take}
 use Rattle.lines.specs.Text.{hexadecimal}
 use Rattle.lines.specs.Buffers.{Put}
-use Rattle.lines.proofs.PutLaws.{hexadecimal_none, hexadecimal_next, hexadecimal_all}
 use Rattle.lines.proofs.put_hexadecimal.Given as goal
 
 abbrev pub invariant-loop-i : goal.invariant-loop-i

@@ -1,9 +1,5 @@
-use Prim.Native.Nat.{◌≤◌, ◌-◌}
 use native.Mathlib.Omega.{arith}
-use mathlib.Core.Path.{◌≡◌}
-use lib.ListN.{length, take}
 use borrow.Author.Rules.{rules}
-use Rattle.lines.specs.Buffers.{Put}
 use Rattle.lines.proofs.PutLaws.{put_none, word_next, word_all}
 use Rattle.lines.proofs.put_word.Goals as goal
 

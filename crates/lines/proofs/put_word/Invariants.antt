@@ -1,12 +1,9 @@
 -- After i turns the first i bytes of the word are put; the measure is what is left of it.
 -- Assumes nothing.
 use Prim.Native.Nat.{◌≤◌, ◌-◌}
-use native.Mathlib.Omega.{arith}
 use mathlib.Core.Path.{◌≡◌}
 use lib.ListN.{length, take}
-use borrow.Author.Rules.{rules}
 use Rattle.lines.specs.Buffers.{Put}
-use Rattle.lines.proofs.PutLaws.{put_none, word_next, word_all}
 use Rattle.lines.proofs.put_word.Given as goal
 
 abbrev pub invariant-loop-i : goal.invariant-loop-i
