@@ -8,7 +8,7 @@ use mathlib.Core.Bool.{Bool, true, not, ◌&&◌}
 use mathlib.Core.List.{List, [], ◌∷◌}
 use lib.Dec.{eqb}
 use lib.ListN.{length}
-use Rattle.bits.specs.Sets.{full, count}
+use Rattle.bits.specs.Sets.{full}
 use Rattle.sizes.specs.Sizes.{memory}
 use Rattle.handle.specs.declared.Handle.{Handle}
 use Rattle.handle.specs.declared.Weakened.{Weakened}

@@ -13,13 +13,12 @@ use Rattle.handle.specs.declared.Handle.{Handle}
 use Rattle.handle.specs.declared.Weakened.{Weakened}
 use Rattle.handle.specs.Widths.{bits_of, packed}
 use Rattle.handle.specs.Selectors.{Within}
-use Rattle.handle.specs.Handles.{Name, name_of, width_of, no_handle, encoded, decoded, written, Holdable, refusal}
+use Rattle.handle.specs.Handles.{Name, name_of, width_of, no_handle, encoded, decoded, Holdable, refusal}
 use Rattle.handle.specs.Handles.{through, weaken_number, weakened, weakening, reduced}
 use Rattle.handle.specs.Conversion.{SixteenBytes}
 use Rattle.handle.proofs.TripLaws.{decode_encode}
 use Rattle.store.specs.Records.{cluster_at, primary_of}
 use Rattle.calls.specs.Calls.{Copy}
-use Rattle.calls.specs.Literals.{none}
 use Rattle.isolation.specs.UseLists.{Wide, of_four, of_eight, of_sixteen, records, keeping}
 use Rattle.cuts.specs.cases.Replies.{by, Written, g, three, Told, ThreeTold}
 use Rattle.cuts.specs.cases.Replies as L

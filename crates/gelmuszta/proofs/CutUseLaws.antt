@@ -131,8 +131,8 @@ module _ (v : Wide) (q : Passwords) (b c d y z : ℕ) where
           × WayMet product v 2 (sixteen (writing q)) (keeping v (sixteen (reads q)) (sixteen (writing q)) b c d y z)
       met =
           aes_ways_met v (sixteen (reads q)) (sixteen (writing q)) b c d y z
-          (sound reads (λ q. elim q [ equal ↦ refl | others ↦ refl | another ↦ refl ]))
-          (sound writing (λ q. elim q [ equal ↦ refl | others ↦ refl | another ↦ refl ]))
+          (sound reads (λ q. elim q as (λ (p : Passwords). low_bytes (sixteen (reads p)) ≡ true) [ equal ↦ refl | others ↦ refl | another ↦ refl ]))
+          (sound writing (λ q. elim q as (λ (p : Passwords). low_bytes (sixteen (writing p)) ≡ true) [ equal ↦ refl | others ↦ refl | another ↦ refl ]))
 
 pub images_met : ImagesMet
 images_met v q b c d y z = images_met_at v q b c d y z

@@ -3,10 +3,10 @@
 -- Assumes nothing.
 use mathlib.Core.Path.{◌≡◌, refl, sym, ap, ◌∙◌}
 use mathlib.Core.Bool.{Bool, true, false}
-use mathlib.Core.List.{List, [], ◌∷◌, ◌++◌}
+use mathlib.Core.List.{List, [], ◌∷◌}
 use Prim.Native.Nat.{ℕ, zero, suc, ◌-◌, ◌≤◌}
 use native.Mathlib.Omega.{arith}
-use lib.ListN.{length, take, replicate, length-append, length-replicate}
+use lib.ListN.{length, replicate, length-append, length-replicate}
 use lib.Seq.{length-take-le}
 use Rattle.handle.specs.declared.HandleBytes.{HandleBytes}
 use Rattle.handle.specs.Widths.{most_bytes}
@@ -24,7 +24,7 @@ use Rattle.calls.specs.Answers.{copy_of}
 use Rattle.image.specs.Images.{good, store_in, image_of}
 use Rattle.image.proofs.TripLaws.{image_store}
 use Rattle.gelmuszta.specs.Exported.{Exported, leaving, early, damaged, imaged, exported}
-use Rattle.gelmuszta.specs.Given.{Spread, GivenHeld, HandlesGiven, RepliesWritten, WeakenedAlways}
+use Rattle.gelmuszta.specs.Given.{Spread, HandlesGiven, RepliesWritten, WeakenedAlways}
 
 -- ---- what replies hold
 

@@ -8,7 +8,6 @@ use Prim.Native.Nat.{ℕ}
 use native.Mathlib.Omega.{arith}
 use lib.ListN.{length}
 use Rattle.loops.specs.Below.{every}
-use Rattle.bits.specs.Bytes.{bytes}
 use Rattle.handle.specs.Handles.{no_width, decoded}
 use Rattle.handle.specs.Conversion.{product}
 use Rattle.store.specs.declared.Store.{Store}
@@ -27,7 +26,7 @@ use Rattle.image.specs.Images.{good_record, good}
 use Rattle.image.proofs.TripLaws.{store_image}
 use Rattle.gelmuszta.specs.Exported.{exported}
 use Rattle.gelmuszta.specs.Fits.{AllFit}
-use Rattle.gelmuszta.specs.Runs.{RanOn, held, left_on, FixedOn, FromThenOnImages}
+use Rattle.gelmuszta.specs.Runs.{RanOn, left_on, FixedOn, FromThenOnImages}
 use Rattle.gelmuszta.specs.ImageUses.{Passwords, equal, reads, writing, store, image, memory, broken}
 use Rattle.gelmuszta.specs.ImageUses.{FrozenOnUses, FrozenFromUses, LookUses}
 use Rattle.gelmuszta.proofs.FitLaws.{fits_out}

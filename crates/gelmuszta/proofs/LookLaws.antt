@@ -23,7 +23,7 @@ use Rattle.calls.specs.Answers.{copy_of}
 use Rattle.calls.specs.Looks.{nowhere, part_by, looked, aes_looked}
 use Rattle.calls.proofs.LookLaws.{step_looked, part_inside, look_in_words}
 use Rattle.image.specs.Images.{good, store_in, image_of}
-use Rattle.gelmuszta.specs.Exported.{Exported, leaving, early, damaged, exported, part_from, exported_part, imaged, OnEveryMemory}
+use Rattle.gelmuszta.specs.Exported.{Exported, leaving, early, exported, part_from, exported_part, imaged, OnEveryMemory}
 use Rattle.gelmuszta.specs.declared.Opened.{Opened}
 use Rattle.gelmuszta.specs.inner.Opened.{Opens}
 use Rattle.gelmuszta.specs.Looks.{LookOnImage}

@@ -8,7 +8,7 @@
 --       told                  the count that is told is that of the places judged
 --     NoneJudged            where w is none of the three, the numbers stay as they were, and 0 is told
 -- Assumes nothing.
-use Rattle.std.specs.Prelude.{◌≡◌, ◌≢◌, ◌⊎◌, ◌↔◌, ℕ, ◌+◌, ◌*◌, ◌≤◌, ◌<◌, List, length, get_or}
+use Rattle.std.specs.Prelude.{◌≡◌, ◌⊎◌, ◌↔◌, ℕ, ◌+◌, ◌*◌, ◌≤◌, ◌<◌, List, length, get_or}
 use Rattle.calls.specs.Calls.{validating}
 use Rattle.gelmuszta.specs.Exported.{exported}
 use Rattle.gelmuszta.specs.Validation.{each, as_many, numbers_of}

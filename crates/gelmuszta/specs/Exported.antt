@@ -29,7 +29,7 @@ use Rattle.store.specs.declared.Store.{Store}
 use Rattle.calls.specs.Calls.{Call, among, buffer}
 use Rattle.calls.specs.declared.Part.{Part}
 use Rattle.calls.specs.Numbers.{bad_length}
-use Rattle.calls.specs.Steps.{Reply, Outcome, no_bytes, plain, look_reply, aes_step}
+use Rattle.calls.specs.Steps.{Reply, Outcome, no_bytes, plain, aes_step}
 use Rattle.calls.specs.Looks.{nowhere, aes_looked}
 use Rattle.calls.specs.Answers.{copy_of}
 use Rattle.image.specs.Images.{good, store_in, image_of}

@@ -12,7 +12,6 @@
 --                        image, with a handle of no length, and done
 -- Assumes nothing.
 use Rattle.std.specs.Prelude.{◌≡◌, true, List, [], ◌∷◌, ◌++◌, ℕ, ◌+◌, ◌-◌, ◌<◌, ◌≤◌, length, get_or, take, drop, replicate}
-use Rattle.handle.specs.Conversion.{product}
 use Rattle.store.specs.declared.Place.TheVariants.{Present}
 use Rattle.store.specs.declared.Store.{Store}
 use Rattle.store.specs.Records.{cluster_at, table_at}

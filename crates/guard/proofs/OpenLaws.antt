@@ -8,7 +8,6 @@ use lib.ListN.{length}
 use Rattle.sizes.specs.Sizes.{records}
 use Rattle.handle.specs.declared.Handle.{Handle}
 use Rattle.handle.specs.Handles.{node_of, decoded, first_of}
-use Rattle.store.specs.declared.Cluster.{Cluster}
 use Rattle.store.specs.declared.Store.{Store}
 use Rattle.store.specs.declared.Found.{Found}
 use Rattle.store.specs.Records.{cluster_at, table_at, put_record, record_at}

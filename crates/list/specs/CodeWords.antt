@@ -9,11 +9,11 @@
 --     Ignores c ss          records of 64 bytes with the code c that agree in ss do the same
 --     BytesInWords          the bytes that count, a line for each code; of a write those of its data too, and no more
 -- Assumes nothing.
-use Rattle.std.specs.Prelude.{◌≡◌, ◌⊎◌, ℕ, ◌+◌, ◌*◌, ◌≤◌, ◌<◌, List, [], ◌∷◌, length, get_or}
+use Rattle.std.specs.Prelude.{◌≡◌, ◌⊎◌, ℕ, ◌+◌, ◌*◌, ◌≤◌, ◌<◌, List, [], ◌∷◌, length}
 use Rattle.calls.specs.Calls.{Call, making_cluster, deleting_cluster, making_segment, deleting_segment, reading, writing}
 use Rattle.calls.specs.Calls.{weakening_by, reducing, renewing, freezing, joining}
 use Rattle.list.specs.Records.{byte, field}
-use Rattle.list.specs.Runs.{Bench, Performed, stepped, performed}
+use Rattle.list.specs.Runs.{Bench, stepped, performed}
 
 pub record Span : Type 0 where
   pub first : ℕ

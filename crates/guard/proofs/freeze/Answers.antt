@@ -2,7 +2,6 @@
 -- Assumes nothing.
 use mathlib.Core.Path.{refl}
 use Rattle.guard.proofs.OpenLaws.{put_back_is}
-use borrow.Author.Rules.{rules}
 use Rattle.guard.proofs.freeze.Goals as goal
 
 pub returns : goal.returns

@@ -1,7 +1,6 @@
 -- The core, on what was looked up and the second handle.
 -- Assumes nothing.
 use mathlib.Core.Path.{refl}
-use borrow.Author.Rules.{rules}
 use Rattle.guard.proofs.join.Goals as goal
 
 pub returns : goal.returns

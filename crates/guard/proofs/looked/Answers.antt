@@ -1,7 +1,6 @@
 -- The core, on what was looked up.
 -- Assumes nothing.
 use Rattle.guard.proofs.LookLaws.{looked_is}
-use borrow.Author.Rules.{rules}
 use Rattle.guard.proofs.looked.Goals as goal
 
 pub returns : goal.returns

@@ -1,7 +1,6 @@
 -- The core, on the record of the place named; the record put back.
 -- Assumes nothing.
 use Rattle.guard.proofs.OpenLaws.{put_back_is, given_place}
-use borrow.Author.Rules.{rules}
 use Rattle.guard.proofs.new_cluster.Goals as goal
 
 pub returns : goal.returns

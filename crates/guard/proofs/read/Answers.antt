@@ -1,7 +1,6 @@
 -- The core, on what was looked up.
 -- Assumes nothing.
 use mathlib.Core.Path.{refl}
-use borrow.Author.Rules.{rules}
 use Rattle.guard.proofs.read.Goals as goal
 
 pub returns : goal.returns

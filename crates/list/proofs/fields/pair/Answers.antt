@@ -2,7 +2,6 @@
 -- Assumes nothing.
 use mathlib.Core.Path.{sym, ◌∙◌}
 use Rattle.bits.proofs.ByteLaws.{word_two}
-use borrow.Author.Rules.{rules}
 use Rattle.list.proofs.fields.pair.Goals as goal
 
 pub returns : goal.returns

@@ -2,8 +2,6 @@
 -- Assumes nothing.
 use Rattle.list.proofs.CheckLaws.{check_uneven, check_long, check_empty, check_way}
 use borrow.Author.Rules.{rules}
-use Rattle.list.proofs.text.check.Reads as reads
-use Rattle.chain.proofs.way.Reads as way-reads
 use Rattle.list.proofs.text.check.Goals as goal
 
 pub returns-then-size-ne0 : goal.returns-then-size-ne0

@@ -1,9 +1,5 @@
-use Prim.Native.Nat.{suc, ◌-◌}
-use mathlib.Core.Bool.{not}
-use Rattle.loops.proofs.RunningLaws.{Running, running_none, running_more, running_all}
-use Rattle.chain.specs.Bytes.{count}
-use Rattle.list.specs.Records.{record_bytes}
-use Rattle.list.specs.Texts.{is_read, quiet}
+use Rattle.loops.proofs.RunningLaws.{running_none, running_more, running_all}
+use Rattle.list.specs.Texts.{quiet}
 use Rattle.list.proofs.RoomLaws.{read_at}
 use borrow.Author.Rules.{rules}
 use Rattle.list.proofs.text.quiet.Goals as goal

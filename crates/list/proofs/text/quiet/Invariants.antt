@@ -2,12 +2,10 @@
 -- Assumes nothing.
 use Prim.Native.Nat.{suc, ◌-◌}
 use mathlib.Core.Bool.{not}
-use Rattle.loops.proofs.RunningLaws.{Running, running_none, running_more, running_all}
+use Rattle.loops.proofs.RunningLaws.{Running}
 use Rattle.chain.specs.Bytes.{count}
 use Rattle.list.specs.Records.{record_bytes}
-use Rattle.list.specs.Texts.{is_read, quiet}
-use Rattle.list.proofs.RoomLaws.{read_at}
-use borrow.Author.Rules.{rules}
+use Rattle.list.specs.Texts.{is_read}
 use Rattle.list.proofs.text.quiet.Given as goal
 
 abbrev pub invariant-loop-i : goal.invariant-loop-i

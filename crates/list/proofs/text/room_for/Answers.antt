@@ -2,8 +2,6 @@
 -- Assumes nothing.
 use Rattle.list.proofs.RoomLaws.{room_quiet, room_loud}
 use borrow.Author.Rules.{rules}
-use Rattle.list.proofs.text.room_for.Reads as reads
-use Rattle.list.proofs.text.quiet.Reads as quiet-reads
 use Rattle.list.proofs.text.room_for.Goals as goal
 
 pub returns-then-quiet : goal.returns-then-quiet

@@ -2,14 +2,6 @@
 -- Assumes nothing.
 use Rattle.list.proofs.OutputLaws.{run_short, run_refused, run_ready, run_fits, run_done}
 use borrow.Author.Rules.{rules}
-use Rattle.list.proofs.text.run.Reads as reads
-use Rattle.lines.proofs.end_line.Reads as end-line-reads
-use Rattle.lines.proofs.refused_line.Reads as refused-line-reads
-use Rattle.list.proofs.text.blank_buffer.Reads as blank-buffer-reads
-use Rattle.list.proofs.text.blank_memory.Reads as blank-memory-reads
-use Rattle.list.proofs.text.check.Reads as check-reads
-use Rattle.list.proofs.text.room_for.Reads as room-for-reads
-use Rattle.list.proofs.text.run_calls.Reads as run-calls-reads
 use Rattle.list.proofs.text.run.Goals as goal
 
 pub returns-then-out-room : goal.returns-then-out-room

@@ -1,10 +1,6 @@
-use Prim.Native.Nat.{◌-◌}
-use Rattle.list.proofs.RunLaws.{Going, going_none, going_reach, going_more, going_all, going_ends}
+use Rattle.list.proofs.RunLaws.{going_none, going_reach, going_more, going_all, going_ends}
 use Rattle.list.proofs.RunLaws.{going_inside, going_fits}
 use borrow.Author.Rules.{rules}
-use Rattle.list.proofs.text.run_calls.Reads as reads
-use Rattle.list.proofs.text.one.Reads as one-reads
-use Rattle.store.proofs.starting.Reads as starting-reads
 use Rattle.list.proofs.text.run_calls.Goals as goal
 
 pub loop-i-init : goal.loop-i-init
@@ -13,8 +9,8 @@ loop-i-init c = search (rules, going_none)
 pub slice_bounds-one-count : goal.slice_bounds-one-count
 slice_bounds-one-count c = search (rules, going_inside)
 
-pub UNKNOWN_slice-bounds-one-start : goal.UNKNOWN_slice-bounds-one-start
-UNKNOWN_slice-bounds-one-start c = search (rules, going_inside)
+pub slice_bounds-one-start : goal.slice_bounds-one-start
+slice_bounds-one-start c = search (rules, going_inside)
 
 pub one-ran-requires : goal.one-ran-requires
 one-ran-requires c = search (rules, going_reach)

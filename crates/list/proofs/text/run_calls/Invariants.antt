@@ -1,12 +1,7 @@
 -- The lines so far, and those of the records ahead, are the lines of the chain.
 -- Assumes nothing.
 use Prim.Native.Nat.{◌-◌}
-use Rattle.list.proofs.RunLaws.{Going, going_none, going_reach, going_more, going_all, going_ends}
-use Rattle.list.proofs.RunLaws.{going_inside, going_fits}
-use borrow.Author.Rules.{rules}
-use Rattle.list.proofs.text.run_calls.Reads as reads
-use Rattle.list.proofs.text.one.Reads as one-reads
-use Rattle.store.proofs.starting.Reads as starting-reads
+use Rattle.list.proofs.RunLaws.{Going}
 use Rattle.list.proofs.text.run_calls.Given as goal
 
 abbrev pub invariant-loop-i : goal.invariant-loop-i
