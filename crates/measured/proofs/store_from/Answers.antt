@@ -1,6 +1,6 @@
 -- One more record is made; after the last turn all are those of the tables.
 -- Assumes nothing.
-use Rattle.std.proofs.Common.{◌≡◌, List, ap, arith}
+use Rattle.std.proofs.Common.{List, ap, arith}
 use Rattle.sizes.specs.Sizes.{records}
 use Rattle.store.specs.declared.Cluster.{Cluster}
 use Rattle.store.specs.Records.{no_cluster}
