@@ -52,9 +52,6 @@ module _ (a : HandleBytes) (l : length a.bytes ≡ most_bytes) where
   pub held_so : elements most_bytes a.bytes ++ (a.length ∷ []) ≡ held_in a
   held_so = ap (λ (b : List ℕ). b ++ (a.length ∷ [])) (sym (listed most_bytes a.bytes l))
 
-  pub held_back : handed (elements most_bytes a.bytes ++ (a.length ∷ [])) ≡ a
-  held_back = ap handed held_so ∙ handed_held a l
-
 -- ---- bytes from elsewhere
 
 module _ (b : List ℕ) (o : (i : ℕ) → get_or b i 0 < 256) where

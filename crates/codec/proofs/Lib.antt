@@ -1,3 +1,4 @@
 pub mod HeldLaws
+pub mod BackLaws
 pub mod HeldTripLaws
 pub mod HeldBytesHold

@@ -21,7 +21,7 @@ use Rattle.cuts.specs.Cuts.{Among, SameMasks, first_second, second_first, once, 
 use Rattle.cuts.specs.Words.{Both, AnyCutsInWords, TwoCutsInWords, on_copy, Start}
 use Rattle.cuts.specs.Entries.{SameWays, KeepAlike, EntriesInWords}
 use Rattle.cuts.specs.cases.Computed.{either, fourfold, twofold}
-use Rattle.cuts.specs.cases.Uses.{CutsUsed, WaysUses, UsesAt, UsesEach, TwoCutsUses, PairUses, EntriesUsed, CopyUsed}
+use Rattle.cuts.specs.cases.Uses.{CutsUsed, WaysUses, UsesAt, UsesEach, PairUses, EntriesUsed, CopyUsed}
 use Rattle.cuts.proofs.CutLaws.{cuts_hold, and_shares}
 use Rattle.cuts.proofs.WordLaws.{both_and, any_cuts_in_all, two_cuts_in_all, copy_stays}
 use Rattle.cuts.proofs.EntryLaws.{same_ways_keep, reduced_alike, entries_alike}
@@ -114,7 +114,7 @@ module _ (f : Name → List ℕ → ℕ → List ℕ) (sixteen : SixteenBytes f)
         two : (a b t : ℕ) → Both (width_of (decoded h)) a b t → TwoCutsInWords (on_copy f c) m h a b t
         two a b t both = two_cuts_in_all f sixteen m h c (start n m h c o s v) a b t both
 
-  uses_each : UsesEach f
+  pub uses_each : UsesEach f
   uses_each =
       record {
         four_read = uses_at 21 1;
@@ -145,9 +145,6 @@ module _ (f : Name → List ℕ → ℕ → List ℕ) (sixteen : SixteenBytes f)
           → EntriesInWords (on_copy f c) m g g'
       alike m h c o s v g g' d d' =
           entries_alike f sixteen m h c o.long (start 23 m h c o s v) e e' k k' g g' d d' (same (decoded h))
-
-pub two_cuts_uses : TwoCutsUses
-two_cuts_uses f sixteen = uses_each f sixteen
 
 -- ---- the ways of the registers
 

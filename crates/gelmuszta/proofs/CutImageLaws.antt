@@ -27,12 +27,12 @@ use Rattle.image.proofs.RangeLaws.{store_held}
 use Rattle.gelmuszta.specs.Exported.{Exported, exported}
 use Rattle.gelmuszta.specs.Runs.{held}
 use Rattle.gelmuszta.specs.CutImages.{on_image, AnyCutsOnImages, TwoCutsOnImages, EntriesOnImages, ImageStays}
-use Rattle.gelmuszta.proofs.RunLaws.{exported_good, exported_damaged, done_good}
+use Rattle.gelmuszta.proofs.RunLaws.{exported_good, exported_damaged, good_done}
 
 module _ (b m : List ℕ) (hb : Bytes image_bytes b) (mode : ℕ) (h : List ℕ) (low : (i : ℕ) → get_or h i 0 < 256)
     (v : Validates (on_image b m) mode h) where
   holds : good b ≡ true
-  holds = done_good (validating mode h) b m refl v
+  holds = good_done (validating mode h) b m refl v
 
   same : on_image b m ≡ on_copy product (held b m)
   same j x = (exported_good x b m holds j).reply

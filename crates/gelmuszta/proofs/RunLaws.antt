@@ -56,8 +56,8 @@ unfolding exported
 exported_damaged x b m g = ap (picked x b m) g
 
 -- a call other than weakening that is done says that the image holds a store
-pub done_good : (x : Call) (b m : List ℕ) → among (7 ∷ []) x.kind ≡ false → number_of (exported x b m) ≡ 0 → good b ≡ true
-done_good x b m k z = go (good b) refl
+pub good_done : (x : Call) (b m : List ℕ) → among (7 ∷ []) x.kind ≡ false → number_of (exported x b m) ≡ 0 → good b ≡ true
+good_done x b m k z = go (good b) refl
   where
     never : (l : Bool) → early l false ≡ 0 → ⊥
     never true q = omega (arith, q)
@@ -228,8 +228,12 @@ module _ (g : Arguments) (b m : List ℕ) where
   freeze_fits = record { first = λ q. absurd (false≢true q); second = λ q. absurd (false≢true q) }
 
   module _ (z : number_of (exported freezes b m) ≡ 0) where
+    -- an image that holds no store is refused
+    done_good : good b ≡ true
+    done_good = good_done freezes b m refl z
+
     done_step : Done product freezes (held b m)
-    done_step = step_number product freezes (held b m) (sym (ap number_of (exported_good freezes b m (done_good freezes b m refl z))) ∙ z)
+    done_step = step_number product freezes (held b m) (sym (ap number_of (exported_good freezes b m done_good)) ∙ z)
 
 pub frozen_from_then_on : FrozenFromThenOn
 frozen_from_then_on g xs b m p h z =
@@ -237,7 +241,7 @@ frozen_from_then_on g xs b m p h z =
     record {
       present = f.present;
       fixed = λ base size q.
-          carried _ _ g.segment base size (call freeze g ∷ xs) b m (freeze_fits g b m, p) h (done_good (call freeze g) b m refl z)
+          carried _ _ g.segment base size (call freeze g ∷ xs) b m (freeze_fits g b m, p) h (done_good g b m z)
           (f.fixed base size q);
     }
 

@@ -22,7 +22,6 @@ use Rattle.sizes.specs.Sizes.{password_bytes}
 use Rattle.handle.specs.Sizes.{node_bytes, local_at, password_at, selector_at}
 use Rattle.handle.specs.Widths.{length_of, most_bytes, width_for, halves, packed, unpacked}
 use Rattle.handle.specs.Handles.{encoded_as, encoded, written, laid, laid_with, before, held_with, decoded_as, decoded}
-use Rattle.handle.specs.Handles.{no_handle}
 
 -- the first n elements of a list, one by one; they are the whole of a list of n
 abbrev pub elements : ℕ → List ℕ → List ℕ
@@ -121,17 +120,6 @@ module _ (b : List ℕ) (r : Handle) where
       ∙ ap (λ (m : List ℕ). held_with Sixteen b (unpacked Sixteen (drop selector_at m)))
       (sym (listed (length_of Sixteen) b l))
       ∙ ap (λ (n : ℕ). decoded_as (width_for n) b) (sym l)
-
-  pub decoded_none : (length b ≡ length_of Four → ⊥) → (length b ≡ length_of Eight → ⊥)
-      → (length b ≡ length_of Sixteen → ⊥) → r ≡ no_handle → r ≡ decoded b
-  unfolding decoded
-  decoded_none p q s e = width_cases (λ v. r ≡ decoded_as v b) (length b) e other
-    where
-      other : (v : Width) → length b ≡ length_of v → r ≡ decoded_as v b
-      other None l = e
-      other Four l = absurd (p l)
-      other Eight l = absurd (q l)
-      other Sixteen l = absurd (s l)
 
 -- ---- what the code writes
 

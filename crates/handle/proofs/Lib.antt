@@ -4,6 +4,7 @@ pub mod HandleLaws
 pub mod OpensLaws
 pub mod PasswordLaws
 pub mod CodecLaws
+pub mod DecodedLaws
 pub mod TripLaws
 pub mod HeldLaws
 pub mod TripStatements

@@ -17,7 +17,8 @@ use Rattle.handle.specs.Widths.{bits_of, width_for, packed, unpacked}
 use Rattle.handle.specs.Selectors.{Within}
 use Rattle.handle.specs.Handles.{width_of, before, encoded_as, encoded, held_with, decoded_as, decoded, no_handle, Holdable}
 use Rattle.handle.specs.Trips.{OfWidth, RoundTrips, AsBefore, WordConverted}
-use Rattle.handle.proofs.CodecLaws.{listed, part_is, word_one, decoded_none}
+use Rattle.handle.proofs.CodecLaws.{listed, part_is, word_one}
+use Rattle.handle.proofs.DecodedLaws.{decoded_none}
 use Rattle.handle.proofs.TripLaws.{decode_encode, encode_decode, bytes_laid, encoded_none}
 use Rattle.handle.proofs.HeldLaws.{conversion_byte, conversion_word}
 

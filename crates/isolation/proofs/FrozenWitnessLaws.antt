@@ -42,11 +42,8 @@ module _ (f : Name → List ℕ → ℕ → List ℕ) where
   pub frozen_list_lem : FrozenList f
   frozen_list_lem = record { done = frozen_done; replies = replies }
 
-  fixed : Fixed 0 2 5 0 4 one (run f (the_freeze ∷ attempts) one).copy
-  unfolding computing
-  fixed = (fixed_from_then_on f the_freeze.args attempts one frozen_done).fixed 0 4 refl
-
   pub standing : Standing f
+  unfolding computing
   standing =
       record {
         active = fixed.active;
@@ -59,6 +56,9 @@ module _ (f : Name → List ℕ → ℕ → List ℕ) where
             ∙ ap (λ (q : ℕ). get_or one.memory q 0) e
             ∙ four 8 5 17 34 7 p l;
       }
+    where
+      fixed : Fixed 0 2 5 0 4 one (run f (the_freeze ∷ attempts) one).copy
+      fixed = (fixed_from_then_on f the_freeze.args attempts one frozen_done).fixed 0 4 refl
 
   pub thawed_otherwise : Otherwise f
   unfolding tests effects computing

@@ -29,6 +29,9 @@ use Rattle.register.proofs.KeptLaws.{steps_keep}
 
 -- ---- the numbers of one weakening
 
+number_replied : (w : ℕ) (f : List ℕ → ℕ → List ℕ) (h : Handle) (mask : ℕ) → (weakening w f h mask).number ≡ weaken_number w h mask
+number_replied = number_weakening
+
 settled_number : (n : ℕ) (h : Handle) → (settled n h).number ≡ n
 settled_number zero h = refl
 settled_number (suc n) h = refl
@@ -83,7 +86,7 @@ module _ (f : Name → List ℕ → ℕ → List ℕ) where
       go zero k e p =
           subst P
           (sym (settled_number (weakening (width_of k) (f (name_of k)) k m).number _
-          ∙ number_weakening (width_of k) (f (name_of k)) k m))
+          ∙ number_replied (width_of k) (f (name_of k)) k m))
           (each ms k e m)
 
   module _ (h : Handle) (e : List ℕ) where

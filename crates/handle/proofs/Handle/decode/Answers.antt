@@ -1,6 +1,7 @@
 -- A return for each length, and one for every other: the bytes read are those of the definition.
 -- Assumes nothing.
-use Rattle.handle.proofs.CodecLaws.{decoded_four, decoded_eight, decoded_sixteen, decoded_none}
+use Rattle.handle.proofs.CodecLaws.{decoded_four, decoded_eight, decoded_sixteen}
+use Rattle.handle.proofs.DecodedLaws.{decoded_none}
 use borrow.Author.Rules.{rules}
 use Rattle.handle.proofs.Handle.decode.Goals as goal
 
