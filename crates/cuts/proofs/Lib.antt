@@ -10,6 +10,7 @@ pub mod ReplyLaws
 pub mod ThreeLaws
 pub mod SpentLaws
 pub mod UseLaws
+pub mod EachLaws
 pub mod UsedLaws
 pub mod MetLaws
 pub mod AesLaws

@@ -21,7 +21,7 @@ use Rattle.cuts.specs.Cuts.{Among, SameMasks, first_second, second_first, once, 
 use Rattle.cuts.specs.Words.{Both, AnyCutsInWords, TwoCutsInWords, on_copy, Start}
 use Rattle.cuts.specs.Entries.{SameWays, KeepAlike, EntriesInWords}
 use Rattle.cuts.specs.cases.Computed.{either, fourfold, twofold}
-use Rattle.cuts.specs.cases.Uses.{CutsUsed, WaysUses, UsesAt, UsesEach, PairUses, EntriesUsed, CopyUsed}
+use Rattle.cuts.specs.cases.Uses.{CutsUsed, WaysUses, UsesAt, PairUses, EntriesUsed, CopyUsed}
 use Rattle.cuts.proofs.CutLaws.{cuts_hold, and_shares}
 use Rattle.cuts.proofs.WordLaws.{both_and, any_cuts_in_all, two_cuts_in_all, copy_stays}
 use Rattle.cuts.proofs.EntryLaws.{same_ways_keep, reduced_alike, entries_alike}
@@ -108,22 +108,11 @@ module _ (f : Name → List ℕ → ℕ → List ℕ) (sixteen : SixteenBytes f)
   start n m h c o s v = record { bytes = o.below; sixteen = s; valid = v }
 
   module _ (n m : ℕ) where
-    uses_at : UsesAt f n m
+    pub uses_at : UsesAt f n m
     uses_at h c o s v = ways_uses (on_copy f c) n m h o.long (any_cuts_in_all f sixteen m h c (start n m h c o s v)) two
       where
         two : (a b t : ℕ) → Both (width_of (decoded h)) a b t → TwoCutsInWords (on_copy f c) m h a b t
         two a b t both = two_cuts_in_all f sixteen m h c (start n m h c o s v) a b t both
-
-  pub uses_each : UsesEach f
-  uses_each =
-      record {
-        four_read = uses_at 21 1;
-        four_write = uses_at 21 2;
-        eight_read = uses_at 23 1;
-        eight_write = uses_at 23 2;
-        sixteen_read = uses_at 27 1;
-        sixteen_write = uses_at 27 2;
-      }
 
   -- ---- of registers
 

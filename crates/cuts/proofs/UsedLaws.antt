@@ -1,7 +1,7 @@
--- The statement of two cuts and one cut is put to use in both modes and at every width.
+-- The statement of two cuts and one cut is put to use for every conversion of sixteen bytes.
 -- Assumes nothing.
 use Rattle.cuts.specs.cases.Uses.{TwoCutsUses}
-use Rattle.cuts.proofs.UseLaws.{uses_each}
+use Rattle.cuts.proofs.EachLaws.{uses_each}
 
 pub two_cuts_uses : TwoCutsUses
 two_cuts_uses f sixteen = uses_each f sixteen

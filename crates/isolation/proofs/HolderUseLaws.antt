@@ -21,8 +21,8 @@ use Rattle.isolation.specs.Copies.{Done}
 use Rattle.isolation.specs.Renewals.{SameButOther, Guess, Untold}
 use Rattle.isolation.specs.Frozen.{frozen_at, Fixed, FromThenOn}
 use Rattle.isolation.specs.UseLists.{Wide, of_four, of_eight, of_sixteen, top, own, rest, apart, records, low, high, keeping}
-use Rattle.isolation.specs.Uses.{UntoldUses, OtherUses, FrozenUses, FreezeUses}
-use Rattle.isolation.proofs.UseCopyLaws.{sound_keeping, top_low, at_top, at_high, its_top, its_first}
+use Rattle.isolation.specs.Uses.{UntoldUses, OtherUses, FrozenUses}
+use Rattle.isolation.proofs.UseCopyLaws.{sound_keeping, top_low, at_top, its_top}
 use Rattle.isolation.proofs.RenewalLaws.{other_untold, guesses_untold}
 use Rattle.isolation.proofs.FrozenLaws.{frozen_stays, fixed_from_then_on}
 
@@ -145,7 +145,7 @@ module _ (f : Name → List ℕ → ℕ → List ℕ) where
   freeze_done of_sixteen r b c d y z =
       number_below_lem f (freezing 3 0 (own of_sixteen 3 7 34)) _ _ (sound_keeping of_sixteen r (sixteen 34) b c d y z) ∙ refl
 
-  from_then_on : (v : Wide) (r : List ℕ) (b c d y z : ℕ) (xs : List Call)
+  pub from_then_on : (v : Wide) (r : List ℕ) (b c d y z : ℕ) (xs : List Call)
       → FromThenOn 3 7 0 (copy v r b c d y z) (run f (freezing 3 0 (own v 3 7 34) ∷ xs) (copy v r b c d y z)).copy
   unfolding computing
   from_then_on of_four r b c d y z xs = fixed_from_then_on f (freezing 3 0 (own of_four 3 7 34)).args xs _ (freeze_done of_four r b c d y z)
@@ -164,7 +164,7 @@ module _ (f : Name → List ℕ → ℕ → List ℕ) where
   again_done of_sixteen r b c d y z =
       number_below_lem f (freezing 3 (top of_sixteen) (own of_sixteen 3 7 34)) _ _ (sound_keeping of_sixteen r (sixteen 34) b c d y z) ∙ refl
 
-  again_from : (v : Wide) (r : List ℕ) (b c d y z : ℕ) (xs : List Call)
+  pub again_from : (v : Wide) (r : List ℕ) (b c d y z : ℕ) (xs : List Call)
       → FromThenOn 3 7 (top v) (copy v r b c d y z) (run f (freezing 3 (top v) (own v 3 7 34) ∷ xs) (copy v r b c d y z)).copy
   unfolding computing
   again_from of_four r b c d y z xs = fixed_from_then_on f (freezing 3 (top of_four) (own of_four 3 7 34)).args xs _ (again_done of_four r b c d y z)
@@ -172,29 +172,3 @@ module _ (f : Name → List ℕ → ℕ → List ℕ) where
       fixed_from_then_on f (freezing 3 (top of_eight) (own of_eight 3 7 34)).args xs _ (again_done of_eight r b c d y z)
   again_from of_sixteen r b c d y z xs =
       fixed_from_then_on f (freezing 3 (top of_sixteen) (own of_sixteen 3 7 34)).args xs _ (again_done of_sixteen r b c d y z)
-
-  module _ (v : Wide) (r : List ℕ) (b c d y z : ℕ) (xs : List Call) where
-    from : Fixed 3 7 0 4 2 (copy v r b c d y z) (run f (freezing 3 0 (own v 3 7 34) ∷ xs) (copy v r b c d y z)).copy
-    from = (from_then_on v r b c d y z xs).fixed 4 2 (its_first v r (sixteen 34))
-
-    again : Fixed 3 7 (top v) 0 4 (copy v r b c d y z)
-        (run f (freezing 3 (top v) (own v 3 7 34) ∷ xs) (copy v r b c d y z)).copy
-    again = (again_from v r b c d y z xs).fixed 0 4 (its_top v r (sixteen 34))
-
-    pub freeze_uses : FreezeUses f v r b c d y z xs
-    freeze_uses =
-        record {
-          present = (from_then_on v r b c d y z xs).present;
-          active = from.active;
-          place = from.place;
-          frozen = from.frozen;
-          bytes = (
-            from.bytes 0 (omega arith) ∙ at_high v r (sixteen 34) b c d y z 4,
-            from.bytes 1 (omega arith) ∙ at_high v r (sixteen 34) b c d y z 5,
-          );
-          again_present = (again_from v r b c d y z xs).present;
-          again_active = again.active;
-          again_place = again.place;
-          again_frozen = again.frozen;
-          again_bytes = top_bytes v r (sixteen 34) b c d y z _ again;
-        }

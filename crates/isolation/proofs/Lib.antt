@@ -26,6 +26,7 @@ pub mod GivenLaws
 pub mod RenewalLaws
 pub mod RenewedLaws
 pub mod HolderUseLaws
+pub mod FreezeUseLaws
 pub mod RenewalReplyLaws
 pub mod EffectLaws
 pub mod ReadLaws

@@ -134,14 +134,14 @@ module _ (f : Name → List ℕ → ℕ → List ℕ) (v : Wide) where
               agreed.held_second;
         }
 
-    agreed : Agreed 3 7 f (repeated n shut) one two
-    agreed =
-        two_copies 3 7 f (omega arith) (omega arith) (repeated n shut) one two (sound_keeping v p p b c d y z)
-        (sound_keeping v q s k l m y z) refl (alike_keeping v p p q s b c d k l m y z) (all_shut p p b c d y z n)
-        (all_shut q s k l m y z n)
-
     pub two_copies_uses : TwoCopiesUses f v n p q s b c d k l m y z
     two_copies_uses = uses_of agreed
+      where
+        agreed : Agreed 3 7 f (repeated n shut) one two
+        agreed =
+            two_copies 3 7 f (omega arith) (omega arith) (repeated n shut) one two (sound_keeping v p p b c d y z)
+            (sound_keeping v q s k l m y z) refl (alike_keeping v p p q s b c d k l m y z) (all_shut p p b c d y z n)
+            (all_shut q s k l m y z n)
 
   -- ---- readers
 
