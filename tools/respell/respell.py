@@ -4,9 +4,10 @@
 usage: tools/respell/respell.py --make     writes names.tsv beside this file: each old name, a tab, the new one
        tools/respell/respell.py [FOLDER]   turns the names of names.tsv in FOLDER, or else in this repository
 
-Run it once, after port.py: the rows of one file alone would turn again. A name that a file of specs/ or proofs/ declares loses its humps and dashes: soundIn becomes sound_in, length-bytes
-becomes length_bytes. Types, facts and modules keep their capitals. Where a lemma would get the name of a definition it gets _lem at
-its end; a third word on a row of names.tsv is the one file where the row holds. Functions of src/, exported names, strings, inputs and outputs are left alone.
+Run it once, after port.py: the rows of one file alone would turn again. A name that a file of specs/ or proofs/ declares loses its
+humps and dashes: soundIn becomes sound_in, length-bytes becomes length_bytes. Types, facts and modules keep their capitals. Where a
+lemma would get the name of a definition it gets _lem at its end; a third word on a row of names.tsv is the one file where the row
+holds. Functions of src/, exported names, strings, inputs and outputs are left alone.
 """
 
 import collections
