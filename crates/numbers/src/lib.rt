@@ -2,6 +2,9 @@
 // definitions name.
 #![tactic(auto)]
 
+ghost use Rattle.std.specs.Prelude.{◌≡◌};
+ghost use Rattle.numbers.specs.Codes.{code, told};
+
 pub const UNSOUND: u8 = 1;
 
 pub const NO_SUCH_PLACE: u8 = 2;
@@ -51,3 +54,53 @@ pub const WHOLE: u8 = 23;
 pub const APART: u8 = 24;
 
 pub const LENGTH: u8 = 25;
+
+// The same numbers as a type: what a call is refused with. In code a call that is done is `Ok`, and one that is refused is `Err` of
+// its number.
+#[derive(Clone, Copy, Debug, PartialEq, Eq)]
+pub enum Number {
+    Unsound = 1,
+    NoSuchPlace = 2,
+    Field = 3,
+    Gapped = 4,
+    Elsewhere = 5,
+    InUse = 6,
+    Twins = 7,
+    Inactive = 8,
+    Violated = 9,
+    NotPrimary = 10,
+    NotReferenced = 11,
+    OldPassword = 12,
+    Present = 13,
+    Absent = 14,
+    Short = 15,
+    NoRoom = 16,
+    Spent = 17,
+    ListLength = 18,
+    Link = 19,
+    Loop = 20,
+    Empty = 21,
+    Frozen = 22,
+    Whole = 23,
+    Apart = 24,
+    Length = 25,
+}
+
+impl Number {
+    // The number itself.
+    pub fn code(self) -> u8
+        ensures { result ≡ code self }
+    {
+        self as u8
+    }
+}
+
+// The number that a caller in C is told: 0 where the call is done.
+pub fn told(done: Result<(), Number>) -> u8
+    ensures { result ≡ told done }
+{
+    match done {
+        Ok(()) => 0,
+        Err(number) => number.code(),
+    }
+}
