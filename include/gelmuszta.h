@@ -55,8 +55,8 @@
  *   - whoever can read the image or the memory needs no handle, and whoever writes to them by other means, or puts an
  *     earlier image in place, can change what is frozen too.
  *
- * What stays on the stack: a call touches less than 2 kilobytes of it (1,752 bytes at most, measured on x86-64 in an archive of
- * rattle-kit-5b-plain), one about a register up to 25 (25,041 bytes), and does not clear them. Passwords stay there until they
+ * What stays on the stack: a call touches less than 3 kilobytes of it (2,696 bytes at most, measured on x86-64 in an archive of
+ * rattle-kit-13f), one about a register up to 10 (10,178 bytes), and does not clear them. Passwords stay there until they
  * are written over, both primary ones of the cluster among them, or those of all entries of the register.
  *
  * What time tells: how long a call takes goes by its number, by what the store holds and by how many subselectors are not

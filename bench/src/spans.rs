@@ -1,10 +1,8 @@
 //! The text of crates/spans in Rust.
 
 const WORD: usize = 64;
-const ALL: u64 = 0xffffffffffffffff;
-
 fn bit(i: usize) -> u64 {
-    1 << i
+    1 << (i % WORD)
 }
 
 fn from_on(first: usize) -> u64 {
@@ -16,18 +14,16 @@ fn up_to(last: usize) -> u64 {
     (b - 1) + b
 }
 
-fn touch(map: &mut [u64], at: usize, mask: u64) -> bool {
-    let old = map[at];
-    map[at] = old | mask;
-    (old & mask) == 0
+fn touch(word: &mut u64, mask: u64) -> bool {
+    let fresh = (*word & mask) == 0;
+    *word |= mask;
+    fresh
 }
 
 fn whole(map: &mut [u64], first: usize, last: usize) -> bool {
     let mut fresh = true;
-    let mut i = first;
-    while i < last {
-        fresh = touch(map, i, ALL) & fresh;
-        i += 1;
+    for word in &mut map[first..last] {
+        fresh &= touch(word, u64::MAX);
     }
     fresh
 }
@@ -42,13 +38,13 @@ pub fn mark(map: &mut [u64], from: usize, to: usize) -> bool {
     if map.len() <= last {
         return false;
     }
-    let low = from_on(from % WORD);
-    let high = up_to(end % WORD);
+    let low = from_on(from);
+    let high = up_to(end);
     if first == last {
-        return touch(map, first, low & high);
+        return touch(&mut map[first], low & high);
     }
-    let a = touch(map, first, low);
+    let a = touch(&mut map[first], low);
     let inner = whole(map, first + 1, last);
-    let z = touch(map, last, high);
+    let z = touch(&mut map[last], high);
     z & (inner & a)
 }

@@ -138,30 +138,6 @@ later_byte r k i x h e =
 
 -- ---- the loop from round key to round key
 
--- the round key of round i, on the way to a round
-pub record Keys (round : ℕ) (key k : List ℕ) (i : ℕ) : Type 0 where
-  pub low : i ≤ 10
-  pub upto : i ≤ round
-  pub at_key : k ≡ round_key key i
-
-pub keys_none : (round : ℕ) (key : List ℕ) → Keys round key key 0
-unfolding expand
-keys_none round key = record { low = omega arith; upto = omega arith; at_key = refl }
-
-module _ (round : ℕ) (key k : List ℕ) (i : ℕ) (w : Keys round key k i) where
-  pub keys_more : i < 10 → i < round → (k' : List ℕ) → k' ≡ expand 4 (4 * (i + 1)) k → Keys round key k' (i + 1)
-  keys_more h l k' e =
-      rw add-one
-      (record {
-        low = omega arith;
-        upto = omega arith;
-        at_key = e ∙ ap (expand 4 (4 * (i + 1))) w.at_key ∙ key_next key i;
-      })
-
-  -- there
-  pub keys_there : round ≤ i → k ≡ round_key key (min round 10)
-  keys_there h = w.at_key ∙ ap (round_key key) (omega arith)
-
-  -- there is no round key after the tenth
-  pub keys_last : 10 ≤ i → k ≡ round_key key (min round 10)
-  keys_last h = w.at_key ∙ ap (round_key key) (omega arith)
+pub keys_more : (key k : List ℕ) (i : ℕ) → k ≡ round_key key i → (k' : List ℕ) → k' ≡ expand 4 (4 * (i + 1)) k
+    → k' ≡ round_key key (i + 1)
+keys_more key k i w k' e = rw add-one (e ∙ ap (expand 4 (4 * (i + 1))) w ∙ key_next key i)

@@ -1,5 +1,5 @@
 // AES-128 of FIPS 197, one byte at a time. The substitution table is lent to the rounds: a constant is laid out anew
-// wherever it is named, so whoever encrypts several blocks takes `tables()` once.
+// wherever it is named, so whoever encrypts several blocks takes `Tables::new()` once.
 #![tactic(auto)]
 
 ghost use Rattle.std.specs.Prelude.{◌≡◌, [], ◌∷◌, ◌*◌, ◌≤◌, min};
@@ -11,13 +11,21 @@ ghost use Rattle.aes.specs.KeyExpansion.{round_constant, expand, round_key};
 ghost use Rattle.aes.specs.Cipher.{cipher};
 ghost use Rattle.aes.specs.Tables.{IsTables};
 
-// What the rounds are lent.
-pub type Tables = [u8; 256];
+// What the rounds are lent: the substitution table, as the standard prints it.
+#[derive(Drop)]
+pub struct Tables {
+    pub sbox: [u8; 256],
+    pub ghost printed: { IsTables sbox },
+}
 
-pub fn tables() -> Tables
-    ensures { IsTables result }
-{
-    field::substitution_table()
+impl Tables {
+    pub fn new() -> Tables
+        ensures { IsTables result.sbox }
+    {
+        Tables {
+            sbox: field::substitution_table(),
+        }
+    }
 }
 
 // The round constant of a round, 1 to 10: the first byte of Rcon as FIPS 197 prints it, in appendix A.1 round by round.
@@ -42,20 +50,17 @@ fn round_constant(round: usize) -> u8
 
 // The substitution of one byte.
 fn substitute(tables: &Tables, b: u8) -> u8
-    requires { IsTables tables.now }
     ensures { result ≡ sbox b }
 {
-    let x = b as usize;
-    tables[x]
+    tables.sbox[b as usize]
 }
 
 fn sub_bytes(tables: &Tables, s: [u8; 16]) -> [u8; 16]
-    requires { IsTables tables.now }
     ensures { result ≡ sub_bytes s }
 {
-    let mut r = [0u8; 16];
-    for i in 0..16usize {
-        r[i] = substitute(tables, s[i]);
+    let mut r = s;
+    for b in &mut r {
+        *b = substitute(tables, *b);
     }
     r
 }
@@ -104,16 +109,16 @@ fn mix_columns(s: [u8; 16]) -> [u8; 16]
 fn add_round_key(s: [u8; 16], k: [u8; 16]) -> [u8; 16]
     ensures { result ≡ add_round_key s k }
 {
-    let mut r = [0u8; 16];
-    for i in 0..16usize {
-        r[i] = s[i] ^ k[i];
+    let mut r = s;
+    for (i, b) in r.iter_mut().enumerate() {
+        *b ^= k[i];
     }
     r
 }
 
 // The round key of a round, 1 to 10, from the round key before it.
 fn next_round_key(tables: &Tables, k: [u8; 16], round: usize) -> [u8; 16]
-    requires { IsTables tables.now × ((1 ≤ round) × (round ≤ 10)) }
+    requires { (1 ≤ round) × (round ≤ 10) }
     ensures { result ≡ expand 4 (4 * round) k }
 {
     let mut r = [0u8; 16];
@@ -121,6 +126,7 @@ fn next_round_key(tables: &Tables, k: [u8; 16], round: usize) -> [u8; 16]
     r[1] = k[1] ^ substitute(tables, k[14]);
     r[2] = k[2] ^ substitute(tables, k[15]);
     r[3] = k[3] ^ substitute(tables, k[12]);
+    // Stays: a byte goes by the one four places before it in the same array, which no iterator over the array lends.
     for i in 4..16usize {
         r[i] = k[i] ^ r[i - 4];
     }
@@ -131,12 +137,9 @@ fn next_round_key(tables: &Tables, k: [u8; 16], round: usize) -> [u8; 16]
 pub fn round_key(key: [u8; 16], round: usize) -> [u8; 16]
     ensures { result ≡ round_key key (min round 10) }
 {
-    let t = tables();
+    let t = Tables::new();
     let mut k = key;
-    for i in 0..10usize {
-        if round <= i {
-            return k;
-        }
+    for i in 0..round.min(10) {
         let next = next_round_key(&t, k, i + 1);
         k = next;
     }
@@ -145,7 +148,6 @@ pub fn round_key(key: [u8; 16], round: usize) -> [u8; 16]
 
 // A block encrypted under a key, over tables that the caller took.
 pub fn encrypt_with(tables: &Tables, key: [u8; 16], block: [u8; 16]) -> [u8; 16]
-    requires { IsTables tables.now }
     ensures { result ≡ cipher key block }
 {
     let mut k = key;
@@ -166,6 +168,5 @@ pub fn encrypt_with(tables: &Tables, key: [u8; 16], block: [u8; 16]) -> [u8; 16]
 pub fn encrypt(key: [u8; 16], block: [u8; 16]) -> [u8; 16]
     ensures { result ≡ cipher key block }
 {
-    let t = tables();
-    encrypt_with(&t, key, block)
+    encrypt_with(&Tables::new(), key, block)
 }

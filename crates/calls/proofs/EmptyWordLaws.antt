@@ -10,7 +10,7 @@ use mathlib.Core.Bool.{true, true≢false, or-false}
 use mathlib.Core.List.{List}
 use lib.ListN.{length}
 use Rattle.handle.specs.declared.Handle.{Handle}
-use Rattle.handle.specs.declared.Weakened.{Weakened}
+use Rattle.handle.specs.Handles.{Weakened}
 use Rattle.handle.specs.Handles.{Name, name_of, node_of, width_of, decoded, bytes_in, written, no_such_place, Holdable, weaken_number, weakened, weakening}
 use Rattle.handle.specs.Conversion.{SixteenBytes}
 use Rattle.handle.specs.Empty.{SomeLeft}

@@ -11,8 +11,7 @@ use mathlib.Core.List.{List, []}
 use lib.ListN.{length, get_or-eq_default}
 use lib.Seq.{get_or-set_same, get_or-set_other}
 use Rattle.handle.specs.Handles.{Name}
-use Rattle.store.specs.declared.Place.{Place}
-use Rattle.store.specs.declared.Place.TheVariants.{Absent, Present}
+use Rattle.store.specs.Places.{Place, None, Some, present_at}
 use Rattle.store.specs.declared.Segment.{Segment}
 use Rattle.store.specs.declared.Cluster.{Cluster}
 use Rattle.store.specs.Records.{marked_at, absent_segment, table_of, cluster_at, segment_of, place_of, put_record, with_mark}
@@ -38,9 +37,9 @@ present_in d i e = go (dec_lt i (length d.segments))
         (sym (ap (λ (g : Segment). is_absent g.place) (get_or-eq_default d.segments absent_segment (omega arith)))
         ∙ e))
 
-present_words : (p : Place) → is_absent p ≡ false → (base : ℕ) × (length : ℕ) × (p ≡ Present base length)
-present_words Absent e = absurd (true≢false e)
-present_words (Present base length) e = (base, length, refl)
+present_words : (p : Place) → is_absent p ≡ false → (base : ℕ) × (length : ℕ) × (p ≡ present_at base length)
+present_words None e = absurd (true≢false e)
+present_words (Some span) e = (span.base, span.length, refl)
 
 module _ (f : Name → List ℕ → ℕ → List ℕ) (g : Arguments) (c : Copy) where
   abbrev x : Call

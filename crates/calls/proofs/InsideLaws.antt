@@ -11,7 +11,7 @@ use lib.ListN.{length}
 use borrow.Author.Tests.{leb-false, not-false}
 use Rattle.handle.specs.Handles.{Name, width_of}
 use Rattle.handle.proofs.WidthLaws.{bits_le}
-use Rattle.store.specs.declared.Place.TheVariants.{Present}
+use Rattle.store.specs.Places.{present_at}
 use Rattle.store.specs.Records.{table_at}
 use Rattle.store.specs.Sound.{sound}
 use Rattle.store.specs.SoundWords.{SoundInWords}
@@ -40,7 +40,7 @@ module _ (f : Name → List ℕ → ℕ → List ℕ) (x : Call) (c : Copy) (e :
       (done_segment f x c.store (length c.memory) e)))
       (bits_le (handle_of x).width)
 
-  module _ (base size : ℕ) (q : place_for x (table_at c.store) ≡ Present base size) where
+  module _ (base size : ℕ) (q : place_for x (table_at c.store) ≡ present_at base size) where
     low : record_for x < 32
     low = let d = done_range f x c.store (length c.memory) e in omega arith
 

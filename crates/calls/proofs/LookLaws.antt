@@ -12,8 +12,7 @@ use lib.ListN.{length, get_or, take, drop, length-drop}
 use lib.Seq.{length-take-le, get_or-take, get_or-drop}
 use borrow.Author.Tests.{eqb-true, not-false}
 use Rattle.handle.specs.Handles.{Name, node_of, decoded}
-use Rattle.store.specs.declared.Place.{Place}
-use Rattle.store.specs.declared.Place.TheVariants.{Absent, Present}
+use Rattle.store.specs.Places.{Place, None, Some, present_at}
 use Rattle.store.specs.declared.Store.{Store}
 use Rattle.store.specs.Records.{Tables, table_at, base_of, length_of, address}
 use Rattle.store.specs.Sound.{is_absent}
@@ -81,7 +80,7 @@ module _ (f : Name → List ℕ → ℕ → List ℕ) (v i : ℕ) (h : List ℕ)
     unfolding segment_absent r
     present = r.segment_absent
 
-    module _ (base size : ℕ) (q : place x c.store ≡ Present base size) where
+    module _ (base size : ℕ) (q : place x c.store ≡ present_at base size) where
       abbrev from : ℕ
       from = node_of (decoded h) * 4096 + base
 
@@ -124,16 +123,16 @@ module _ (f : Name → List ℕ → ℕ → List ℕ) (v i : ℕ) (h : List ℕ)
     shown = go (place x c.store) refl present
       where
         go : (p : Place) → place x c.store ≡ p → is_absent p ≡ false → Shown f v i h c
-        go Absent q a = absurd (true≢false a)
-        go (Present base size) q a = shown_at base size q
+        go None q a = absurd (true≢false a)
+        go (Some span) q a = shown_at span.base span.length q
 
     pub shown_length : length (reply f v i h c).shown ≡ length_of (place x c.store)
     shown_length = go (place x c.store) refl present
       where
         go : (p : Place) → place x c.store ≡ p → is_absent p ≡ false
             → length (reply f v i h c).shown ≡ length_of (place x c.store)
-        go Absent q a = absurd (true≢false a)
-        go (Present base size) q a = length_cut base size q ∙ sym (ap length_of q)
+        go None q a = absurd (true≢false a)
+        go (Some span) q a = length_cut span.base span.length q ∙ sym (ap length_of q)
 
   -- ---- refused
 

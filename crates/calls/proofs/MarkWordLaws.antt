@@ -15,8 +15,7 @@ use Rattle.loops.proofs.BelowLaws.{every_same}
 use Rattle.sizes.specs.Sizes.{nodes, clusters, segments, node_memory}
 use Rattle.numbers.specs.Numbers.{no_room_number}
 use Rattle.handle.specs.Handles.{Name, name_of, width_of, Row, same_password, validates, encoded, reduced, joined}
-use Rattle.store.specs.declared.Place.{Place}
-use Rattle.store.specs.declared.Place.TheVariants.{Present}
+use Rattle.store.specs.Places.{Place, present_at}
 use Rattle.store.specs.declared.Store.{Store}
 use Rattle.store.specs.Records.{record_of, table_at, frozen_of, none_frozen, length_of, base_of, address}
 use Rattle.store.specs.Records.{read_mode, cluster_at, primary_of}
@@ -40,8 +39,8 @@ use Rattle.calls.proofs.KindLaws.{kind_is, only_kind}
 abbrev placement_by : (ℕ → ℕ → Place) → ℕ → ℕ → Placed
 placement_by p node size =
     placed_at (least node_memory (λ base.
-    ltb node nodes && inside (Present base size)
-    && every clusters (λ l. every segments (λ i. apart (Present base size) (p (record_of node l) i)))))
+    ltb node nodes && inside (present_at base size)
+    && every clusters (λ l. every segments (λ i. apart (present_at base size) (p (record_of node l) i)))))
 
 -- the password of a mode is the same
 password : (a b : Store) → SameButMarks a b → (n mode : ℕ)

@@ -10,7 +10,7 @@ use Rattle.bits.specs.Sets.{has, full, count}
 use Rattle.bits.proofs.SetLaws.{set_of_same, count_none}
 use Rattle.numbers.specs.Numbers.{empty_number, spent_number}
 use Rattle.handle.specs.declared.Handle.{Handle}
-use Rattle.handle.specs.declared.Weakened.{Weakened}
+use Rattle.handle.specs.Handles.{Weakened}
 use Rattle.handle.specs.Selectors.{references, excludes, keeps, any_flat, first_flat, referenced, keeps_all, keeps_none, parameter}
 use Rattle.handle.specs.Handles.{Name, name_of, width_of, decoded, cut, first_of, reply, own_rows, weaken_number, weakened, weakening}
 use Rattle.handle.specs.Words.{Bit}

@@ -10,8 +10,7 @@ use lib.ListN.{length, get_or, take, drop, length-drop, length-append, get_or-ap
 use lib.Seq.{length-take-le, get_or-take, get_or-drop, get_or-append-add}
 use borrow.Author.Tests.{ltb-false}
 use Rattle.handle.specs.Handles.{Name, node_of}
-use Rattle.store.specs.declared.Place.{Place}
-use Rattle.store.specs.declared.Place.TheVariants.{Absent, Present}
+use Rattle.store.specs.Places.{Place, None, Some, present_at}
 use Rattle.store.specs.Records.{base_of, length_of, address}
 use Rattle.store.specs.Sound.{is_absent}
 use Rattle.calls.specs.Calls.{Copy, Call, Arguments, call, read, handle_of}
@@ -78,36 +77,36 @@ module _ (f : Name → List ℕ → ℕ → List ℕ) (g : Arguments) (c : Copy)
     step_seen = step_done f x c e
 
     of_place : (p : Place) → place x c.store ≡ p → is_absent p ≡ false → ReadInWords f g c
-    of_place Absent q a = absurd (true≢false a)
-    of_place (Present base size) q a =
+    of_place None q a = absurd (true≢false a)
+    of_place (Some span) q a =
         record {
-          base = base;
-          size = size;
+          base = span.base;
+          size = span.length;
           present = q;
           number = ap (λ (o : Outcome). o.reply.number) s;
           told = ap (λ (o : Outcome). o.reply.length) s;
           bytes = λ k h.
               ap (λ (o : Outcome). get_or o.reply.buffer k 0) s
-              ∙ joined_part c.memory g.bytes (node * 4096 + base) size inside room k h;
+              ∙ joined_part c.memory g.bytes (node * 4096 + span.base) span.length inside room k h;
           after = λ k h.
               ap (λ (o : Outcome). get_or o.reply.buffer k 0) s
-              ∙ joined_rest c.memory g.bytes (node * 4096 + base) size inside room k h;
+              ∙ joined_rest c.memory g.bytes (node * 4096 + span.base) span.length inside room k h;
           long =
               ap (λ (o : Outcome). length o.reply.buffer) s
-              ∙ length_joined c.memory g.bytes (node * 4096 + base) size inside room;
+              ∙ length_joined c.memory g.bytes (node * 4096 + span.base) span.length inside room;
           first = ap (λ (o : Outcome). o.reply.first) s;
           second = ap (λ (o : Outcome). o.reply.second) s;
           count = ap (λ (o : Outcome). o.reply.count) s;
           copy = ap (λ (o : Outcome). o.copy) s;
         }
       where
-        s : step f x c ≡ seen (Present base size)
+        s : step f x c ≡ seen (present_at span.base span.length)
         s = step_seen ∙ ap seen q
 
-        inside : node * 4096 + base + size ≤ length c.memory
-        inside = done_inside f x c e refl refl base size q
+        inside : node * 4096 + span.base + span.length ≤ length c.memory
+        inside = done_inside f x c e refl refl span.base span.length q
 
-        room : size ≤ length g.bytes
+        room : span.length ≤ length g.bytes
         room = subst (λ (p : Place). length_of p ≤ length g.bytes) q fits
 
     pub read_in_words : ReadInWords f g c

@@ -15,8 +15,7 @@ use borrow.Author.Tests.{ltb-true, lt-ltb}
 use Rattle.handle.specs.declared.Handle.{Handle}
 use Rattle.handle.specs.Selectors.{all_flat, gapped}
 use Rattle.handle.specs.Handles.{node_of, width_of, no_width, decoded, same_password, no_such_place}
-use Rattle.store.specs.declared.Place.{Place}
-use Rattle.store.specs.declared.Place.TheVariants.{Absent, Present}
+use Rattle.store.specs.Places.{Place, None, Some, present_at}
 use Rattle.store.specs.declared.Cluster.{Cluster}
 use Rattle.store.specs.declared.Store.{Store}
 use Rattle.store.specs.Records.{table_of, cluster_at, table_at, frozen_of, none_frozen, length_of, primary_of}
@@ -232,9 +231,9 @@ module _ (x : Call) where
         then_is (kind_is (among (3 ∷ [])) _ refl x) (λ n.
         same_is (ap (λ (p : Place). not (is_absent p)) (handle_place x s (other_kind _ refl x n))) (go (place x s)))
       where
-        go : (p : Place) → Is (not (is_absent p)) ((base : ℕ) × (length : ℕ) × (p ≡ Present base length))
-        go Absent = record { out = λ e. absurd (false≢true e); into = λ r. ap (λ (p : Place). not (is_absent p)) r.2 }
-        go (Present base length) = record { out = λ e. (base, length, refl); into = λ r. refl }
+        go : (p : Place) → Is (not (is_absent p)) ((base : ℕ) × (length : ℕ) × (p ≡ present_at base length))
+        go None = record { out = λ e. absurd (false≢true e); into = λ r. ap (λ (p : Place). not (is_absent p)) r.2 }
+        go (Some span) = record { out = λ e. (span.base, span.length, refl); into = λ r. refl }
 
     pub absent_is : Is (segment_absent x (table_at s)) (SegmentAbsent x s)
     unfolding segment_absent
@@ -242,9 +241,9 @@ module _ (x : Call) where
         then_is (kind_is (among (4 ∷ 5 ∷ 6 ∷ 10 ∷ [])) _ refl x) (λ n.
         same_is (ap is_absent (handle_place x s (other_kind _ refl x n))) (go (place x s)))
       where
-        go : (p : Place) → Is (is_absent p) (p ≡ Absent)
-        go Absent = record { out = λ e. refl; into = λ r. refl }
-        go (Present base length) = record { out = λ e. absurd (false≢true e); into = λ r. ap is_absent r }
+        go : (p : Place) → Is (is_absent p) (p ≡ None)
+        go None = record { out = λ e. refl; into = λ r. refl }
+        go (Some span) = record { out = λ e. absurd (false≢true e); into = λ r. ap is_absent r }
 
     pub cluster_frozen_is : Is (cluster_frozen x (table_at s)) (ClusterFrozen x s)
     unfolding cluster_frozen none_frozen
@@ -274,15 +273,15 @@ module _ (x : Call) where
             ((kind_is (λ k. (uses k).bytes) (read ∷ write ∷ []) refl x).into n)
 
         go : (m : ℕ) (p : Place)
-            → Is (ltb m (length_of p)) ((base : ℕ) × (n : ℕ) × (p ≡ Present base n) × (m < n))
+            → Is (ltb m (length_of p)) ((base : ℕ) × (n : ℕ) × (p ≡ present_at base n) × (m < n))
         go m p =
             record { out = λ e. there p (ltb-true m (length_of p) e); into = λ r. lt-ltb m (length_of p) (back r) }
           where
-            there : (p : Place) → m < length_of p → (base : ℕ) × (n : ℕ) × (p ≡ Present base n) × (m < n)
-            there Absent l = absurd (omega arith)
-            there (Present base n) l = (base, n, refl, l)
+            there : (p : Place) → m < length_of p → (base : ℕ) × (n : ℕ) × (p ≡ present_at base n) × (m < n)
+            there None l = absurd (omega arith)
+            there (Some span) l = (span.base, span.length, refl, l)
 
-            back : (base : ℕ) × (n : ℕ) × (p ≡ Present base n) × (m < n) → m < length_of p
+            back : (base : ℕ) × (n : ℕ) × (p ≡ present_at base n) × (m < n) → m < length_of p
             back r = subst (λ (q : Place). m < length_of q) (sym r.2) r.3
 
     -- where the store is sound, the place exists and the size is good

@@ -13,7 +13,7 @@
 use Rattle.std.specs.Prelude.{◌≡◌, ℕ, ◌+◌, List, [], ◌∷◌}
 use Rattle.sizes.specs.Sizes.{memory}
 use Rattle.handle.specs.Selectors.{flats, in_first}
-use Rattle.store.specs.declared.Place.TheVariants.{Present}
+use Rattle.store.specs.Places.{present_at}
 use Rattle.store.specs.declared.Cluster.{Cluster}
 use Rattle.store.specs.declared.Store.{Store}
 use Rattle.store.specs.Records.{starting_store, started, put_record, with_place, with_mark}
@@ -34,10 +34,10 @@ abbrev pub bare : Store
 bare = put_record starting_store 31 owned
 
 abbrev pub edge : Store
-edge = put_record starting_store 31 (with_place owned 7 (Present 4093 3))
+edge = put_record starting_store 31 (with_place owned 7 (present_at 4093 3))
 
 abbrev pub sealed : Store
-sealed = put_record starting_store 31 (with_mark (with_place owned 7 (Present 4093 3)) 7)
+sealed = put_record starting_store 31 (with_mark (with_place owned 7 (present_at 4093 3)) 7)
 
 abbrev pub free : List Case
 free = gives 0 (making_cluster 3 7 8 (sixteen 1) (sixteen 2)) ∷ []

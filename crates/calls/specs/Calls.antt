@@ -32,7 +32,7 @@ use Rattle.std.specs.Prelude.{ℕ, ◌+◌, Bool, true, false, ◌||◌, List, [
 use Rattle.sizes.specs.Sizes.{memory}
 use Rattle.handle.specs.declared.Handle.{Handle}
 use Rattle.handle.specs.Handles.{node_of, decoded}
-use Rattle.store.specs.declared.Place.{Place}
+use Rattle.store.specs.Places.{Place}
 use Rattle.store.specs.declared.Store.{Store}
 use Rattle.store.specs.Records.{Tables, starting_store, record_of, place_at, frozen_of, base_of, length_of, address, read_mode}
 use Rattle.store.specs.Records.{write_mode}

@@ -27,7 +27,7 @@ use Rattle.sizes.specs.Sizes.{memory, password_bytes}
 use Rattle.handle.specs.declared.Width.TheVariants.{Eight}
 use Rattle.handle.specs.Selectors.{flats, in_first}
 use Rattle.handle.specs.Handles.{Name, encoded}
-use Rattle.store.specs.declared.Place.TheVariants.{Present}
+use Rattle.store.specs.Places.{present_at}
 use Rattle.store.specs.declared.Store.{Store}
 use Rattle.store.specs.Records.{starting_store, started, record_of, put_record, with_place, with_mark}
 use Rattle.calls.specs.Calls.{Call, making_cluster, deleting_cluster, making_segment, deleting_segment, reading}
@@ -79,15 +79,15 @@ abbrev pub nothing : List ℕ
 nothing = 240 ∷ 15 ∷ 255 ∷ 255 ∷ []
 
 abbrev pub sample : Store
-sample = put_record starting_store (record_of 1 2) (with_place (started 8 (sixteen 3) (sixteen 4)) 5 (Present 0 3))
+sample = put_record starting_store (record_of 1 2) (with_place (started 8 (sixteen 3) (sixteen 4)) 5 (present_at 0 3))
 
 abbrev pub marked : Store
 marked =
     put_record
     (put_record starting_store (record_of 1 2)
-    (with_place (with_mark (with_place (started 8 (sixteen 3) (sixteen 4)) 5 (Present 0 3)) 5) 4 (Present 3 2)))
+    (with_place (with_mark (with_place (started 8 (sixteen 3) (sixteen 4)) 5 (present_at 0 3)) 5) 4 (present_at 3 2)))
     (record_of 1 4)
-    (with_place (started 8 (sixteen 6) (sixteen 7)) 5 (Present 5 3))
+    (with_place (started 8 (sixteen 6) (sixteen 7)) 5 (present_at 5 3))
 
 abbrev pub beside : ℕ → List ℕ
 beside b = shown 1 4 b (flats 8)

@@ -16,7 +16,7 @@
 -- Assumes nothing.
 use Rattle.std.specs.Prelude.{◌≡◌, ℕ, zero, suc, ◌+◌, ◌*◌, ◌-◌, true, false, List, [], ◌∷◌, ◌++◌, map, get_or, take, drop, replicate}
 use Rattle.handle.specs.Handles.{Name}
-use Rattle.store.specs.declared.Place.TheVariants.{Absent, Present}
+use Rattle.store.specs.Places.{None, present_at}
 use Rattle.store.specs.declared.Segment.{Segment}
 use Rattle.store.specs.declared.Cluster.{Cluster}
 use Rattle.store.specs.declared.Store.{Store}
@@ -74,7 +74,7 @@ weaker p s r = bytes 5 p (s ∷ r ∷ flat 2)
 -- ---- the copy
 
 abbrev no : ℕ → List Segment
-no k = replicate k (record { place = Absent; frozen = false })
+no k = replicate k (record { place = None; frozen = false })
 
 abbrev cluster : ℕ → List ℕ → List ℕ → List Segment → Cluster
 cluster w p q gs = record { active = true; width = w; read = p; write = q; segments = gs }
@@ -83,7 +83,7 @@ abbrev none : Cluster
 none = record { active = false; width = 0; read = replicate 16 0; write = replicate 16 0; segments = no 16 }
 
 abbrev own : List Segment
-own = no 4 ++ (record { place = Present 7 3; frozen = false } ∷ no 11)
+own = no 4 ++ (record { place = present_at 7 3; frozen = false } ∷ no 11)
 
 abbrev pub single : Store
 single = record { clusters = replicate 21 none ++ (cluster 8 (from 1) (from 17) own ∷ replicate 10 none) }

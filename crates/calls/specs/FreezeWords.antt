@@ -14,7 +14,7 @@
 -- Assumes nothing.
 use Rattle.std.specs.Prelude.{◌≡◌, ◌≢◌, ◌⊎◌, ℕ, ◌+◌, ◌*◌, List, []}
 use Rattle.handle.specs.Handles.{Name, node_of}
-use Rattle.store.specs.declared.Place.TheVariants.{Present}
+use Rattle.store.specs.Places.{present_at}
 use Rattle.store.specs.declared.Store.{Store}
 use Rattle.store.specs.Records.{table_of, cluster_at, segment_of}
 use Rattle.calls.specs.Calls.{Copy, Call, Arguments, call, delete_segment, freeze, handle_of}
@@ -45,7 +45,7 @@ module _ (f : Name → List ℕ → ℕ → List ℕ) (g : Arguments) (c : Copy)
   after = (step f x c).copy
 
   pub record FreezeInWords : Type 0 where
-    pub present : (base : ℕ) × (length : ℕ) × (place x c.store ≡ Present base length)
+    pub present : (base : ℕ) × (length : ℕ) × (place x c.store ≡ present_at base length)
     pub marked : Frozen x after.store g.segment
     pub stays : place x after.store ≡ place x c.store
     pub others : SameRecords (node_of (handle_of x) * 8 + (handle_of x).local) g.segment after.store c.store

@@ -27,4 +27,5 @@ pub mod WidthOrders
 pub mod Bounds
 pub mod Written
 pub mod Answers
+pub mod Codes
 pub mod MarkWords

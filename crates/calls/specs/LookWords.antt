@@ -16,7 +16,7 @@
 -- Assumes nothing.
 use Rattle.std.specs.Prelude.{◌≡◌, ◌≢◌, ◌↔◌, ℕ, ◌+◌, ◌*◌, ◌-◌, ◌≤◌, ◌<◌, List, [], ◌++◌, length, get_or, take, drop}
 use Rattle.handle.specs.Handles.{Name, node_of, decoded}
-use Rattle.store.specs.declared.Place.TheVariants.{Present}
+use Rattle.store.specs.Places.{present_at}
 use Rattle.store.specs.declared.Store.{Store}
 use Rattle.store.specs.Records.{length_of}
 use Rattle.calls.specs.declared.Part.{Part}
@@ -41,7 +41,7 @@ module _ (f : Name → List ℕ → ℕ → List ℕ) (v i : ℕ) (h : List ℕ)
     pub here : v ≡ node_of (decoded h)
     pub base : ℕ
     pub size : ℕ
-    pub present : place (looking v i h) c.store ≡ Present base size
+    pub present : place (looking v i h) c.store ≡ present_at base size
     pub some : 0 < size
     pub from : part.from ≡ node_of (decoded h) * 4096 + base
     pub to : part.to ≡ node_of (decoded h) * 4096 + base + size

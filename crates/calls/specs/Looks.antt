@@ -1,4 +1,5 @@
 -- Document 02, §2: what a look tells. A refused look shows an empty part, and a second question tells its number.
+--     Looked              what a look tells: its number, and a part of the memory
 --     nowhere             a part of no bytes, from 0 to 0
 --     part_by n x ts       the part that the look x shows where its number is n: that of the segment, nowhere if it is refused
 --     looked_by n x ts     the number n of the look x, and that part
@@ -13,9 +14,12 @@ use Rattle.handle.specs.Conversion.{product}
 use Rattle.store.specs.declared.Store.{Store}
 use Rattle.store.specs.Records.{Tables, table_at}
 use Rattle.calls.specs.declared.Part.{Part}
-use Rattle.calls.specs.declared.Looked.{Looked}
 use Rattle.calls.specs.Calls.{Call, part_for}
 use Rattle.calls.specs.Numbers.{number}
+
+pub record Looked : Type 0 where
+  pub number : ℕ
+  pub part : Part
 
 abbrev pub nowhere : Part
 nowhere = record { from = 0; to = 0 }

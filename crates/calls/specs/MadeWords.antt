@@ -8,7 +8,7 @@
 -- Assumes nothing.
 use Rattle.std.specs.Prelude.{◌≡◌, ℕ, ◌+◌, ◌*◌, ◌≤◌, ◌<◌, List, length, get_or}
 use Rattle.handle.specs.Handles.{Name, node_of}
-use Rattle.store.specs.declared.Place.TheVariants.{Present}
+use Rattle.store.specs.Places.{present_at}
 use Rattle.store.specs.PlacementWords.{Room}
 use Rattle.calls.specs.Calls.{Copy, Call, Arguments, call, new_segment, handle_of}
 use Rattle.calls.specs.Words.{place, Frozen, cluster_of}
@@ -30,7 +30,7 @@ module _ (f : Name → List ℕ → ℕ → List ℕ) (g : Arguments) (c : Copy)
   pub record MadeInWords : Type 0 where
     pub base : ℕ
     pub number : (step f x c).reply.number ≡ 0
-    pub present : place x after.store ≡ Present base g.size
+    pub present : place x after.store ≡ present_at base g.size
     pub unfrozen : ¬ Frozen x after.store g.segment
     pub room : Room c.store node g.size base
     pub smallest : (k : ℕ) → k < base → ¬ Room c.store node g.size k

@@ -14,7 +14,7 @@
 use Rattle.std.specs.Prelude.{◌≡◌, ℕ, ◌+◌, ◌/◌, ◌≤◌, ◌<◌, true, false, List, length, get_or}
 use Rattle.handle.specs.declared.HandleBytes.{HandleBytes}
 use Rattle.handle.specs.Handles.{Name, decoded, width_of}
-use Rattle.store.specs.declared.Place.TheVariants.{Absent}
+use Rattle.store.specs.Places.{None}
 use Rattle.store.specs.declared.Cluster.{Cluster}
 use Rattle.store.specs.Records.{table_of, place_of, frozen_of}
 use Rattle.calls.specs.Calls.{Copy, making_cluster, renewing}
@@ -46,7 +46,7 @@ module _ (f : Name → List ℕ → ℕ → List ℕ) where
       pub width : new.width ≡ w
       pub reading : SamePassword new.read p
       pub writing : SamePassword new.write q
-      pub absent : (i : ℕ) → i < 16 → place_of (table_of new) i ≡ Absent
+      pub absent : (i : ℕ) → i < 16 → place_of (table_of new) i ≡ None
       pub unfrozen : (i : ℕ) → i < 16 → frozen_of (table_of new) i ≡ false
       pub memory : made.copy.memory ≡ c.memory
 

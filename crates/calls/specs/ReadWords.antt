@@ -7,7 +7,7 @@
 -- Assumes nothing.
 use Rattle.std.specs.Prelude.{◌≡◌, ℕ, ◌+◌, ◌*◌, ◌≤◌, ◌<◌, List, length, get_or, replicate}
 use Rattle.handle.specs.Handles.{Name, node_of}
-use Rattle.store.specs.declared.Place.TheVariants.{Present}
+use Rattle.store.specs.Places.{present_at}
 use Rattle.calls.specs.Calls.{Copy, Call, Arguments, call, read, handle_of}
 use Rattle.calls.specs.Words.{place}
 use Rattle.calls.specs.Steps.{Reply, step}
@@ -22,7 +22,7 @@ module _ (f : Name → List ℕ → ℕ → List ℕ) (g : Arguments) (c : Copy)
   pub record ReadInWords : Type 0 where
     pub base : ℕ
     pub size : ℕ
-    pub present : place x c.store ≡ Present base size
+    pub present : place x c.store ≡ present_at base size
     pub number : reply.number ≡ 0
     pub told : reply.length ≡ size
     pub bytes : (k : ℕ) → k < size

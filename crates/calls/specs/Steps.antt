@@ -47,14 +47,13 @@
 use Rattle.std.specs.Prelude.{ℕ, zero, suc, ◌+◌, ◌-◌, List, [], ◌∷◌, ◌++◌, length, take, drop, replicate}
 use Rattle.handle.specs.declared.Handle.{Handle}
 use Rattle.handle.specs.declared.HandleBytes.{HandleBytes}
-use Rattle.handle.specs.declared.Weakened.{Weakened}
+use Rattle.handle.specs.Handles.{Weakened}
 use Rattle.handle.specs.Widths.{width_from}
 use Rattle.handle.specs.Selectors.{referenced}
 use Rattle.handle.specs.Handles.{Name, name_of, width_of, laid, written, encoded, weakened, reduced, joined}
 use Rattle.handle.specs.Conversion.{product}
 use Rattle.handle.specs.Opens.{primary_handle}
-use Rattle.store.specs.declared.Place.{Place}
-use Rattle.store.specs.declared.Place.TheVariants.{Absent, Present}
+use Rattle.store.specs.Places.{Place, None, present_at}
 use Rattle.store.specs.declared.Cluster.{Cluster}
 use Rattle.store.specs.Records.{Tables, inactive, started, cluster_at, table_at, put_record, with_place, with_mark, with_password}
 use Rattle.store.specs.Placement.{placement}
@@ -140,7 +139,7 @@ abbrev pub new_base_for : Call → Tables → ℕ
 new_base_for x ts = (placement ts (node_for x) x.args.size).base
 
 abbrev pub new_place : Call → Tables → Place
-new_place x ts = Present (new_base_for x ts) x.args.size
+new_place x ts = present_at (new_base_for x ts) x.args.size
 
 abbrev pub new_start : Call → Tables → ℕ
 new_start x ts = address (node_for x) (new_base_for x ts)
@@ -158,7 +157,7 @@ segment_made x c =
     (replicate x.args.size 0)
 
 unfoldable pub segment_deleted : Call → Copy → Copy
-segment_deleted x c = put_cluster c (record_for x) (with_place (about x c) x.args.segment Absent)
+segment_deleted x c = put_cluster c (record_for x) (with_place (about x c) x.args.segment None)
 
 unfoldable pub segment_written : Call → Copy → Copy
 segment_written x c =

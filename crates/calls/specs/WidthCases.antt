@@ -24,7 +24,7 @@
 -- Assumes nothing.
 use Rattle.std.specs.Prelude.{◌≡◌, ℕ, ◌+◌, ◌/◌, ◌%◌, List, [], ◌∷◌, ◌++◌, map, get_or, replicate, take}
 use Rattle.handle.specs.Handles.{Name}
-use Rattle.store.specs.declared.Place.TheVariants.{Present}
+use Rattle.store.specs.Places.{present_at}
 use Rattle.store.specs.declared.Store.{Store}
 use Rattle.store.specs.Records.{starting_store, started, put_record, with_place}
 use Rattle.calls.specs.Calls.{Call, making_cluster, deleting_cluster, making_segment, deleting_segment, reading}
@@ -41,11 +41,11 @@ abbrev pub mixed : Store
 mixed =
     put_record
     (put_record
-    (put_record starting_store 10 (with_place (started 4 (sixteen 3) (sixteen 4)) 3 (Present 0 3)))
+    (put_record starting_store 10 (with_place (started 4 (sixteen 3) (sixteen 4)) 3 (present_at 0 3)))
     12
-    (with_place (started 8 (sixteen 5) (sixteen 6)) 7 (Present 3 2)))
+    (with_place (started 8 (sixteen 5) (sixteen 6)) 7 (present_at 3 2)))
     13
-    (with_place (started 16 (sixteen 7) (sixteen 8)) 15 (Present 5 4))
+    (with_place (started 16 (sixteen 7) (sixteen 8)) 15 (present_at 5 4))
 
 -- ---- handles that are not primary
 

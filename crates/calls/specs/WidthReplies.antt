@@ -15,7 +15,7 @@
 --     WidthsAnswered     they get these replies and leave these records, each on that copy
 -- Assumes nothing.
 use Rattle.std.specs.Prelude.{◌≡◌, ℕ, true, false, List, [], ◌∷◌, ◌++◌, map, replicate}
-use Rattle.store.specs.declared.Place.TheVariants.{Absent, Present}
+use Rattle.store.specs.Places.{None, present_at}
 use Rattle.store.specs.declared.Segment.{Segment}
 use Rattle.store.specs.declared.Cluster.{Cluster}
 use Rattle.store.specs.Records.{cluster_at}
@@ -128,16 +128,16 @@ abbrev cluster : ℕ → ℕ → ℕ → List Segment → Cluster
 cluster w a b gs = record { active = true; width = w; read = sixteen a; write = sixteen b; segments = gs }
 
 abbrev no : ℕ → List Segment
-no k = replicate k (record { place = Absent; frozen = false })
+no k = replicate k (record { place = None; frozen = false })
 
 abbrev none : Cluster
 none = record { active = false; width = 0; read = sixteen 0; write = sixteen 0; segments = no 16 }
 
 abbrev at : ℕ → ℕ → Segment
-at b n = record { place = Present b n; frozen = false }
+at b n = record { place = present_at b n; frozen = false }
 
 abbrev frozen : ℕ → ℕ → Segment
-frozen b n = record { place = Present b n; frozen = true }
+frozen b n = record { place = present_at b n; frozen = true }
 
 pub record Leaving : Type 0 where
   pub call : Call

@@ -37,8 +37,7 @@ use Rattle.std.specs.Prelude.{◌≡◌, ◌≢◌, ◌⊎◌, ◌↔◌, ℕ, �
 use Rattle.handle.specs.declared.Handle.{Handle}
 use Rattle.handle.specs.Handles.{Name, name_of, node_of, width_of, decoded}
 use Rattle.handle.specs.Words.{Bit, subselector, References}
-use Rattle.store.specs.declared.Place.{Place}
-use Rattle.store.specs.declared.Place.TheVariants.{Absent, Present}
+use Rattle.store.specs.Places.{Place, None, present_at}
 use Rattle.store.specs.declared.Cluster.{Cluster}
 use Rattle.store.specs.declared.Store.{Store}
 use Rattle.store.specs.Records.{table_of, cluster_at, place_of, frozen_of}
@@ -241,11 +240,11 @@ OldPassword x s = Named (new_password ∷ []) x × Current x.args.mode (cluster_
 
 -- 13, for 3: the segment is present
 abbrev pub SegmentPresent : Call → Store → Type 0
-SegmentPresent x s = Named (new_segment ∷ []) x × ((base : ℕ) × (length : ℕ) × (place x s ≡ Present base length))
+SegmentPresent x s = Named (new_segment ∷ []) x × ((base : ℕ) × (length : ℕ) × (place x s ≡ present_at base length))
 
 -- 14, for 4, 5, 6, 10 and a look: the segment is absent
 abbrev pub SegmentAbsent : Call → Store → Type 0
-SegmentAbsent x s = Named (delete_segment ∷ read ∷ write ∷ freeze ∷ look ∷ []) x × (place x s ≡ Absent)
+SegmentAbsent x s = Named (delete_segment ∷ read ∷ write ∷ freeze ∷ look ∷ []) x × (place x s ≡ None)
 
 -- 22, for 4, 6: the segment is frozen
 abbrev pub SegmentFrozen : Call → Store → Type 0
@@ -255,7 +254,7 @@ SegmentFrozen x s = Named (delete_segment ∷ write ∷ []) x × Frozen x s x.ar
 abbrev pub Short : Call → Store → Type 0
 Short x s =
     Named (read ∷ write ∷ []) x
-    × ((base : ℕ) × (n : ℕ) × (place x s ≡ Present base n) × (length x.args.bytes < n))
+    × ((base : ℕ) × (n : ℕ) × (place x s ≡ present_at base n) × (length x.args.bytes < n))
 
 -- 16, for 3: no base exists
 abbrev pub NoRoom : Call → Store → Type 0

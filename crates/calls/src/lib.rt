@@ -3,152 +3,148 @@
 #![tactic(auto)]
 
 ghost use Rattle.std.specs.Prelude.{◌≡◌};
-ghost use Rattle.handle.specs.Handles.{laid};
-ghost use Rattle.calls.specs.Steps.{no_bytes};
 ghost use Rattle.calls.specs.Answers as spec;
+ghost use Rattle.calls.specs.Codes.{code, Decodes};
 
 use handle::{HANDLE_BYTES, HandleBytes};
+use numbers::Number;
 use store::{Cluster, Store};
 
-// The codes of the calls.
-pub const NEW_CLUSTER: u8 = 1;
-
-pub const DELETE_CLUSTER: u8 = 2;
-
-pub const NEW_SEGMENT: u8 = 3;
-
-pub const DELETE_SEGMENT: u8 = 4;
-
-pub const READ: u8 = 5;
-
-pub const WRITE: u8 = 6;
-
-pub const WEAKEN: u8 = 7;
-
-pub const REDUCE: u8 = 8;
-
-pub const NEW_PASSWORD: u8 = 9;
-
-pub const FREEZE: u8 = 10;
-
-pub const JOIN: u8 = 11;
-
-// What a call answers: its number; the handles, the count and the length that it gives; zero where it gives none, and of a
-// handle the length 0.
-#[derive(Clone, Copy)]
-pub struct Answer {
-    pub number: u8,
-    pub first: HandleBytes,
-    pub second: HandleBytes,
-    pub count: u8,
-    pub length: usize,
+// The codes of the calls: which call is meant.
+#[derive(Clone, Copy, Debug, PartialEq, Eq)]
+pub enum Code {
+    NewCluster = 1,
+    DeleteCluster = 2,
+    NewSegment = 3,
+    DeleteSegment = 4,
+    Read = 5,
+    Write = 6,
+    Weaken = 7,
+    Reduce = 8,
+    NewPassword = 9,
+    Freeze = 10,
+    Join = 11,
 }
 
-// The records that a call leaves, and its answer.
+// A code that means no call.
+#[derive(Clone, Copy, Debug, PartialEq, Eq)]
+pub struct UnknownCode(pub u8);
+
+impl Code {
+    // The code itself.
+    pub fn byte(self) -> u8
+        ensures { result ≡ code self }
+    {
+        self as u8
+    }
+}
+
+impl TryFrom<u8> for Code {
+    type Error = UnknownCode;
+
+    ghost try_from_gives = { Decodes };
+
+    fn try_from(byte: u8) -> Result<Self, UnknownCode> {
+        match byte {
+            1 => Ok(Code::NewCluster),
+            2 => Ok(Code::DeleteCluster),
+            3 => Ok(Code::NewSegment),
+            4 => Ok(Code::DeleteSegment),
+            5 => Ok(Code::Read),
+            6 => Ok(Code::Write),
+            7 => Ok(Code::Weaken),
+            8 => Ok(Code::Reduce),
+            9 => Ok(Code::NewPassword),
+            10 => Ok(Code::Freeze),
+            11 => Ok(Code::Join),
+            _ => Err(UnknownCode(byte)),
+        }
+    }
+}
+
+// What a call done gives: one handle or two, a handle and how many segments it references, or the length that was read. Callers
+// read it by `first`, `second`, `count` and `length`, of which the contracts speak.
+// Stays: `Nothing` is one of five things that a call gives, and an `Option` around the other four would be taken apart twice.
 #[derive(Clone, Copy)]
-pub struct Left {
+pub enum Given {
+    Nothing,
+    Handle(HandleBytes),
+    Handles(HandleBytes, HandleBytes),
+    Counted(HandleBytes, u8),
+    Length(usize),
+}
+
+// What a call answers: what it gives, or the number that it is refused with.
+pub type Answer = Result<Given, Number>;
+
+// The handle that is not given: no bytes.
+fn no_handle() -> HandleBytes
+    ensures { result ≡ spec.no_handle }
+{
+    HandleBytes {
+        length: 0,
+        bytes: [0; HANDLE_BYTES],
+    }
+}
+
+impl Given {
+    // The first handle given, and the second; of length 0 where there is none.
+    pub fn first(&self) -> HandleBytes
+        ensures { result ≡ spec.first self.now }
+    {
+        match self {
+            Given::Handle(first) | Given::Handles(first, _) | Given::Counted(first, _) => *first,
+            Given::Nothing | Given::Length(_) => no_handle(),
+        }
+    }
+
+    pub fn second(&self) -> HandleBytes
+        ensures { result ≡ spec.second self.now }
+    {
+        match self {
+            Given::Handles(_, second) => *second,
+            _ => no_handle(),
+        }
+    }
+
+    // The count, and the length; 0 where none is told.
+    pub fn count(&self) -> u8
+        ensures { result ≡ spec.count self.now }
+    {
+        match self {
+            Given::Counted(_, count) => *count,
+            _ => 0,
+        }
+    }
+
+    pub fn length(&self) -> usize
+        ensures { result ≡ spec.length self.now }
+    {
+        match self {
+            Given::Length(length) => *length,
+            _ => 0,
+        }
+    }
+}
+
+// The records that a call done leaves, and what it gives. A refusal leaves them as they were.
+#[derive(Clone, Copy)]
+pub struct Done {
     pub store: Store,
-    pub answer: Answer,
+    pub given: Given,
+}
+
+// The record that a call done leaves of the cluster that it is about, and what it gives. A refusal leaves it as it was.
+#[derive(Clone, Copy)]
+pub struct Changed {
+    pub cluster: Cluster,
+    pub given: Given,
 }
 
 // A part of the memory: where it begins and where it ends, the first byte behind it. A part of no bytes goes from 0 to 0.
+// A look done tells the part that is the segment.
 #[derive(Clone, Copy)]
 pub struct Part {
     pub from: usize,
     pub to: usize,
-}
-
-// What a look tells: its number, and the part of the memory that is the segment; of a refused look a part of no bytes.
-#[derive(Clone, Copy)]
-pub struct Looked {
-    pub number: u8,
-    pub part: Part,
-}
-
-// The record that a call leaves of the cluster that it is about, and its answer.
-#[derive(Clone, Copy)]
-pub struct RecordLeft {
-    pub cluster: Cluster,
-    pub answer: Answer,
-}
-
-// The answer that gives a number and nothing else: a refusal, or a call done that gives nothing.
-pub fn number_alone(number: u8) -> Answer
-    ensures { result ≡ spec.number_alone number }
-{
-    let none = HandleBytes {
-        length: 0,
-        bytes: [0; HANDLE_BYTES],
-    };
-    Answer {
-        number,
-        first: none,
-        second: none,
-        count: 0,
-        length: 0,
-    }
-}
-
-// The answer of a call done that gives two handles, one handle, a length.
-pub fn two_handles(first: HandleBytes, second: HandleBytes) -> Answer
-    ensures { result ≡ spec.handles_alone first second }
-{
-    Answer {
-        number: 0,
-        first,
-        second,
-        count: 0,
-        length: 0,
-    }
-}
-
-pub fn one_handle(first: HandleBytes) -> Answer
-    ensures { result ≡ spec.handles_alone first (laid no_bytes) }
-{
-    let none = HandleBytes {
-        length: 0,
-        bytes: [0; HANDLE_BYTES],
-    };
-    two_handles(first, none)
-}
-
-pub fn length_told(length: usize) -> Answer
-    ensures { result ≡ spec.length_alone length }
-{
-    let none = HandleBytes {
-        length: 0,
-        bytes: [0; HANDLE_BYTES],
-    };
-    Answer {
-        number: 0,
-        first: none,
-        second: none,
-        count: 0,
-        length,
-    }
-}
-
-// What a look tells that is refused: the number, and a part of no bytes.
-pub fn hidden(number: u8) -> Looked
-    ensures { result ≡ spec.hidden_with number }
-{
-    Looked {
-        number,
-        part: Part { from: 0, to: 0 },
-    }
-}
-
-// Records, or one record, and a number alone: what a refusal leaves and gives, and a call done that gives nothing.
-pub fn unchanged(store: Store, number: u8) -> Left
-    ensures { result ≡ spec.left_alone store number }
-{
-    let answer = number_alone(number);
-    Left { store, answer }
-}
-
-pub fn record_alone(cluster: Cluster, number: u8) -> RecordLeft
-    ensures { result ≡ spec.record_alone cluster number }
-{
-    let answer = number_alone(number);
-    RecordLeft { cluster, answer }
 }

@@ -9,7 +9,7 @@ use Prim.Native.Nat.{ℕ, zero, suc, ◌-◌, ◌≤◌, ◌<◌}
 use native.Mathlib.Nat.{eq-or-lt_of_le}
 use native.Mathlib.Decide.{dec_lt}
 use native.Mathlib.Omega.{arith}
-use Rattle.chain.specs.declared.Walked.{Walked}
+use Rattle.chain.specs.Way.{Walked}
 use Rattle.numbers.specs.Numbers.{link_number, loop_number}
 use Rattle.chain.specs.Way.{reached, met, done, refusal, stopped, answered, way}
 use Rattle.chain.specs.Means.{IsRecord, OnRecords, Whole, Leaves, Again, Means}

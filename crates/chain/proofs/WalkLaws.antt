@@ -1,22 +1,19 @@
 -- Laws of the loop that follows a way. Before each turn it is where the way is after `met` steps, and each place before
 -- that is a record; so each of its ends gives the answer of the way.
 -- Assumes nothing.
-use mathlib.Core.Path.{◌≡◌, sym, ap, ◌∙◌}
+use mathlib.Core.Path.{◌≡◌, sym, ap, ◌∙◌, subst}
 use mathlib.Core.List.{List}
 use Prim.Native.Nat.{ℕ, zero, suc, ◌+◌, ◌-◌, ◌*◌, ◌/◌, ◌≤◌, ◌<◌}
 use native.Mathlib.Nat.{mul-le-mul_right, suc-mul, div-zero, div-mul-le_self}
 use native.Mathlib.Omega.{arith}
 use borrow.Author.Count.{below_more}
 use lib.ListN.{length}
-use Rattle.chain.specs.declared.Walked.{Walked}
+use Rattle.chain.specs.Way.{Walked}
 use Rattle.numbers.specs.Numbers.{link_number, loop_number}
 use Rattle.chain.specs.Way.{reached, done, refusal, way}
 use Rattle.chain.specs.Means.{IsRecord, OnRecords}
 use Rattle.chain.specs.Bytes.{count, next_in, way_in}
 use Rattle.chain.proofs.WayLaws.{reached_none, reached_more, way_zero, way_beyond, way_again}
-
-pub count_none : (size width : ℕ) → width ≡ 0 → 0 ≡ size / width
-count_none size width e = sym (ap (λ (w : ℕ). size / w) e ∙ div-zero size)
 
 -- record a + 1 begins inside the bytes
 begins_inside : (size width a : ℕ) → a < size / width → a * width < size
@@ -69,6 +66,12 @@ module _ (bytes : List ℕ) (width from n met at : ℕ) (w : Walking bytes width
           here = ap next w.here ∙ sym (reached_more next from met);
           on = on_more;
         }
+
+    pub walked_last : n ≤ met → refusal loop_number ≡ way_in bytes width from
+    walked_last h = walked_again (let l = w.low in omega arith)
+
+    pub walking_to : met < n → (to : ℕ) → to ≡ next_in bytes width at → Walking bytes width from n (met + 1) to
+    walking_to h to e = subst (Walking bytes width from n (met + 1)) (sym e) (walking_more (λ q. omega arith))
 
     pub walking_inside : (at - 1) * width < length bytes
     walking_inside = begins_inside (length bytes) width (at - 1) (let e = w.all in omega arith)

@@ -5,7 +5,7 @@
 --     way_in bytes width from    the answer of the way from the record `from`
 -- Assumes nothing.
 use Rattle.std.specs.Prelude.{ℕ, ◌-◌, ◌*◌, ◌/◌, List, length, get_or}
-use Rattle.chain.specs.declared.Walked.{Walked}
+use Rattle.chain.specs.Way.{Walked}
 use Rattle.chain.specs.Way.{way}
 
 abbrev pub count : List ℕ → ℕ → ℕ

@@ -6,7 +6,7 @@
 --     WaysAnswered       they are the answers
 -- Assumes nothing.
 use Rattle.std.specs.Prelude.{ℕ, ◌≡◌, List, [], ◌∷◌, map}
-use Rattle.chain.specs.declared.Walked.{Walked}
+use Rattle.chain.specs.Way.{Walked}
 use Rattle.chain.specs.Bytes.{way_in}
 
 pub record Walk : Type 0 where

@@ -2,54 +2,27 @@
 // numbered from 1, and the first byte of each is the number of its next.
 #![tactic(auto)]
 
-ghost use Rattle.std.specs.Prelude.{◌≡◌, ◌/◌};
+ghost use Rattle.std.specs.Prelude.{◌≡◌};
+ghost use Rattle.chain.specs.Way.{walked};
 ghost use Rattle.chain.specs.Bytes.{way_in};
 
-use numbers::{LINK, LOOP};
+use numbers::Number;
 
-// The answer for a way: 0 and how many records it meets; or the number of the refusal and 0.
-#[derive(Clone, Copy)]
-pub struct Walked {
-    pub number: u8,
-    pub records: usize,
-}
-
-// How many records of `width` bytes lie in `size` bytes; none of width 0.
-fn count(size: usize, width: usize) -> usize
-    ensures { result ≡ size / width }
+// How many records the way from the record `from` meets. One that has met as many records as there are and goes on comes to
+// one of them again, so that the count tells a loop, and no map of the records met is kept.
+pub fn way(bytes: &[u8], width: usize, from: usize) -> Result<usize, Number>
+    ensures { walked result ≡ way_in bytes.now width from }
 {
-    if width == 0 {
-        return 0;
-    }
-    size / width
-}
-
-// The way from the record `from`. One that has met as many records as there are and goes on comes to one of them
-// again, so that the count tells a loop, and no map of the records met is kept.
-pub fn way(bytes: &[u8], width: usize, from: usize) -> Walked
-    ensures { result ≡ way_in bytes.now width from }
-{
-    let n = count(bytes.len(), width);
+    let n = bytes.len().checked_div(width).unwrap_or(0);
     let mut at = from;
-    let mut met: usize = 0;
-    while at != 0 {
+    for met in 0..=n {
+        if at == 0 {
+            return Ok(met);
+        }
         if n < at {
-            return Walked {
-                number: LINK,
-                records: 0,
-            };
+            return Err(Number::Link);
         }
-        if met == n {
-            return Walked {
-                number: LOOP,
-                records: 0,
-            };
-        }
-        at = bytes[(at - 1) * width] as usize;
-        met += 1;
+        at = usize::from(bytes[(at - 1) * width]);
     }
-    Walked {
-        number: 0,
-        records: met,
-    }
+    Err(Number::Loop)
 }

@@ -3,20 +3,23 @@
 -- Assumes nothing.
 use mathlib.Core.Path.{◌≡◌, refl, sym, ap, ◌∙◌}
 use mathlib.Core.Bool.{Bool, true, false, not, cond}
-use mathlib.Core.List.{List, [], ◌∷◌}
-use Prim.Native.Nat.{ℕ, ◌+◌, ◌*◌, ◌-◌, ◌≤◌, ◌<◌}
+use mathlib.Core.List.{List, [], ◌∷◌, ◌++◌}
+use Prim.Native.Nat.{ℕ, ◌+◌, ◌*◌, ◌≤◌, ◌<◌}
 use native.Mathlib.Nat.{lt_of_lt_of_le}
 use native.Mathlib.Omega.{arith}
 use lib.Dec.{leb, ltb}
 use lib.ListN.{length}
-use borrow.Author.Tests.{not-false, leb-false, ltb-true, ltb-false, lt-ltb, le-ltb}
+use Rattle.std.specs.Prelude.{Result, Ok, Err}
+use Rattle.std.specs.Result.{IsErrAnd}
+use Rattle.numbers.specs.declared.Number.{Number}
+use Rattle.numbers.specs.Codes.{told}
+use borrow.Author.Tests.{not-false, leb-false, ltb-false, lt-ltb, le-ltb}
 use Rattle.sizes.specs.Sizes.{nodes, clusters, records, node_memory, memory}
 use Rattle.handle.specs.declared.Handle.{Handle}
 use Rattle.handle.specs.Selectors.{references}
 use Rattle.handle.specs.Handles.{node_of, width_of, first_of}
 use Rattle.handle.proofs.WidthLaws.{bits_le}
-use Rattle.store.specs.declared.Place.{Place}
-use Rattle.store.specs.declared.Place.TheVariants.{Absent, Present}
+use Rattle.store.specs.Places.{Place, None, Some}
 use Rattle.store.specs.declared.Cluster.{Cluster}
 use Rattle.store.specs.declared.Store.{Store}
 use Rattle.store.specs.Records.{table_of, table_at, segment_of, place_of, base_of, length_of, address}
@@ -27,34 +30,44 @@ use Rattle.calls.specs.Calls.{record_named}
 use Rattle.calls.proofs.CallLaws.{or_left, or_right}
 use Rattle.refusals.specs.Rows.{row, shared_rows, after}
 use Rattle.refusals.specs.Given.{record_found}
-use Rattle.refusals.proofs.AfterLaws.{after_told, after_zero, after_after, first_append}
-use Rattle.refusals.proofs.GivenLaws.{judged, shown, found, Passed, found_is, shared_passed, shared_field}
+use Rattle.calls.proofs.FirstLaws.{Numbered}
+use Rattle.numbers.proofs.ToldLaws.{told_ok, told_err, told_above, exit_err}
+use Rattle.refusals.proofs.AfterLaws.{after_told, after_zero, after_after, first_append, exit_first, passed_first}
+use Rattle.refusals.proofs.GivenLaws.{judged, shown, found, Passed, found_is, shared_numbered, shared_passed, shared_field}
 use Rattle.cluster.specs.inner.Access.{reach_rows, reached, access_rows, accessed, Reaches}
 
 -- ---- the rows of the code, return by return
 
 -- the test of the segment's number as the code has it
-module _ (sd : Bool) (h : Handle) (c : Cluster) (p : Place) (i : ℕ) (far away : Bool) (mode n : ℕ) (f : Bool)
-    (ef : f ≡ leb (width_of h) i) (ef-told : n ≡ first_of (shared_rows sd h c far f away mode)) where
-  en : n ≡ first_of (shared_rows sd h c far (leb (width_of h) i) away mode)
-  en = ef-told ∙ ap (λ (t : Bool). first_of (shared_rows sd h c far t away mode)) ef
+module _ {X : Type 0} (sd : Bool) (h : Handle) (c : Cluster) (p : Place) (i : ℕ) (far away : Bool) (mode : ℕ) (f : Bool)
+    (ef : f ≡ leb (width_of h) i) (r : Result X Number) (er : told r ≡ first_of (shared_rows sd h c far f away mode)) where
+  known : told r ≡ first_of (shared_rows sd h c far (leb (width_of h) i) away mode)
+  known = er ∙ ap (λ (t : Bool). first_of (shared_rows sd h c far t away mode)) ef
 
-  pub reach_shared : (n ≡ 0 → ⊥) → n ≡ reached sd h c p i far away mode
+  numbered : Numbered (shared_rows sd h c far (leb (width_of h) i) away mode)
+  numbered = shared_numbered sd h c far (leb (width_of h) i) away mode
+
+  -- these rows and those below them
+  both : first_of (shared_rows sd h c far (leb (width_of h) i) away mode ++ reach_rows h p i) ≡ reached sd h c p i far away mode
   unfolding reached
-  reach_shared t =
-      sym (after_told n (first_of (reach_rows h p i)) t) ∙ ap (λ (k : ℕ). after k (first_of (reach_rows h p i))) en
+  both = first_append (shared_rows sd h c far (leb (width_of h) i) away mode) (reach_rows h p i) numbered
 
-  module _ (z : n ≡ 0) (r : Bool) (er : r ≡ references h.selector i) where
-    rest : (t : Bool) → not r ≡ t → reached sd h c p i far away mode ≡ cond t 11 (cond (is_absent p) 14 0)
-    unfolding reached
+  pub reach_shared : (n : Number) → r ≡ Err n → {Y : Type 0} (q : Result Y Number) → IsErrAnd q (λ k. k ≡ n)
+      → told q ≡ reached sd h c p i far away mode
+  reach_shared n e q w =
+      exit_first (shared_rows sd h c far (leb (width_of h) i) away mode) (reach_rows h p i) numbered r known n e q w ∙ both
+
+  module _ (x : X) (z : r ≡ Ok x) (v : Bool) (ev : v ≡ references h.selector i) where
+    rest : (t : Bool) → not v ≡ t → reached sd h c p i far away mode ≡ cond t 11 (cond (is_absent p) 14 0)
     rest t e =
-        ap (λ (k : ℕ). after k (first_of (reach_rows h p i))) (sym en ∙ z)
-        ∙ ap (λ (b : Bool). cond b 11 (cond (is_absent p) 14 0)) (ap not (sym er) ∙ e)
+        sym both
+        ∙ passed_first (shared_rows sd h c far (leb (width_of h) i) away mode) (reach_rows h p i) numbered r known x z
+        ∙ ap (λ (b : Bool). cond b 11 (cond (is_absent p) 14 0)) (ap not (sym ev) ∙ e)
 
-    pub reach_not_referenced : not r ≡ true → 11 ≡ reached sd h c p i far away mode
+    pub reach_not_referenced : not v ≡ true → 11 ≡ reached sd h c p i far away mode
     reach_not_referenced t = sym (rest true t)
 
-    module _ (t : not r ≡ false) (o : Bool) (eo : o ≡ is_absent p) where
+    module _ (t : not v ≡ false) (o : Bool) (eo : o ≡ is_absent p) where
       last : (u : Bool) → o ≡ u → reached sd h c p i far away mode ≡ cond u 14 0
       last u e = rest false t ∙ ap (λ (b : Bool). cond b 14 0) (sym eo ∙ e)
 
@@ -64,47 +77,39 @@ module _ (sd : Bool) (h : Handle) (c : Cluster) (p : Place) (i : ℕ) (far away 
       pub reach_none : o ≡ false → 0 ≡ reached sd h c p i far away mode
       reach_none e = sym (last false e)
 
-module _ (sd : Bool) (h : Handle) (c : Cluster) (p : Place) (i : ℕ) (kept : Bool) (room mode n : ℕ)
-    (en : n ≡ reached sd h c p i false false mode) where
+module _ {X : Type 0} (sd : Bool) (h : Handle) (c : Cluster) (p : Place) (i : ℕ) (kept : Bool) (room mode : ℕ)
+    (r : Result X Number) (er : told r ≡ reached sd h c p i false false mode) where
   -- rows 22 and 15 below those rows
-  below : accessed sd h c p i kept room mode ≡ after n (cond kept 22 (cond (ltb room (length_of p)) 15 0))
+  below : accessed sd h c p i kept room mode ≡ after (told r) (cond kept 22 (cond (ltb room (length_of p)) 15 0))
   unfolding accessed reached
   below =
       ap (after (first_of (shared_rows sd h c false (leb (width_of h) i) false mode)))
       (first_append (reach_rows h p i) (row 22 kept ∷ row 15 (ltb room (length_of p)) ∷ []) (omega arith))
       ∙ sym (after_after (first_of (shared_rows sd h c false (leb (width_of h) i) false mode)) (first_of (reach_rows h p i)) _)
-      ∙ ap (λ (k : ℕ). after k (cond kept 22 (cond (ltb room (length_of p)) 15 0))) (sym en)
+      ∙ ap (λ (k : ℕ). after k (cond kept 22 (cond (ltb room (length_of p)) 15 0))) (sym er)
 
-  pub access_reached : (n ≡ 0 → ⊥) → n ≡ accessed sd h c p i kept room mode
-  access_reached t = sym (below ∙ after_told n _ t)
+  pub access_reached : (n : Number) → r ≡ Err n → {Y : Type 0} (q : Result Y Number) → IsErrAnd q (λ k. k ≡ n)
+      → told q ≡ accessed sd h c p i kept room mode
+  access_reached n e q w =
+      ap told (exit_err r n e q w) ∙ sym (told_err r n e) ∙ sym (below ∙ after_told (told r) _ (told_above r n e))
 
-  pub access_frozen : n ≡ 0 → kept ≡ true → 22 ≡ accessed sd h c p i kept room mode
-  access_frozen z t = sym (below ∙ (λ j. after (z j) (cond (t j) 22 (cond (ltb room (length_of p)) 15 0))))
+  module _ (x : X) (z : r ≡ Ok x) where
+    pub access_frozen : kept ≡ true → 22 ≡ accessed sd h c p i kept room mode
+    access_frozen t =
+        sym (below ∙ (λ j. after (told_ok r x z j) (cond (t j) 22 (cond (ltb room (length_of p)) 15 0))))
 
-  module _ (z : n ≡ 0) (free : kept ≡ false) (size : ℕ) (el : size ≡ length_of p) where
-    short : (t : Bool) → ltb room size ≡ t → accessed sd h c p i kept room mode ≡ cond t 15 0
-    short t e =
-        below ∙ (λ j. after (z j) (cond (free j) 22 (cond (ltb room (length_of p)) 15 0)))
-        ∙ ap (λ (b : Bool). cond b 15 0) (ap (ltb room) (sym el) ∙ e)
+    module _ (free : kept ≡ false) (size : ℕ) (el : size ≡ length_of p) where
+      short : (t : Bool) → ltb room size ≡ t → accessed sd h c p i kept room mode ≡ cond t 15 0
+      short t e =
+          below
+          ∙ (λ j. after (told_ok r x z j) (cond (free j) 22 (cond (ltb room (length_of p)) 15 0)))
+          ∙ ap (λ (b : Bool). cond b 15 0) (ap (ltb room) (sym el) ∙ e)
 
-    pub access_short : room < size → 15 ≡ accessed sd h c p i kept room mode
-    access_short l = sym (short true (lt-ltb room size l))
+      pub access_short : room < size → 15 ≡ accessed sd h c p i kept room mode
+      access_short l = sym (short true (lt-ltb room size l))
 
-    pub access_none : size ≤ room → 0 ≡ accessed sd h c p i kept room mode
-    access_none l = sym (short false (le-ltb room size l))
-
--- ---- whether the slice is too short
-
-module _ (all from size : ℕ) where
-  pub lacks_all : all < size → true ≡ ltb all (from + size)
-  lacks_all t = sym (lt-ltb all (from + size) (omega arith))
-
-  pub lacks_some : size ≤ all → ltb (all - size) from ≡ ltb all (from + size)
-  lacks_some t = go (ltb (all - size) from) refl
-    where
-      go : (u : Bool) → ltb (all - size) from ≡ u → ltb (all - size) from ≡ ltb all (from + size)
-      go true e = e ∙ sym (lt-ltb all (from + size) (let k = ltb-true (all - size) from e in omega arith))
-      go false e = e ∙ sym (le-ltb all (from + size) (let k = ltb-false (all - size) from e in omega arith))
+      pub access_none : size ≤ room → 0 ≡ accessed sd h c p i kept room mode
+      access_none l = sym (short false (le-ltb room size l))
 
 -- ---- no row applies
 
@@ -116,22 +121,26 @@ own_enough false false true true e = absurd (omega arith)
 own_enough false false false true e = absurd (omega arith)
 
 place_ends : (p : Place) → inside p ≡ true → base_of p + length_of p ≤ node_memory
-place_ends Absent e = omega arith
-place_ends (Present base length) e = (inside_out base length e).ends
+place_ends None e = omega arith
+place_ends (Some span) e = (inside_out span.base span.length e).ends
 
 module _ (sd : Bool) (h : Handle) (c : Cluster) (p : Place) (i : ℕ) (kept : Bool) (room mode n : ℕ)
     (en : n ≡ accessed sd h c p i kept room mode) (z : n ≡ 0) where
-  both : (first_of (shared_rows sd h c false (leb (width_of h) i) false mode) ≡ 0) × (first_of (access_rows h p i kept room) ≡ 0)
+  split : (first_of (shared_rows sd h c false (leb (width_of h) i) false mode) ≡ 0) × (first_of (access_rows h p i kept room) ≡ 0)
   unfolding accessed
-  both = after_zero _ _ (sym en ∙ z)
+  split = after_zero _ _ (sym en ∙ z)
 
   -- the bounds that copying asks for: of the buffer by row 15, of the memory as it was tested
-  pub access_reaches : (from size all : ℕ) → size ≡ length_of p → (v : Bool) → v ≡ ltb all (from + size) → v ≡ false
-      → Reaches from size all room
-  access_reaches from size all el v ev t =
+  reaches : (from size all : ℕ) → size ≡ length_of p → from + size ≤ all → Reaches from size all room
+  reaches from size all el t =
       let l : length_of p ≤ room =
-      ltb-false room (length_of p) (own_enough (not (references h.selector i)) (is_absent p) kept (ltb room (length_of p)) both.1) in
-      record { ends = ltb-false all (from + size) (sym ev ∙ t); enough = omega arith }
+      ltb-false room (length_of p) (own_enough (not (references h.selector i)) (is_absent p) kept (ltb room (length_of p)) split.1) in
+      record { ends = t; enough = omega arith }
+
+pub access_reaches : {X : Type 0} (sd : Bool) (h : Handle) (c : Cluster) (p : Place) (i : ℕ) (kept : Bool) (room mode : ℕ)
+    (r : Result X Number) → told r ≡ accessed sd h c p i kept room mode → (x : X) → r ≡ Ok x
+    → (from size all : ℕ) → size ≡ length_of p → from + size ≤ all → Reaches from size all room
+access_reaches sd h c p i kept room mode r er x z = reaches sd h c p i kept room mode (told r) er (told_ok r x z)
 
 -- on what a store holds, that test never fails
 module _ (s : Store) (m b : List ℕ) (i : ℕ) (kept : Bool) (room mode n : ℕ) where
@@ -143,7 +152,7 @@ module _ (s : Store) (m b : List ℕ) (i : ℕ) (kept : Bool) (room mode n : ℕ
 
   module _ (en : n ≡ accessed (judged s m b) k e (place_of (table_of e) i) i kept room mode) (z : n ≡ 0) where
     opened : first_of (shared_rows (judged s m b) k e false (leb (width_of k) i) false mode) ≡ 0
-    opened = (both (judged s m b) k e (place_of (table_of e) i) i kept room mode n en z).0
+    opened = (split (judged s m b) k e (place_of (table_of e) i) i kept room mode n en z).0
 
     passed : Passed (judged s m b) k
     passed = shared_passed (judged s m b) k e false (leb (width_of k) i) false mode opened

@@ -1,6 +1,6 @@
 -- Calls 2, 4 and 10, which only the owner of a cluster may make: refused by the rows that they begin with, refused with
 -- 22, or done, where the record found is the one that the call is about. What they share is shown once, of any call whose
--- number is that of such rows and which leaves a record made from the old one (`turned`, `kept`, `changed`).
+-- number is that of such rows and which leaves a record made from the old one (`turned`, `kept`, `done`).
 -- Assumes nothing.
 use mathlib.Core.Path.{◌≡◌, refl, sym, ap, ap₂, ◌∙◌}
 use mathlib.Core.Bool.{Bool, true, false, not, cond}
@@ -9,46 +9,57 @@ use Prim.Native.Nat.{ℕ}
 use native.Mathlib.Omega.{arith}
 use lib.Dec.{leb}
 use lib.ListN.{length}
+use Rattle.std.specs.Prelude.{Result, Ok, Err}
+use Rattle.std.specs.Result.{IsErrAnd}
+use Rattle.numbers.specs.declared.Number.{Number}
+use Rattle.numbers.specs.declared.Number.TheVariants.{Frozen}
+use Rattle.numbers.specs.Codes.{told}
 use Rattle.handle.specs.declared.Handle.{Handle}
 use Rattle.handle.specs.Handles.{width_of, first_of}
 use Rattle.handle.specs.Conversion.{product}
-use Rattle.store.specs.declared.Place.{Place}
-use Rattle.store.specs.declared.Place.TheVariants.{Absent}
+use Rattle.store.specs.Places.{Place, None}
 use Rattle.store.specs.declared.Cluster.{Cluster}
 use Rattle.store.specs.declared.Store.{Store}
 use Rattle.store.specs.Records.{inactive, table_of, cluster_at, place_of, frozen_of, none_frozen, put_record, with_place, with_mark}
 use Rattle.store.specs.Sound.{is_absent}
-use Rattle.calls.specs.declared.RecordLeft.{RecordLeft}
+use Rattle.calls.specs.declared.Changed.{Changed}
+use Rattle.calls.specs.declared.Given.TheVariants.{Nothing}
 use Rattle.calls.specs.Calls.{Call, buffer, record_named, deleting_cluster, deleting_segment, freezing}
 use Rattle.calls.specs.Numbers.{number}
 use Rattle.calls.specs.Steps.{plain, aes_step, left, given, cluster_deleted, segment_deleted, segment_marked}
-use Rattle.calls.specs.Answers.{copy_of, ended, record_alone}
+use Rattle.calls.specs.Answers.{copy_of, changed}
 use Rattle.calls.proofs.StepLaws.{step_done}
 use Rattle.refusals.specs.Rows.{owner_rows, after}
 use Rattle.calls.proofs.FirstLaws.{Numbered}
-use Rattle.refusals.specs.Given.{Given, record_found, put}
+use Rattle.numbers.proofs.ToldLaws.{told_ok, told_err, told_above, exit_err}
+use Rattle.refusals.specs.Given.{Given, record_found}
 use Rattle.refusals.proofs.AfterLaws.{after_told, after_none, after_zero, first_append}
 use Rattle.refusals.proofs.GivenLaws.{judged, shown, found, by_given, found_is, owner_numbered, owner_passed}
 use Rattle.cluster.specs.inner.Owns.{own_segment}
 use Rattle.cluster.proofs.NumberLaws.{absent_row, number_delete_cluster, number_delete_segment, number_freeze}
-use Rattle.cluster.proofs.CoreLaws.{above, ended_at, refused_record}
+use Rattle.cluster.proofs.CoreLaws.{refused_record, exit_record}
 
 -- ---- the rows that calls 4 and 10 begin with, return by return
 
 -- the test of the segment's number as the code has it
-module _ (sd : Bool) (h : Handle) (c : Cluster) (current i n : ℕ) (f : Bool) (ef : f ≡ leb (width_of h) i)
-    (ef-told : n ≡ first_of (owner_rows sd h c current f)) where
-  en : n ≡ first_of (owner_rows sd h c current (leb (width_of h) i))
-  en = ef-told ∙ ap (λ (t : Bool). first_of (owner_rows sd h c current t)) ef
+module _ {X : Type 0} (sd : Bool) (h : Handle) (c : Cluster) (current i : ℕ) (f : Bool) (ef : f ≡ leb (width_of h) i)
+    (r : Result X Number) (er : told r ≡ first_of (owner_rows sd h c current f)) where
+  en : told r ≡ first_of (owner_rows sd h c current (leb (width_of h) i))
+  en = er ∙ ap (λ (t : Bool). first_of (owner_rows sd h c current t)) ef
 
-  pub own_refused : (n ≡ 0 → ⊥) → n ≡ own_segment sd h c current i
+  below : own_segment sd h c current i ≡ after (told r) (cond (is_absent (place_of (table_of c) i)) 14 0)
   unfolding own_segment
-  own_refused t = sym (after_told n _ t) ∙ ap (λ (k : ℕ). after k (cond (is_absent (place_of (table_of c) i)) 14 0)) en
+  below = ap (λ (k : ℕ). after k (cond (is_absent (place_of (table_of c) i)) 14 0)) (sym en)
 
-  module _ (z : n ≡ 0) (p : Place) (ep : p ≡ place_of (table_of c) i) (a : Bool) (ea : a ≡ is_absent p) where
+  pub own_refused : (n : Number) → r ≡ Err n → {Y : Type 0} (q : Result Y Number) → IsErrAnd q (λ k. k ≡ n)
+      → told q ≡ own_segment sd h c current i
+  own_refused n e q w =
+      ap told (exit_err r n e q w) ∙ sym (told_err r n e) ∙ sym (below ∙ after_told (told r) _ (told_above r n e))
+
+  module _ (x : X) (z : r ≡ Ok x) (p : Place) (ep : p ≡ place_of (table_of c) i) (a : Bool) (ea : a ≡ is_absent p) where
     last : (t : Bool) → a ≡ t → own_segment sd h c current i ≡ cond t 14 0
-    unfolding own_segment
-    last t e = ap₂ (λ (k : ℕ) (u : Bool). after k (cond u 14 0)) (sym en ∙ z) (sym (ea ∙ ap is_absent ep) ∙ e)
+    last t e =
+        below ∙ ap₂ (λ (k : ℕ) (u : Bool). after k (cond u 14 0)) (told_ok r x z) (sym (ea ∙ ap is_absent ep) ∙ e)
 
     pub own_absent : a ≡ true → 14 ≡ own_segment sd h c current i
     own_absent e = sym (last true e)
@@ -77,49 +88,51 @@ module _ (s : Store) (m b : List ℕ) where
         → aes_step x (copy_of s m)
         ≡ record { copy = copy_of (put_record s (record_named (shown s m b)) (made (cluster_at s (record_named (shown s m b))))) m; reply = plain 0 [] }
 
-  module _ (x : Call) (upper : Bool → Handle → Cluster → ℕ) (icy : Cluster → Bool) (made : Cluster → Cluster) (n : ℕ) where
-    abbrev Ends : Handle → RecordLeft → Type 0
-    Ends h r = ended (put h r.cluster s) m r.answer [] ≡ aes_step x (copy_of s m)
+  module _ (x : Call) (upper : Bool → Handle → Cluster → ℕ) (icy : Cluster → Bool) (made : Cluster → Cluster) {X : Type 0}
+      (r : Result X Number) where
+    abbrev Ends : Handle → Result Changed Number → Type 0
+    Ends h d = changed (record_found h) s m d ≡ aes_step x (copy_of s m)
 
     abbrev Turned : Bool → Handle → Cluster → Type 0
-    Turned sd h c = n ≡ upper sd h c → (n ≡ 0 → ⊥) → (r : RecordLeft) → r ≡ record_alone c n → Ends h r
+    Turned sd h c =
+        told r ≡ upper sd h c → (n : Number) → r ≡ Err n → (d : Result Changed Number) → IsErrAnd d (λ k. k ≡ n) → Ends h d
 
     abbrev Kept : Bool → Handle → Cluster → Type 0
-    Kept sd h c = n ≡ upper sd h c → n ≡ 0 → icy c ≡ true → (r : RecordLeft) → r ≡ record_alone c 22 → Ends h r
+    Kept sd h c = told r ≡ upper sd h c → (y : X) → r ≡ Ok y → icy c ≡ true → Ends h (Err Frozen)
 
-    abbrev Changed : Bool → Handle → Cluster → Type 0
-    Changed sd h c =
-        n ≡ upper sd h c → n ≡ 0 → icy c ≡ false → (d : Cluster) → d ≡ made c → (r : RecordLeft) → r ≡ record_alone d 0
-        → Ends h r
+    abbrev Done : Bool → Handle → Cluster → Type 0
+    Done sd h c =
+        told r ≡ upper sd h c → (y : X) → r ≡ Ok y → icy c ≡ false → (d : Cluster) → d ≡ made c
+        → Ends h (Ok (record { cluster = d; given = Nothing }))
 
     module _ (o : Owned x upper icy made) where
       -- the number, where the rows above 22 are not told
-      below : n ≡ at upper → n ≡ 0 → (t : Bool) → icy (found s m b) ≡ t → number product x s (length m) ≡ cond t 22 0
-      below en z t e = o.told ∙ ap₂ (λ (k : ℕ) (u : Bool). after k (cond u 22 0)) (sym en ∙ z) e
+      beneath : told r ≡ at upper → told r ≡ 0 → (t : Bool) → icy (found s m b) ≡ t → number product x s (length m) ≡ cond t 22 0
+      beneath en z t e = o.told ∙ ap₂ (λ (k : ℕ) (u : Bool). after k (cond u 22 0)) (sym en ∙ z) e
 
       module _ (sd : Bool) (h : Handle) (c : Cluster) (g : Given sd h c s m b) where
         turned : Turned sd h c
         turned =
             by_given s m b Turned sd h c g
-            (λ en t r er.
-            refused_record x s m n t
-            (o.told ∙ ap (λ (k : ℕ). after k (cond (icy (found s m b)) 22 0)) (sym en) ∙ after_told n _ t) o.quiet
-            (record_found (shown s m b)) r er)
+            (λ en n e d w.
+            exit_record x s m r
+            (o.told ∙ ap (λ (k : ℕ). after k (cond (icy (found s m b)) 22 0)) (sym en) ∙ after_told (told r) _ (told_above r n e))
+            n e o.quiet (record_found (shown s m b)) d w)
 
         kept : Kept sd h c
         kept =
             by_given s m b Kept sd h c g
-            (λ en z t r er.
-            refused_record x s m 22 (above 21) (below en z true t) o.quiet (record_found (shown s m b)) r er)
+            (λ en y z t.
+            refused_record x s m Frozen (beneath en (told_ok r y z) true t) o.quiet (record_found (shown s m b)))
 
-        changed : Changed sd h c
-        changed =
-            by_given s m b Changed sd h c g
-            (λ en z t d ed r er.
-            ap (ended_at x s m (record_found (shown s m b))) (er ∙ ap (λ (e : Cluster). record_alone e 0) ed)
+        done : Done sd h c
+        done =
+            by_given s m b Done sd h c g
+            (λ en y z t d ed.
+            ap (λ (e : Cluster). changed (record_found (shown s m b)) s m (Ok (record { cluster = e; given = Nothing }))) ed
             ∙ ap (λ (i : ℕ). record { copy = copy_of (put_record s i (made (cluster_at s i))) m; reply = plain 0 [] })
-            (o.there (sym en ∙ z))
-            ∙ sym (o.leaves (below en z false t)))
+            (o.there (sym en ∙ told_ok r y z))
+            ∙ sym (o.leaves (beneath en (told_ok r y z) false t)))
 
   -- ---- call 2
 
@@ -142,20 +155,22 @@ module _ (s : Store) (m b : List ℕ) where
           leaves = step_done product (deleting_cluster current b) (copy_of s m);
         }
 
-    module _ (n : ℕ) (sd : Bool) (h : Handle) (c : Cluster) (g : Given sd h c s m b) where
-      pub delete_cluster_refused : Turned (deleting_cluster current b) upper icy (λ c. inactive) n sd h c
-      delete_cluster_refused = turned (deleting_cluster current b) upper icy (λ c. inactive) n owned sd h c g
+    module _ {X : Type 0} (r : Result X Number) (sd : Bool) (h : Handle) (c : Cluster) (g : Given sd h c s m b) where
+      pub delete_cluster_refused : Turned (deleting_cluster current b) upper icy (λ c. inactive) r sd h c
+      delete_cluster_refused = turned (deleting_cluster current b) upper icy (λ c. inactive) r owned sd h c g
 
-      module _ (en : n ≡ first_of (owner_rows sd h c current false)) (z : n ≡ 0) (t : Bool) (et : t ≡ none_frozen (table_of c)) where
-        pub delete_cluster_frozen : not t ≡ true → (r : RecordLeft) → r ≡ record_alone c 22
-            → Ends (deleting_cluster current b) upper icy (λ c. inactive) n h r
+      module _ (en : told r ≡ first_of (owner_rows sd h c current false)) (y : X) (z : r ≡ Ok y) (t : Bool)
+          (et : t ≡ none_frozen (table_of c)) where
+        pub delete_cluster_frozen : not t ≡ true
+            → changed (record_found h) s m (Err Frozen) ≡ aes_step (deleting_cluster current b) (copy_of s m)
         delete_cluster_frozen u =
-            kept (deleting_cluster current b) upper icy (λ c. inactive) n owned sd h c g en z (ap not (sym et) ∙ u)
+            kept (deleting_cluster current b) upper icy (λ c. inactive) r owned sd h c g en y z (ap not (sym et) ∙ u)
 
-        pub delete_cluster_done : not t ≡ false → (d : Cluster) → d ≡ inactive → (r : RecordLeft) → r ≡ record_alone d 0
-            → Ends (deleting_cluster current b) upper icy (λ c. inactive) n h r
+        pub delete_cluster_done : not t ≡ false → (d : Cluster) → d ≡ inactive
+            → changed (record_found h) s m (Ok (record { cluster = d; given = Nothing }))
+            ≡ aes_step (deleting_cluster current b) (copy_of s m)
         delete_cluster_done u =
-            changed (deleting_cluster current b) upper icy (λ c. inactive) n owned sd h c g en z (ap not (sym et) ∙ u)
+            done (deleting_cluster current b) upper icy (λ c. inactive) r owned sd h c g en y z (ap not (sym et) ∙ u)
 
   -- ---- calls 4 and 10
 
@@ -178,7 +193,7 @@ module _ (s : Store) (m b : List ℕ) where
     unfolding owner_rows
     numbered = omega arith
 
-    removing : Owned (deleting_segment current segment b) first (λ c. frozen_of (table_of c) segment) (λ c. with_place c segment Absent)
+    removing : Owned (deleting_segment current segment b) first (λ c. frozen_of (table_of c) segment) (λ c. with_place c segment None)
     unfolding left given segment_deleted
     removing =
         record {
@@ -201,25 +216,26 @@ module _ (s : Store) (m b : List ℕ) where
           leaves = step_done product (freezing current segment b) (copy_of s m);
         }
 
-    module _ (n : ℕ) (sd : Bool) (h : Handle) (c : Cluster) (g : Given sd h c s m b) where
+    module _ {X : Type 0} (r : Result X Number) (sd : Bool) (h : Handle) (c : Cluster) (g : Given sd h c s m b) where
       pub delete_segment_refused : Turned (deleting_segment current segment b) first (λ c. frozen_of (table_of c) segment)
-          (λ c. with_place c segment Absent) n sd h c
-      delete_segment_refused = turned _ _ _ _ n removing sd h c g
+          (λ c. with_place c segment None) r sd h c
+      delete_segment_refused = turned _ _ _ _ r removing sd h c g
 
-      pub freeze_refused : Turned (freezing current segment b) first (λ c. false) (λ c. with_mark c segment) n sd h c
-      freeze_refused = turned _ _ _ _ n marking sd h c g
+      pub freeze_refused : Turned (freezing current segment b) first (λ c. false) (λ c. with_mark c segment) r sd h c
+      freeze_refused = turned _ _ _ _ r marking sd h c g
 
-      module _ (en : n ≡ own_segment sd h c current segment) (z : n ≡ 0) where
-        pub delete_segment_frozen : (t : Bool) → t ≡ frozen_of (table_of c) segment → t ≡ true → (r : RecordLeft)
-            → r ≡ record_alone c 22
-            → ended (put h r.cluster s) m r.answer [] ≡ aes_step (deleting_segment current segment b) (copy_of s m)
-        delete_segment_frozen t et u = kept _ _ _ _ n removing sd h c g en z (sym et ∙ u)
+      module _ (en : told r ≡ own_segment sd h c current segment) (y : X) (z : r ≡ Ok y) where
+        pub delete_segment_frozen : (t : Bool) → t ≡ frozen_of (table_of c) segment → t ≡ true
+            → changed (record_found h) s m (Err Frozen) ≡ aes_step (deleting_segment current segment b) (copy_of s m)
+        delete_segment_frozen t et u = kept _ _ _ _ r removing sd h c g en y z (sym et ∙ u)
 
         pub delete_segment_done : (t : Bool) → t ≡ frozen_of (table_of c) segment → t ≡ false → (d : Cluster)
-            → d ≡ with_place c segment Absent → (r : RecordLeft) → r ≡ record_alone d 0
-            → ended (put h r.cluster s) m r.answer [] ≡ aes_step (deleting_segment current segment b) (copy_of s m)
-        delete_segment_done t et u = changed _ _ _ _ n removing sd h c g en z (sym et ∙ u)
+            → d ≡ with_place c segment None
+            → changed (record_found h) s m (Ok (record { cluster = d; given = Nothing }))
+            ≡ aes_step (deleting_segment current segment b) (copy_of s m)
+        delete_segment_done t et u = done _ _ _ _ r removing sd h c g en y z (sym et ∙ u)
 
-        pub freeze_done : (d : Cluster) → d ≡ with_mark c segment → (r : RecordLeft) → r ≡ record_alone d 0
-            → ended (put h r.cluster s) m r.answer [] ≡ aes_step (freezing current segment b) (copy_of s m)
-        freeze_done = changed _ _ _ _ n marking sd h c g en z refl
+        pub freeze_done : (d : Cluster) → d ≡ with_mark c segment
+            → changed (record_found h) s m (Ok (record { cluster = d; given = Nothing }))
+            ≡ aes_step (freezing current segment b) (copy_of s m)
+        freeze_done = done _ _ _ _ r marking sd h c g en y z refl

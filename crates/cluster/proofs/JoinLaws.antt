@@ -8,29 +8,34 @@ use Prim.Native.Nat.{ℕ}
 use native.Mathlib.Omega.{arith}
 use lib.Dec.{eqb}
 use lib.ListN.{length}
+use Rattle.std.specs.Prelude.{Result, Ok, Err}
+use Rattle.std.specs.Result.{IsErrAnd}
+use Rattle.numbers.specs.declared.Number.{Number}
+use Rattle.numbers.specs.Codes.{told}
 use Rattle.handle.specs.declared.Handle.{Handle}
 use Rattle.handle.specs.declared.HandleBytes.{HandleBytes}
 use Rattle.handle.specs.Selectors.{gapped, whole_union}
-use Rattle.handle.specs.Handles.{name_of, same_name, width_of, no_width, no_such_place, first_of, laid, written, decoded, validates, joined}
+use Rattle.handle.specs.Handles.{name_of, same_name, width_of, no_width, no_such_place, first_of, written, decoded, validates, joined}
 use Rattle.handle.specs.Conversion.{product}
 use Rattle.store.specs.declared.Cluster.{Cluster}
 use Rattle.store.specs.declared.Store.{Store}
 use Rattle.store.specs.Records.{cluster_at, primary_of}
 use Rattle.store.specs.Sound.{sound}
-use Rattle.calls.specs.declared.Answer.{Answer}
+use Rattle.calls.specs.declared.Given.TheVariants as gives
 use Rattle.calls.specs.Calls.{joining, record_named}
 use Rattle.calls.specs.Numbers.{number}
-use Rattle.calls.specs.Steps.{no_bytes, aes_step, left, given}
-use Rattle.calls.specs.Answers.{copy_of, ended, number_alone, handles_alone}
+use Rattle.calls.specs.Steps.{aes_step, left, given}
+use Rattle.calls.specs.Answers.{Answer, copy_of, ended}
 use Rattle.refusals.specs.Rows.{bad_modes, join_below, join_rows}
 use Rattle.calls.specs.Clear.{Clear}
 use Rattle.calls.proofs.FirstLaws.{first_clear}
 use Rattle.calls.proofs.CallLaws.{or_left}
 use Rattle.calls.proofs.StepLaws.{step_done}
+use Rattle.numbers.proofs.ToldLaws.{told_ok}
 use Rattle.calls.proofs.JoinNumberLaws.{idle, number_each, record_same}
 use Rattle.refusals.specs.Given.{Given}
 use Rattle.refusals.proofs.GivenLaws.{judged, shown, found, named, by_given, found_is, either_record}
-use Rattle.cluster.proofs.CoreLaws.{refused_alone}
+use Rattle.cluster.proofs.CoreLaws.{exit_alone}
 
 -- ---- the rows of two handles, where the record is the first one's
 
@@ -95,12 +100,12 @@ module _ (s : Store) (m a b : List ℕ) (mode : ℕ) where
       ∙ either_record s m a (no_width (shown s m a) || no_width (decoded b)) (not (judged s m a)) (no_such_place (decoded b))
       (λ c. first_of (join_below (shown s m a) (decoded b) c mode))
 
-  module _ (n : ℕ) where
+  module _ {X : Type 0} (r : Result X Number) where
     abbrev Told : Bool → Handle → Handle → Cluster → Type 0
-    Told sd h k c = n ≡ first_of (join_rows sd h k c mode)
+    Told sd h k c = told r ≡ first_of (join_rows sd h k c mode)
 
-    told : Told (judged s m a) (shown s m a) (decoded b) (found s m a) → number product (joining mode a b) s (length m) ≡ n
-    told en = number_found ∙ sym en
+    number_is : Told (judged s m a) (shown s m a) (decoded b) (found s m a) → number product (joining mode a b) s (length m) ≡ told r
+    number_is en = number_found ∙ sym en
 
     module _ (sd : Bool) (h k : Handle) (c : Cluster) (g : Given sd h c s m a) (o : k ≡ decoded b) where
       -- what is shown of the store's own holds of what was given
@@ -108,38 +113,38 @@ module _ (s : Store) (m a b : List ℕ) (mode : ℕ) where
           → P (judged s m a) (shown s m a) (decoded b) (found s m a) → P sd h k c
       given_both P q = subst (λ (t : Handle). P sd h t c) (sym o) (by_given s m a (λ sd h c. P sd h (decoded b) c) sd h c g q)
 
-      pub join_refused : Told sd h k c → (n ≡ 0 → ⊥) → (r : Answer) → r ≡ number_alone n
-          → ended s m r [] ≡ aes_step (joining mode a b) (copy_of s m)
-      join_refused =
-          given_both
-          (λ sd h k c. Told sd h k c → (n ≡ 0 → ⊥) → (r : Answer) → r ≡ number_alone n
-          → ended s m r [] ≡ aes_step (joining mode a b) (copy_of s m))
-          (λ en t r e. ap (λ (x : Answer). ended s m x []) e ∙ refused_alone (joining mode a b) s m n t (told en))
+      abbrev Refuses : Bool → Handle → Handle → Cluster → Type 0
+      Refuses sd h k c =
+          Told sd h k c → (n : Number) → r ≡ Err n → (q : Answer) → IsErrAnd q (λ k. k ≡ n)
+          → ended s m q [] ≡ aes_step (joining mode a b) (copy_of s m)
+
+      pub join_refused : Refuses sd h k c
+      join_refused = given_both Refuses (λ en. exit_alone (joining mode a b) s m r (number_is en))
 
       abbrev Joined : Bool → Handle → Handle → Cluster → Type 0
-      Joined sd h k c = Told sd h k c → n ≡ 0 → (p : List ℕ) → p ≡ primary_of c mode → (r : Handle)
-          → r ≡ joined (width_of h) (product (name_of h)) h k p → (e : HandleBytes) → e ≡ written r → (q : Answer)
-          → q ≡ handles_alone e (laid no_bytes) → ended s m q [] ≡ aes_step (joining mode a b) (copy_of s m)
+      Joined sd h k c =
+          Told sd h k c → (x : X) → r ≡ Ok x → (p : List ℕ) → p ≡ primary_of c mode → (w : Handle)
+          → w ≡ joined (width_of h) (product (name_of h)) h k p → (e : HandleBytes) → e ≡ written w
+          → ended s m (Ok (gives.Handle e)) [] ≡ aes_step (joining mode a b) (copy_of s m)
 
       pub join_done : Joined sd h k c
       unfolding left given written
       join_done =
           given_both Joined
-          (λ en z p ep r er e ee q qq.
-          ap (λ (x : Answer). ended s m x []) qq
-          ∙ ap (λ (x : HandleBytes). ended s m (handles_alone x (laid no_bytes)) [])
-          (ee ∙ ap written (er ∙ ap (joined (width_of u) (product (name_of u)) u (decoded b)) (ep ∙ there en z)))
-          ∙ sym (step_done product (joining mode a b) (copy_of s m) (told en ∙ z)))
+          (λ en x z p ep w ew e ee.
+          ap (λ (v : HandleBytes). ended s m (Ok (gives.Handle v)) [])
+          (ee ∙ ap written (ew ∙ ap (joined (width_of u) (product (name_of u)) u (decoded b)) (ep ∙ there en x z)))
+          ∙ sym (step_done product (joining mode a b) (copy_of s m) (number_is en ∙ told_ok r x z)))
         where
           u : Handle
           u = shown s m a
 
-          there : Told (judged s m a) u (decoded b) (found s m a) → n ≡ 0
+          there : Told (judged s m a) u (decoded b) (found s m a) → (x : X) → r ≡ Ok x
               → primary_of (found s m a) mode ≡ primary_of (named s m a) mode
-          there en z =
+          there en x z =
               ap (λ (i : ℕ). primary_of (cluster_at s i) mode)
               (found_is s m a (or_left (no_such_place u) (no_such_place (decoded b)) clear.1.1.0))
             where
               clear : Clear (join_rows (judged s m a) u (decoded b) (found s m a) mode)
               clear =
-                  first_clear (join_rows (judged s m a) u (decoded b) (found s m a) mode) (omega arith) (sym en ∙ z)
+                  first_clear (join_rows (judged s m a) u (decoded b) (found s m a) mode) (omega arith) (sym en ∙ told_ok r x z)

@@ -5,9 +5,7 @@ pub mod JoinLaws
 pub mod ChangeLaws
 pub mod PasswordLaws
 pub mod CreateLaws
-pub mod ClearLaws
 pub mod MakeLaws
-pub mod CopyLaws
 pub mod AccessLaws
 pub mod BytesLaws
 pub mod LookLaws

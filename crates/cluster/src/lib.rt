@@ -1,6 +1,7 @@
-// The core of each call: what it does to the record of the one cluster that it is about. A core is given whether the store
-// is sound, the handle, that record and the call's other arguments, and tells the answer and the record as it is left; so
-// it serves a store of records and its image alike. A contract speaks of every store that holds what was given (`Given`).
+// The core of each call: what it does to the record of the one cluster that it is about. A core is given what was opened
+// (whether the store is sound, the handle, that record) and the call's other arguments, and tells the answer and the record
+// as it is left; so it serves a store of records and its image alike. A contract speaks of every store that holds what was
+// opened (`OpenedFrom`).
 // No core touches a byte outside its memory, even where it is told of a soundness that is not so.
 #![tactic(auto)]
 

@@ -1,16 +1,16 @@
 -- Handles as a caller holds them, for the code. 27 bytes and a length are laid one behind the other, so each is found again at
 -- its place; bytes of a handle's length are those of the handle that they hold, and of any other length there is none.
 -- Assumes nothing.
-use Prim.Native.Nat.{ℕ, ◌-◌, ◌<◌}
+use Prim.Native.Nat.{ℕ, ◌<◌}
 use mir.Syntax.{w8}
 use mir.Val.{Fits}
-use native.Mathlib.Omega.{arith}
 use mathlib.Core.Path.{◌≡◌, sym, ap, ◌∙◌}
 use mathlib.Core.Bool.{Bool, true, false, cond}
 use mathlib.Core.List.{List, [], ◌∷◌, ◌++◌}
 use lib.Dec.{eqb}
-use lib.ListN.{length, get_or, take}
-use lib.Seq.{take_all, take_at, get_or_at}
+use lib.ListN.{length, get_or, set}
+use lib.Seq.{take_at, get_or_at}
+use Rattle.loops.specs.Tabulate.{tabulate}
 use Rattle.numbers.specs.Numbers.{wrong_length_number}
 use Rattle.handle.specs.declared.Handle.{Handle}
 use Rattle.handle.specs.declared.HandleBytes.{HandleBytes}
@@ -18,25 +18,10 @@ use Rattle.handle.specs.declared.Width.{Width}
 use Rattle.handle.specs.declared.Width.TheVariants.{None, Four, Eight, Sixteen}
 use Rattle.handle.specs.Widths.{bits_of, length_of, most_bytes, width_for}
 use Rattle.handle.specs.Handles.{width_of, laid, written, encoded, decoded_as, decoded}
-use Rattle.handle.proofs.CodecLaws.{elements, listed, width_cases}
+use Rattle.handle.proofs.CodecLaws.{listed, width_cases}
 use Rattle.handle.proofs.TripLaws.{encode_decode, encoded_none}
 use Rattle.handle.proofs.HeldLaws.{width_decoded}
-use Rattle.codec.specs.Held.{held_bytes, held_in, handed, bytes_held, no_handles, held_from, length_number}
-
--- ---- the handle's own bytes
-
--- more than there are is all of them
-pub all_held : (hs : List ℕ) (n : ℕ) → n ≡ get_or hs most_bytes 0 → length hs ≡ held_bytes → held_bytes < n → hs ≡ bytes_held hs
-all_held hs n en l t = sym (take_all n hs (let q = l in omega arith)) ∙ ap (λ (k : ℕ). take k hs) en
-
-pub some_held : (hs : List ℕ) (n : ℕ) → n ≡ get_or hs most_bytes 0 → take (n - 0) hs ≡ bytes_held hs
-some_held hs n en = ap (λ (k : ℕ). take k hs) (same ∙ en)
-  where
-    same : n - 0 ≡ n
-    same = omega arith
-
-pub taken_so : (part all : List ℕ) → part ≡ all → (h : Handle) → h ≡ decoded part → h ≡ decoded all
-taken_so part all e h d = d ∙ ap decoded e
+use Rattle.codec.specs.Held.{held_in, handed, no_handles, held_from, length_number}
 
 -- ---- 27 bytes and a length
 
@@ -48,9 +33,13 @@ handed_held a l =
       bytes = take_at a.bytes (a.length ∷ []) most_bytes l j;
     }
 
+-- the bytes with a zero behind them, and the length in its place, as the code has them
 module _ (a : HandleBytes) (l : length a.bytes ≡ most_bytes) where
-  pub held_so : elements most_bytes a.bytes ++ (a.length ∷ []) ≡ held_in a
-  held_so = ap (λ (b : List ℕ). b ++ (a.length ∷ [])) (sym (listed most_bytes a.bytes l))
+  pub held_so : (m : List ℕ) → m ≡ a.bytes → set (m ++ (0 ∷ [])) most_bytes a.length ≡ held_in a
+  unfolding tabulate
+  held_so m e =
+      ap (λ (b : List ℕ). set (b ++ (0 ∷ [])) most_bytes a.length) (e ∙ listed most_bytes a.bytes l)
+      ∙ ap (λ (b : List ℕ). b ++ (a.length ∷ [])) (sym (listed most_bytes a.bytes l))
 
 -- ---- bytes from elsewhere
 
@@ -71,10 +60,10 @@ module _ (b : List ℕ) (o : (i : ℕ) → get_or b i 0 < 256) where
 
 -- the same, in the code's own terms
 pub from_so : (b : List ℕ) → ((i : ℕ) → Fits w8 (get_or b i 0)) → (r : List ℕ) (a : HandleBytes) (h : Handle)
-    → r ≡ held_in a → a ≡ written h → h ≡ decoded (take (length b - 0) b) → r ≡ held_from b
+    → r ≡ held_in a → a ≡ written h → h ≡ decoded b → r ≡ held_from b
 unfolding held_from written
 from_so b f r a h er ea eh =
-    er ∙ ap held_in (ea ∙ ap written (eh ∙ ap decoded (take_all (length b - 0) b (omega arith)))) ∙ ap (λ (l : List ℕ). held_in (laid l)) (encoded_again b (λ i. (f i).fits))
+    er ∙ ap held_in (ea ∙ ap written eh) ∙ ap (λ (l : List ℕ). held_in (laid l)) (encoded_again b (λ i. (f i).fits))
 
 -- ---- their number
 

@@ -4,7 +4,7 @@
 use mathlib.Core.Path.{◌≡◌, refl, sym, ap, ◌∙◌, subst}
 use Prim.Native.Nat.{ℕ}
 use mathlib.Core.List.{List, [], ◌∷◌}
-use Rattle.handle.specs.declared.Weakened.{Weakened}
+use Rattle.handle.specs.Handles.{Weakened}
 use Rattle.handle.specs.Handles.{Name, name_of, width_of, bytes_in, decoded, written, Holdable, weakened, weakening}
 use Rattle.handle.specs.Conversion.{SixteenBytes}
 use Rattle.handle.proofs.TripLaws.{read_laid}

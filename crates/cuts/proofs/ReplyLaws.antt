@@ -11,7 +11,7 @@ use lib.ListN.{length}
 use Rattle.bits.specs.Sets.{full}
 use Rattle.sizes.specs.Sizes.{memory}
 use Rattle.handle.specs.declared.Handle.{Handle}
-use Rattle.handle.specs.declared.Weakened.{Weakened}
+use Rattle.handle.specs.Handles.{Weakened}
 use Rattle.handle.specs.declared.Width.{Width}
 use Rattle.handle.specs.declared.Width.TheVariants.{Four, Eight, Sixteen}
 use Rattle.handle.specs.Widths.{bits_of}

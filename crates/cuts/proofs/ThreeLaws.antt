@@ -10,7 +10,7 @@ use lib.ListN.{length, get_or}
 use Rattle.bits.specs.Sets.{has, set_of, count}
 use Rattle.bits.specs.Bytes.{bytes}
 use Rattle.handle.specs.declared.Handle.{Handle}
-use Rattle.handle.specs.declared.Weakened.{Weakened}
+use Rattle.handle.specs.Handles.{Weakened}
 use Rattle.handle.specs.Widths.{bits_of, packed}
 use Rattle.handle.specs.Selectors.{Within}
 use Rattle.handle.specs.Handles.{Name, name_of, width_of, no_handle, encoded, decoded, Holdable, refusal}

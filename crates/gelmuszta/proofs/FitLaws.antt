@@ -12,7 +12,7 @@ use lib.ListN.{length}
 use Rattle.loops.proofs.BelowLaws.{and_left, and_right}
 use Rattle.sizes.specs.Sizes.{password_bytes}
 use Rattle.handle.specs.Handles.{Name}
-use Rattle.store.specs.declared.Place.TheVariants.{Present}
+use Rattle.store.specs.Places.{present_at}
 use Rattle.store.specs.Records.{table_at}
 use Rattle.store.proofs.PlaceLaws.{inside_out}
 use Rattle.store.proofs.PlacementLaws.{new_base_fits}
@@ -36,7 +36,7 @@ module _ (f : Name → List ℕ → ℕ → List ℕ) where
         k.each (record_for x) (omega arith)
 
     new_fits : number f (call new_segment g) c.store (length c.memory) ≡ 0
-        → PlaceFits (Present (new_base_for (call new_segment g) (table_at c.store)) g.size)
+        → PlaceFits (present_at (new_base_for (call new_segment g) (table_at c.store)) g.size)
     unfolding PlaceFits
     new_fits e =
         let base = new_base_for (call new_segment g) (table_at c.store) in

@@ -14,7 +14,7 @@ use Rattle.loops.proofs.BelowLaws.{and_left, and_right}
 use Rattle.bits.specs.Bytes.{Bytes, bytes}
 use Rattle.sizes.specs.Sizes.{records}
 use Rattle.handle.specs.Conversion.{product}
-use Rattle.store.specs.declared.Place.TheVariants.{Present}
+use Rattle.store.specs.Places.{present_at}
 use Rattle.store.specs.declared.Cluster.{Cluster}
 use Rattle.store.specs.declared.Store.{Store}
 use Rattle.store.specs.Records.{inactive, starting_store, no_cluster, table_of, cluster_at, table_at, place_of}
@@ -49,7 +49,7 @@ starting_fits =
       each = λ n h. subst ClusterFits (sym (get_or-replicate records n inactive no_cluster h)) inactive_fits;
     }
 
-present_fits : (base size : ℕ) → base < 100 → 0 < size → size < 100 → PlaceFits (Present base size)
+present_fits : (base size : ℕ) → base < 100 → 0 < size → size < 100 → PlaceFits (present_at base size)
 unfolding PlaceFits
 present_fits base size b z s = record { starts = omega arith; some = omega arith; ends = omega arith }
 

@@ -1,10 +1,10 @@
 pub mod ReplyLaws
 pub mod ExportLaws
-pub mod MemoryLaws
+pub mod ShapeLaws
+pub mod FoundLaws
 pub mod GivenLaws
 pub mod LookLaws
 pub mod MakeLaws
-pub mod RegisterLaws
 pub mod ValidationLaws
 pub mod BatchWordLaws
 pub mod FitLaws

@@ -2,9 +2,9 @@
 -- core tells what is told of the store that it holds, the part rises, and what is cut out there is the reply's.
 -- Assumes nothing.
 use mathlib.Core.Path.{◌≡◌, refl, sym, ap, ◌∙◌, subst}
-use mathlib.Core.Bool.{Bool, true, false, not, ◌&&◌, ◌||◌, true≢false}
+use mathlib.Core.Bool.{Bool, true, false, ◌&&◌, ◌||◌, true≢false}
 use mathlib.Core.List.{List, []}
-use Prim.Native.Nat.{ℕ, zero, suc, ◌+◌, ◌-◌, ◌≤◌}
+use Prim.Native.Nat.{ℕ, zero, suc, ◌≤◌}
 use native.Mathlib.Omega.{arith}
 use lib.ListN.{length, replicate, length-replicate}
 use Rattle.sizes.specs.Sizes.{memory}
@@ -13,7 +13,7 @@ use Rattle.handle.specs.Conversion.{product}
 use Rattle.store.specs.Sound.{sound}
 use Rattle.store.specs.Records.{table_at}
 use Rattle.calls.specs.declared.Part.{Part}
-use Rattle.calls.specs.declared.Looked.{Looked}
+use Rattle.calls.specs.Looks.{Looked}
 use Rattle.calls.specs.Calls.{Call, looking}
 use Rattle.calls.specs.Numbers.{number, bad_length}
 use Rattle.calls.specs.Steps.{Reply, look_reply, within}
@@ -23,28 +23,35 @@ use Rattle.calls.specs.Answers.{copy_of}
 use Rattle.calls.specs.Looks.{nowhere, part_by, looked, aes_looked}
 use Rattle.calls.proofs.LookLaws.{step_looked, part_inside, look_in_words}
 use Rattle.image.specs.Images.{good, store_in, image_of}
-use Rattle.gelmuszta.specs.Exported.{Exported, leaving, early, exported, part_from, exported_part, imaged, OnEveryMemory}
-use Rattle.gelmuszta.specs.declared.Opened.{Opened}
-use Rattle.gelmuszta.specs.inner.Opened.{Opens}
+use Rattle.gelmuszta.specs.Exported.{Exported, leaving, early, exported, part_from, exported_part, imaged}
+use Rattle.std.specs.Prelude.{Result, Ok, Err}
+use Rattle.std.specs.Result.{IsErrAnd}
+use Rattle.numbers.specs.declared.Number.{Number}
+use Rattle.numbers.specs.Codes.{code}
+use Rattle.calls.specs.Answers.{looked_as}
+use Rattle.numbers.proofs.ToldLaws.{code_above, exit_err}
+use Rattle.refusals.specs.declared.Opened.{Opened}
+use Rattle.refusals.specs.Given.{OpenedFrom}
+use Rattle.image.specs.Verdicts.{sound_in}
+use Rattle.gelmuszta.specs.inner.Found.{Looks, Shows}
 use Rattle.gelmuszta.specs.Looks.{LookOnImage}
-use Rattle.gelmuszta.proofs.ExportLaws.{picked, held_good, held_of, given_of, through, number_early, number_length, refused_alone}
+use Rattle.gelmuszta.proofs.ExportLaws.{picked, held_good, through, number_early, number_length}
+use Rattle.gelmuszta.proofs.FoundLaws.{early_alone, refused_lent, held, opened_from}
 use Rattle.store.specs.declared.Store.{Store}
-use Rattle.refusals.specs.Given.{Given}
 
 -- the part, where it is known whether the image is good
 abbrev pub placed : Call → List ℕ → ℕ → Bool → Part
 placed x b size g = elim g [ true ↦ (aes_looked x (store_in b) size).part | false ↦ nowhere ]
 
-module _ (b m : List ℕ) (em : length m ≡ memory) (current i : ℕ) (h : List ℕ) (sd : Bool)
-    (so : sd ≡ (good b && sound (store_in b) memory)) where
-  es : sd ≡ (good b && sound (store_in b) (length m))
-  es = so ∙ ap (λ (n : ℕ). good b && sound (store_in b) n) (sym em)
+module _ (b m : List ℕ) (em : length m ≡ memory) (current i : ℕ) (h : List ℕ) where
+  es : sound_in b ≡ (good b && sound (store_in b) (length m))
+  es = ap (λ (n : ℕ). good b && sound (store_in b) n) (sym em)
 
   abbrev x : Call
   x = looking current i h
 
   -- a look that is refused shows no part
-  pub hidden_early : (n : ℕ) → n ≡ early (bad_length x) sd → (n ≡ 0 → ⊥) → part_from 0 0 ≡ exported_part x b (length m)
+  pub hidden_early : (n : ℕ) → n ≡ early (bad_length x) (sound_in b) → (n ≡ 0 → ⊥) → part_from 0 0 ≡ exported_part x b (length m)
   unfolding exported_part looked
   hidden_early n en t = go (good b) es
     where
@@ -52,22 +59,22 @@ module _ (b m : List ℕ) (em : length m ≡ memory) (current i : ℕ) (h : List
       none zero ne = absurd (ne refl)
       none (suc k) ne = refl
 
-      told : (l : Bool) → bad_length x ≡ l → sd ≡ sound (store_in b) (length m)
-          → number product x (store_in b) (length m) ≡ early (bad_length x) sd
-      told true e q = number_length x (store_in b) (length m) e ∙ sym (ap (λ (u : Bool). early u sd) e)
-      told false e q = by sd refl
+      told : (l : Bool) → bad_length x ≡ l → sound_in b ≡ sound (store_in b) (length m)
+          → number product x (store_in b) (length m) ≡ early (bad_length x) (sound_in b)
+      told true e q = number_length x (store_in b) (length m) e ∙ sym (ap (λ (u : Bool). early u (sound_in b)) e)
+      told false e q = by (sound_in b) refl
         where
-          by : (v : Bool) → sd ≡ v → number product x (store_in b) (length m) ≡ early (bad_length x) sd
+          by : (v : Bool) → sound_in b ≡ v → number product x (store_in b) (length m) ≡ early (bad_length x) (sound_in b)
           by true ev = absurd (t (en ∙ (λ j. early (e j) (ev j))))
           by false ev =
               number_early x (store_in b) (length m) false e refl (sym q ∙ ev) ∙ sym (λ j. early (e j) (ev j))
 
-      go : (g : Bool) → sd ≡ (g && sound (store_in b) (length m)) → nowhere ≡ placed x b (length m) g
+      go : (g : Bool) → sound_in b ≡ (g && sound (store_in b) (length m)) → nowhere ≡ placed x b (length m) g
       go false f = refl
       go true f =
           none (number product x (store_in b) (length m)) (λ z. t (en ∙ sym (told (bad_length x) refl f) ∙ z))
 
-  module _ (whole : good b ≡ true → image_of (store_in b) ≡ b) (t : not sd ≡ false) (l : Looked)
+  module _ (whole : good b ≡ true → image_of (store_in b) ≡ b) (t : sound_in b ≡ true) (l : Looked)
       (e : l ≡ aes_looked x (store_in b) (length m)) where
     abbrev p : Part
     p = l.part
@@ -80,52 +87,51 @@ module _ (b m : List ℕ) (em : length m ≡ memory) (current i : ℕ) (h : List
 
     pub look_told : leaving (look_reply l.number (within p m)) b m ≡ exported x b m
     look_told =
-        (λ j. leaving (look_reply (e j).number (within (told j) m)) (sym (whole (held_good b m em sd so whole t)) j) m)
+        (λ j. leaving (look_reply (e j).number (within (told j) m)) (sym (whole (held_good b m em whole t)) j) m)
         ∙ sym (ap imaged (step_looked product current i h (copy_of (store_in b) m)))
-        ∙ through b m em sd so whole t x
+        ∙ through b m em whole t x
 
-    pub look_placed : part_from p.from (p.to - p.from) ≡ exported_part x b (length m)
+    pub look_placed : p ≡ exported_part x b (length m)
     unfolding exported_part
-    look_placed =
-        let r = look_rises in
-        let n : p.from + (p.to - p.from) ≡ p.to = omega arith in
-        ap (λ (k : ℕ). record { from = p.from; to = k }) n ∙ told ∙ sym (ap (placed x b (length m)) (held_good b m em sd so whole t))
+    look_placed = told ∙ sym (ap (placed x b (length m)) (held_good b m em whole t))
 
 -- ---- with every memory
 
-module _ (b : List ℕ) (current i : ℕ) (h : List ℕ) (o : Opened) (w : Opens o b h) where
+module _ (b : List ℕ) (current i : ℕ) (h : List ℕ) where
   abbrev zeros : List ℕ
   zeros = replicate memory 0
 
   some : length zeros ≡ memory
   some = length-replicate {A = ℕ} memory 0
 
-  pub hidden_any : (o.refused ≡ 0 → ⊥) → part_from 0 0 ≡ exported_part (looking current i h) b memory
-  hidden_any t =
-      subst (λ (n : ℕ). part_from 0 0 ≡ exported_part (looking current i h) b n) some
-      (hidden_early b zeros some current i h o.sound w.sound o.refused (refused_alone b h o w (looking current i h) refl) t)
+  abbrev z : Call
+  z = looking current i h
 
-  module _ (z : o.refused ≡ 0) (l : Looked)
-      (core : (s : Store) (m d : List ℕ) → Given true o.handle o.cluster s m d
-      → l ≡ aes_looked (looking current i d) s (length m)) where
-    held : not o.sound ≡ false
-    held = held_of b h o w z
+  part_is : (p : Part) → p ≡ exported_part z b (length zeros) → p ≡ exported_part z b memory
+  part_is p = subst (λ (n : ℕ). p ≡ exported_part z b n) some
 
-    told_of_core : (m : List ℕ) → length m ≡ memory → l ≡ aes_looked (looking current i h) (store_in b) (length m)
-    told_of_core m e = core (store_in b) m h (given_of b m h e o w held)
+  pub shows_refused : (n : Number) → Looks (Err n) b (decoded h) → (q : Result Part Number) → IsErrAnd q (λ k. k ≡ n) → Shows q b z
+  shows_refused n w q t = subst (λ (r : Result Part Number). Shows r b z) (sym (exit_err {X = Opened} (Err n) n refl {Y = Part} q t)) shown
+    where
+      shown : Shows (Err n) b z
+      shown =
+          record {
+            reply = λ m em. refused_lent b h n w z refl refl [] refl m em;
+            place = part_is nowhere (hidden_early b zeros some current i h (code n) (early_alone b h n w z refl) (code_above n));
+            rises = omega arith;
+          }
 
-    pub rises_any : l.part.from ≤ l.part.to
-    rises_any =
-        look_rises b zeros some current i h o.sound w.sound w.whole held l (told_of_core zeros some)
-
-    pub told_any : OnEveryMemory (looking current i h) b (λ m. leaving (look_reply l.number (within l.part m)) b m)
-    told_any m e =
-        look_told b m e current i h o.sound w.sound w.whole held l (told_of_core m e)
-
-    pub placed_any : part_from l.part.from (l.part.to - l.part.from) ≡ exported_part (looking current i h) b memory
-    placed_any =
-        subst (λ (n : ℕ). part_from l.part.from (l.part.to - l.part.from) ≡ exported_part (looking current i h) b n) some
-        (look_placed b zeros some current i h o.sound w.sound w.whole held l (told_of_core zeros some))
+  pub shows_done : (o : Opened) → Looks (Ok o) b (decoded h) → (r : Result Part Number)
+      → ((s : Store) (m d : List ℕ) → OpenedFrom o s m d → looked_as r ≡ aes_looked (looking current i d) s (length m)) → Shows r b z
+  shows_done o w r core =
+      record {
+        reply = λ m em. look_told b m em current i h w.whole (held b h o w) (looked_as r) (of_core m em);
+        place = part_is (looked_as r).part (look_placed b zeros some current i h w.whole (held b h o w) (looked_as r) (of_core zeros some));
+        rises = look_rises b zeros some current i h w.whole (held b h o w) (looked_as r) (of_core zeros some);
+      }
+    where
+      of_core : (m : List ℕ) → length m ≡ memory → looked_as r ≡ aes_looked z (store_in b) (length m)
+      of_core m em = core (store_in b) m h (opened_from b h o w m em)
 
 -- ---- in words
 

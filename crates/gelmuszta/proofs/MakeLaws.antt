@@ -1,71 +1,86 @@
 -- Call 3 on an image: its core comes in two, and the base between them was found when the image was judged.
 -- Assumes nothing.
-use mathlib.Core.Path.{◌≡◌, sym, ap, ◌∙◌}
-use mathlib.Core.Bool.{Bool, true, false, not, cond}
+use mathlib.Core.Path.{◌≡◌, refl, sym, ap, ◌∙◌, subst}
+use mathlib.Core.Bool.{Bool, true, cond}
 use mathlib.Core.List.{List, []}
 use Prim.Native.Nat.{ℕ}
 use lib.ListN.{length}
-use borrow.Author.Tests.{not-false}
+use Rattle.std.specs.Prelude.{Result, Ok, Err, Option}
+use Rattle.std.specs.Result.{IsErrAnd}
 use Rattle.sizes.specs.Sizes.{memory}
+use Rattle.numbers.specs.declared.Number.{Number}
+use Rattle.numbers.specs.Codes.{told}
 use Rattle.handle.specs.declared.Handle.{Handle}
 use Rattle.handle.specs.Handles.{node_of, first_of, decoded}
 use Rattle.store.specs.declared.Store.{Store}
-use Rattle.store.specs.declared.Found.{Found}
 use Rattle.store.specs.Records.{table_at}
 use Rattle.store.specs.Placement.{placement, placed_by, no_room}
-use Rattle.calls.specs.declared.RecordLeft.{RecordLeft}
+use Rattle.calls.specs.declared.Given.{Given}
+use Rattle.calls.specs.declared.Changed.{Changed}
 use Rattle.calls.specs.Calls.{Call, making_segment}
-use Rattle.calls.specs.Steps.{plain, aes_step}
-use Rattle.calls.specs.Answers.{copy_of, ended, number_alone}
-use Rattle.refusals.specs.Given.{Given, record_found, put}
+use Rattle.calls.specs.Steps.{aes_step}
+use Rattle.calls.specs.Answers.{Answer, copy_of, replied, changed}
+use Rattle.numbers.proofs.ToldLaws.{told_ok, told_err, exit_err}
+use Rattle.refusals.specs.declared.Opened.{Opened}
+use Rattle.refusals.specs.Given.{OpenedFrom, record_found, put}
 use Rattle.cluster.specs.inner.Makes.{make_rows}
 use Rattle.cluster.proofs.MakeLaws.{segment_refused}
-use Rattle.image.specs.Images.{store_in}
-use Rattle.image.specs.Verdicts.{sound_in, placement_in}
-use Rattle.gelmuszta.specs.declared.Opened.{Opened}
-use Rattle.gelmuszta.specs.inner.Opened.{Opens, OpensFor, Sites, Kept}
+use Rattle.image.specs.Images.{good, store_in, image_of}
+use Rattle.image.specs.Verdicts.{placement_in}
+use Rattle.gelmuszta.specs.inner.Found.{Looks}
 use Rattle.gelmuszta.specs.Exported.{leaving, exported}
-use Rattle.gelmuszta.proofs.ReplyLaws.{new_segment_silent}
-use Rattle.gelmuszta.proofs.ExportLaws.{held_of, given_of, same_silent, kept_silent}
+use Rattle.gelmuszta.proofs.FoundLaws.{exit_lent, held, opened_from, same_lent, kept_lent}
 
--- the base on the node of a handle is that on the node of the one found
-pub sited : (b hb : List ℕ) (size : ℕ) (h : Handle) → h ≡ decoded hb → (v : ℕ) → v ≡ node_of h → (f : Found)
-    → placed_by f ≡ placement_in b v size → (o : Opened) → OpensFor o b h → Sites (record { opened = o; found = f }) b hb size
-sited b hb size h eh v ev f ef o all =
-    let w = all hb eh in
-    record {
-      opened = w;
-      base = ef ∙ ap (λ (u : ℕ). placement_in b u size) (ev ∙ ap node_of (eh ∙ sym w.handle));
-    }
-
-module _ (b m hb : List ℕ) (current segment size : ℕ) (e : length m ≡ memory) (o : Opened)
-    (w : Opens o b hb) (zero : o.refused ≡ 0) (n : ℕ)
-    (en : n ≡ first_of (make_rows true o.handle o.cluster current segment size)) where
-  held : not o.sound ≡ false
-  held = held_of b hb o w zero
-
+module _ (b m hb : List ℕ) (current segment size : ℕ) (em : length m ≡ memory) (h : Handle) (eh : h ≡ decoded hb) where
   abbrev x : Call
   x = making_segment current segment size hb
 
-  pub new_segment_refused : (n ≡ 0 → ⊥) → leaving (plain n []) b m ≡ exported x b m
-  new_segment_refused t =
-      same_silent b m e o.sound w.sound w.whole held x m (number_alone n) []
-      (segment_refused (store_in b) m hb current segment size true o.handle o.cluster (given_of b m hb e o w held) n en t)
-      (new_segment_silent x.args)
+  of_bytes : (r : Result Opened Number) → Looks r b h → Looks r b (decoded hb)
+  of_bytes r = subst (λ (k : Handle). Looks r b k) eh
 
-  pub new_segment_kept : n ≡ 0 → (f : Found) → placed_by f ≡ placement_in b (node_of o.handle) size
-      → (after : List ℕ) (l : RecordLeft)
-      → ((sd : Bool) (s : Store) (d : List ℕ) (i : ℕ) → Given sd o.handle o.cluster s m d
-      → first_of (make_rows sd o.handle o.cluster i segment size) ≡ 0
-      → placed_by f ≡ placement (table_at s) (node_of o.handle) size
-      → ended (put o.handle l.cluster s) after l.answer [] ≡ aes_step (making_segment i segment size d) (copy_of s m))
-      → (image : List ℕ) → Kept l o.at b image
-      → leaving (plain l.answer.number []) image after ≡ exported x b m
-  new_segment_kept z f ef after l core image k =
-      kept_silent b m e o.sound w.sound w.whole held x o.at (record_found o.handle) w.at l after
-      (core true (store_in b) hb current (given_of b m hb e o w held) (sym en ∙ z)
-      (ef ∙ ap (λ (t : Bool). cond t (placement (table_at (store_in b)) (node_of o.handle) size) no_room) whole))
-      image k (new_segment_silent x.args)
-    where
-      whole : sound_in b ≡ true
-      whole = sym w.sound ∙ not-false o.sound held
+  pub segment_unopened : (n : Number) → Looks (Err n) b h → (q : Answer) → IsErrAnd q (λ k. k ≡ n)
+      → leaving (replied q []) b m ≡ exported x b m
+  segment_unopened n w = exit_lent b hb n (of_bytes (Err n) w) x refl refl [] refl m em
+
+  module _ (o : Opened) (w : Looks (Ok o) b h) (r : Result (Unit {0}) Number)
+      (er : told r ≡ first_of (make_rows o.sound o.handle o.cluster current segment size)) where
+    wb : Looks (Ok o) b (decoded hb)
+    wb = of_bytes (Ok o) w
+
+    pub segment_turned : (n : Number) → r ≡ Err n → (q : Answer) → IsErrAnd q (λ k. k ≡ n)
+        → leaving (replied q []) b m ≡ exported x b m
+    segment_turned n z q i =
+        ap (λ (a : Answer). leaving (replied a []) b m) (exit_err r n z q i)
+        ∙ same_lent b hb o wb m em x m (Err n) []
+        (segment_refused (store_in b) m hb current segment size o.sound o.handle o.cluster (opened_from b hb o wb m em) n
+        (sym (told_err r n z) ∙ er))
+
+    -- the rest of the core, once none of those refusals applies
+    module _ (u : Unit {0}) (z : r ≡ Ok u) (f : Option ℕ) (v : ℕ) (ev : v ≡ node_of h) (ef : placed_by f ≡ placement_in b v size)
+        (after : List ℕ) (k : Result Changed Number)
+        (core : (s : Store) (d : List ℕ) (i : ℕ) → OpenedFrom o s m d
+        → first_of (make_rows o.sound o.handle o.cluster i segment size) ≡ 0
+        → placed_by f ≡ placement (table_at s) (node_of o.handle) size
+        → changed (record_found o.handle) s after k ≡ aes_step (making_segment i segment size d) (copy_of s m)) where
+      base : placed_by f ≡ placement (table_at (store_in b)) (node_of o.handle) size
+      base =
+          ef ∙ ap (λ (j : ℕ). placement_in b j size) (ev ∙ sym (ap node_of w.opened.handle))
+          ∙ ap (λ (t : Bool). cond t (placement (table_at (store_in b)) (node_of o.handle) size) no_room) (held b hb o wb)
+
+      done : changed (record_found o.handle) (store_in b) after k ≡ aes_step x (copy_of (store_in b) m)
+      done = core (store_in b) hb current (opened_from b hb o wb m em) (sym er ∙ told_ok r u z) base
+
+      pub segment_failed : (n : Number) → k ≡ Err n → (q : Answer) → IsErrAnd q (λ j. j ≡ n)
+          → leaving (replied q []) b after ≡ exported x b m
+      segment_failed n e q i =
+          ap (λ (a : Answer). leaving (replied a []) b after) (exit_err k n e q i)
+          ∙ same_lent b hb o wb m em x after (Err n) []
+          (ap (changed (record_found o.handle) (store_in b) after) (sym e) ∙ done)
+
+      pub segment_made : (d : Changed) → k ≡ Ok d → (g : Given) → g ≡ d.given → (image : List ℕ)
+          → (good b ≡ true → image ≡ image_of (put o.handle d.cluster (store_in b)))
+          → leaving (replied (Ok g) []) image after ≡ exported x b m
+      segment_made d e g eg image i =
+          ap (λ (c : Given). leaving (replied (Ok c) []) image after) eg
+          ∙ kept_lent b hb o wb m em x after (Ok d.given) (put o.handle d.cluster (store_in b))
+          (ap (changed (record_found o.handle) (store_in b) after) (sym e) ∙ done) image i

@@ -6,8 +6,8 @@ use Prim.Native.Nat.{ℕ, zero, suc}
 use lib.ListN.{length}
 use Rattle.handle.specs.declared.HandleBytes.{HandleBytes}
 use Rattle.handle.specs.Conversion.{product}
-use Rattle.calls.specs.declared.Answer.{Answer}
-use Rattle.calls.specs.Answers.{replied}
+use Rattle.numbers.specs.Codes.{told}
+use Rattle.calls.specs.Answers.{Answer, replied, gives, no_handle, first, count}
 use Rattle.calls.specs.Calls.{Copy, Call, Arguments, call, new_cluster, delete_cluster, new_segment, delete_segment}
 use Rattle.calls.specs.Calls.{Kind, read, write, weaken, reduce, new_password, freeze, join, validate, look, buffer}
 use Rattle.calls.specs.Numbers.{number}
@@ -16,7 +16,7 @@ use Rattle.gelmuszta.specs.Exported.{nothing, reply_of}
 
 -- a field that is the same in every refusal and in what the call gives
 module _ {A : Type 0} (field : Reply → A) (z : A) (refusal : (n : ℕ) (b : List ℕ) → field (plain n b) ≡ z) where
-  always : (x : Call) (c : Copy) → field (given product x.kind x c) ≡ z → field (aes_step x c).reply ≡ z
+  pub always : (x : Call) (c : Copy) → field (given product x.kind x c) ≡ z → field (aes_step x c).reply ≡ z
   unfolding step
   always x c done = go (number product x c.store (length c.memory))
     where
@@ -132,7 +132,7 @@ done_number look x c = refl
 
 -- ---- the reply from the fields that the code gives
 
-abbrev whole : ℕ → HandleBytes → HandleBytes → ℕ → ℕ → List ℕ → List ℕ → Reply
+abbrev pub whole : ℕ → HandleBytes → HandleBytes → ℕ → ℕ → List ℕ → List ℕ → Reply
 whole number first second count length buffer shown =
     record {
       number = number;
@@ -160,28 +160,9 @@ silent_known x c s =
         go zero = ap (λ (r : Reply). r.buffer) (sym (s.gives c))
         go (suc n) = refl
 
-module _ (x : Call) (c : Copy) (a : Answer) (b : List ℕ) (e : replied a b ≡ (aes_step x c).reply) where
-  pub silent_reply : Silent x → reply_of a.number nothing nothing 0 0 b ≡ (aes_step x c).reply
-  silent_reply s =
-      λ j. whole (e j).number (none_first x c _ (s.gives c) refl j) (none_second x c _ (s.gives c) refl j)
-      (none_count x c _ (s.gives c) refl j) (none_length x c _ (s.gives c) refl j) (e j).buffer (e j).shown
-
-  pub handle_reply : OneHandle x → reply_of a.number a.first nothing 0 0 b ≡ (aes_step x c).reply
-  handle_reply s =
-      λ j. whole (e j).number (e j).first (none_second x c _ (s.gives c) refl j)
-      (none_count x c _ (s.gives c) refl j) (none_length x c _ (s.gives c) refl j) (e j).buffer (e j).shown
-
-  pub handles_reply : TwoHandles x → reply_of a.number a.first a.second 0 0 b ≡ (aes_step x c).reply
-  handles_reply s =
-      λ j. whole (e j).number (e j).first (e j).second
-      (none_count x c _ (s.gives c) refl j) (none_length x c _ (s.gives c) refl j) (e j).buffer (e j).shown
-
-  pub count_reply : HandleAndCount x → reply_of a.number a.first nothing a.count 0 b ≡ (aes_step x c).reply
-  count_reply s =
-      λ j. whole (e j).number (e j).first (none_second x c _ (s.gives c) refl j) (e j).count
-      (none_length x c _ (s.gives c) refl j) (e j).buffer (e j).shown
-
-  pub length_reply : Length x → reply_of a.number nothing nothing 0 a.length b ≡ (aes_step x c).reply
-  length_reply s =
-      λ j. whole (e j).number (none_first x c _ (s.gives c) refl j) (none_second x c _ (s.gives c) refl j)
-      (none_count x c _ (s.gives c) refl j) (e j).length (e j).buffer (e j).shown
+-- weakening's reply from what the code gives
+pub count_reply : (x : Call) (c : Copy) (a : Answer) (b : List ℕ) → replied a b ≡ (aes_step x c).reply → HandleAndCount x
+    → reply_of (told a) (gives first no_handle a) nothing (gives count 0 a) 0 b ≡ (aes_step x c).reply
+count_reply x c a b e s =
+    λ j. whole (e j).number (e j).first (none_second x c _ (s.gives c) refl j) (e j).count
+    (none_length x c _ (s.gives c) refl j) (e j).buffer (e j).shown

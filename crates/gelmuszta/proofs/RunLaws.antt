@@ -15,7 +15,7 @@ use Rattle.handle.specs.Conversion.{product}
 use Rattle.store.specs.declared.Store.{Store}
 use Rattle.store.specs.Records.{record_of, table_at, place_on}
 use Rattle.calls.specs.declared.Part.{Part}
-use Rattle.calls.specs.declared.Looked.{Looked}
+use Rattle.calls.specs.Looks.{Looked}
 use Rattle.calls.specs.Calls.{Copy, Call, Arguments, call, freeze, among, is_look, buffer}
 use Rattle.calls.specs.Looks.{aes_looked}
 use Rattle.calls.specs.Numbers.{bad_length}

@@ -1,24 +1,15 @@
 -- Many handles: the number that each gets from the core is the one that it gets by itself, since a damaged image and an
 -- unsound store are both refused before anything else is looked at, with 25 where a handle's length is wrong, else with 1.
 -- Assumes nothing.
-use mathlib.Core.Path.{◌≡◌, refl, sym, ap, ◌∙◌, subst}
+use mathlib.Core.Path.{◌≡◌, refl, sym, ap, ◌∙◌}
 use mathlib.Core.Bool.{Bool, true, false, ◌&&◌}
-use mathlib.Core.List.{List, [], ◌++◌}
-use Prim.Native.Nat.{ℕ, zero, suc, ◌+◌, ◌*◌, ◌-◌, ◌/◌, ◌^◌, ◌≤◌, ◌<◌}
-use native.Mathlib.Nat.{le_trans, lt_trans, suc-mul, mul-le-mul_right, div-mul-le_self}
+use mathlib.Core.List.{List, []}
+use Prim.Native.Nat.{ℕ, zero, suc, ◌+◌, ◌≤◌, ◌<◌}
 use native.Mathlib.Omega.{arith}
-use borrow.Author.Tests.{lt-ltb, le-ltb, ltb-true, ltb-false}
-use borrow.Rule.Slice.PartMut.{put_mid, mid_of, mid_len}
-use lib.Dec.{ltb, lit<}
-use mir.Syntax.{w64}
-use mir.Val.{Fits}
-use mir.Facts.{Fits-le}
-use lib.ListN.{length, set, drop, length-set}
-use Rattle.loops.specs.Tabulate.{tabulate}
+use borrow.Author.Tests.{lt-ltb}
+use lib.ListN.{length, set, length-set}
 use Rattle.loops.proofs.TabulateLaws.{Filled, filled_none, filled_more, filled_all}
-use Rattle.handle.specs.declared.Width.{Width}
 use Rattle.handle.specs.declared.Handle.{Handle}
-use Rattle.handle.specs.Widths.{length_of, width_from}
 use Rattle.handle.specs.Handles.{node_of, decoded}
 use Rattle.handle.specs.Conversion.{product}
 use Rattle.store.specs.declared.Cluster.{Cluster}
@@ -33,63 +24,24 @@ use Rattle.calls.proofs.StepLaws.{step_refused}
 use Rattle.refusals.specs.Given.{Given, record_found}
 use Rattle.image.specs.Parts.{slot}
 use Rattle.image.specs.Images.{good, store_in, image_of}
-use Rattle.gelmuszta.specs.declared.Opened.{Opened}
-use Rattle.gelmuszta.specs.inner.Opened.{Opens}
+use Rattle.std.specs.Prelude.{Result, Ok, Err}
+use Rattle.std.specs.Result.{IsErrAnd}
+use Rattle.numbers.specs.declared.Number.{Number}
+use Rattle.numbers.specs.Codes.{told}
+use Rattle.numbers.proofs.ToldLaws.{exit_err}
+use Rattle.refusals.specs.declared.Opened.{Opened}
+use Rattle.refusals.specs.Given.{OpenedFrom}
+use Rattle.gelmuszta.specs.inner.Found.{Looks}
+use Rattle.gelmuszta.proofs.FoundLaws.{refused_lent}
 use Rattle.gelmuszta.specs.Exported.{leaving, early, exported, Gives}
-use Rattle.gelmuszta.specs.Validation.{number_of, fewer, whole, as_many, numbers_of, NumbersAre, Judged, BatchCases}
-use Rattle.gelmuszta.specs.Validation.{each as per_handle}
+use Rattle.gelmuszta.specs.Validation.{number_of, fewer, Judged, BatchCases}
 use Rattle.gelmuszta.proofs.ReplyLaws.{validate_silent, silent_known}
 use Rattle.gelmuszta.proofs.ExportLaws.{picked, number_early}
-use Rattle.sizes.specs.Sizes.{memory}
 
 -- ---- how many
 
-module _ (a b : ℕ) where
-  abbrev chosen : Bool → ℕ
-  chosen t = elim t [ true ↦ a | false ↦ b ]
-
-  pub fewer_first : a < b → a ≡ fewer a b
-  fewer_first h = sym (ap chosen (lt-ltb a b h))
-
-  pub fewer_second : b ≤ a → b ≡ fewer a b
-  fewer_second h = sym (ap chosen (le-ltb a b h))
-
-  fewer_most : (fewer a b ≤ a) × (fewer a b ≤ b)
-  fewer_most = go (ltb a b) refl
-    where
-      go : (t : Bool) → ltb a b ≡ t → (chosen t ≤ a) × (chosen t ≤ b)
-      go true e = let l = ltb-true a b e in (omega arith, omega arith)
-      go false e = let l = ltb-false a b e in (omega arith, omega arith)
-
--- how many there are whole, as the code works it out
-pub whole_none : (each k : ℕ) → each ≡ 0 → 0 ≡ whole each k
-whole_none each k e = ap (λ (n : ℕ). whole n k) (sym e)
-
-pub whole_some : (each k : ℕ) → (each ≡ 0 → ⊥) → k / each ≡ whole each k
-whole_some zero k t = absurd (t refl)
-whole_some (suc n) k t = refl
-
-whole_fits : (each k : ℕ) → whole each k * each ≤ k
-whole_fits zero k = omega arith
-whole_fits (suc n) k = div-mul-le_self k (suc n)
-
--- the bytes of each, and how many there are, as the code has them
-module _ (each : ℕ) (hs ns : List ℕ) (a : ℕ) (ea : a ≡ whole each (length hs)) (n : ℕ) (en : n ≡ fewer a (length ns)) where
-  e : n ≡ as_many each hs ns
-  e = en ∙ ap (λ (k : ℕ). fewer k (length ns)) ea
-
-  pub count_within : n ≤ length ns
-  count_within = subst (λ (k : ℕ). k ≤ length ns) (sym e) (fewer_most (whole each (length hs)) (length ns)).1
-
-  length_judged : length (mid_of 0 (n - 0) ns) ≡ n
-  length_judged = mid_len 0 n ns count_within ∙ omega arith
-
-  pub count_whole : length (mid_of 0 (n - 0) ns) * each ≤ length hs
-  count_whole =
-      let q : n ≤ whole each (length hs) =
-      subst (λ (k : ℕ). k ≤ whole each (length hs)) (sym e) (fewer_most (whole each (length hs)) (length ns)).0 in
-      subst (λ (k : ℕ). k * each ≤ length hs) (sym length_judged)
-      (le_trans (mul-le-mul_right each q) (whole_fits each (length hs)))
+pub fewer_first : (a b : ℕ) → a < b → a ≡ fewer a b
+fewer_first a b h = sym (ap (λ (t : Bool). elim t [ true ↦ a | false ↦ b ]) (lt-ltb a b h))
 
 -- ---- one handle
 
@@ -134,14 +86,22 @@ validate_leaves g c = go (number product (call validate g) c.store (length c.mem
     go zero = refl
     go (suc n) = refl
 
+-- where it is refused before all else
+pub validate_refused : (b : List ℕ) (mode : ℕ) (hb : List ℕ) (n : Number) → Looks (Err n) b (decoded hb) → (q : Result (Unit {0}) Number)
+    → IsErrAnd q (λ k. k ≡ n) → Gives (validating mode hb) b (plain (told q) []) b
+validate_refused b mode hb n w q i m em =
+    ap (λ (r : Result (Unit {0}) Number). leaving (plain (told r) []) b m) (exit_err {X = Opened} (Err n) n refl q i)
+    ∙ refused_lent b hb n w (validating mode hb) refl refl [] refl m em
+
 -- and nothing else
-pub validate_any : (b : List ℕ) (mode : ℕ) (hb : List ℕ) (o : Opened) → Opens o b hb → (n : ℕ)
-    → ((s : Store) (k d : List ℕ) → Given o.sound o.handle o.cluster s k d
-    → n ≡ (aes_step (validating mode d) (copy_of s k)).reply.number) → Gives (validating mode hb) b (plain n []) b
+pub validate_any : (b : List ℕ) (mode : ℕ) (hb : List ℕ) (o : Opened) → Looks (Ok o) b (decoded hb) → (r : Result (Unit {0}) Number)
+    → ((s : Store) (k d : List ℕ) → OpenedFrom o s k d → told r ≡ (aes_step (validating mode d) (copy_of s k)).reply.number)
+    → Gives (validating mode hb) b (plain (told r) []) b
 unfolding exported
-validate_any b mode hb o w n core m em =
+validate_any b mode hb o w r core m em =
     ap (λ (k : ℕ). leaving (plain k []) b m)
-    (number_told o.sound b mode m (w.sound ∙ ap (λ (k : ℕ). good b && sound (store_in b) k) (sym em)) hb o.handle w.handle o.cluster w.cluster n core)
+    (number_told o.sound b mode m (w.opened.judged ∙ ap (λ (k : ℕ). good b && sound (store_in b) k) (sym em)) hb o.handle w.opened.handle
+    o.cluster (w.opened.cluster ∙ sym (ap (λ (k : Handle). cluster_at (store_in b) (record_found k)) w.opened.handle)) (told r) core)
     ∙ go (good b) refl
   where
     x : Call
@@ -182,10 +142,10 @@ module _ (sd : Bool) (b : List ℕ) (mode each : ℕ) (hs before : List ℕ) whe
   module _ (now : List ℕ) (i : ℕ) (w : Judging sd b mode each hs before now i) where
     -- the handle of this turn
     pub judging_more : i < length now → (h : Handle) → h ≡ decoded (slot each hs i) → (v : ℕ) → v ≡ node_of h
-        → (c : Cluster) → c ≡ cluster_at (store_in b) (record_at v h.local) → (n : ℕ)
-        → ((s : Store) (k d : List ℕ) → Given sd h c s k d → n ≡ (aes_step (validating mode d) (copy_of s k)).reply.number)
-        → Judging sd b mode each hs before (set now i n) (i + 1)
-    judging_more l h eh v ev c ec n core =
+        → (c : Cluster) → c ≡ cluster_at (store_in b) (record_at v h.local) → (r : Result (Unit {0}) Number)
+        → ((s : Store) (k d : List ℕ) → Given sd h c s k d → told r ≡ (aes_step (validating mode d) (copy_of s k)).reply.number)
+        → (n : ℕ) → n ≡ told r → Judging sd b mode each hs before (set now i n) (i + 1)
+    judging_more l h eh v ev c ec r core n en =
         record {
           size = length-set now i n ∙ w.size;
           low = let e = w.size in omega arith;
@@ -193,63 +153,12 @@ module _ (sd : Bool) (b : List ℕ) (mode each : ℕ) (hs before : List ℕ) whe
               λ m e.
               filled_more (length before) _ 0 i now (w.filled m e) (let q = w.size in omega arith) n
               (number_told sd b mode m e (slot each hs i) h eh
-              c (ec ∙ ap (λ (u : ℕ). cluster_at (store_in b) (record_at u h.local)) ev) n core);
+              c (ec ∙ ap (λ (u : ℕ). cluster_at (store_in b) (record_at u h.local)) ev) n (λ s k d g. en ∙ core s k d g));
         }
-
-    -- the part of this turn lies inside the handles
-    pub judging_inside : i < length now → length before * each ≤ length hs → i * each + each ≤ length hs
-    judging_inside l enough =
-        let q : suc i ≤ length before = (let e = w.size in omega arith) in
-        subst (λ (n : ℕ). n ≤ length hs) (suc-mul i each) (le_trans (mul-le-mul_right each q) enough)
-
-    inside_fits : i < length now → length before * each ≤ length hs → length hs * 1 < 2 ^ 63 → (n : ℕ) → n ≤ i * each + each
-        → Fits w64 n
-    inside_fits l enough room n q =
-        let p = judging_inside l enough in
-        let r : n ≤ length hs * 1 = omega arith in
-        Fits-le r (record { fits = lt_trans room (lit< tt) })
-
-    pub judging_from : i < length now → length before * each ≤ length hs → length hs * 1 < 2 ^ 63 → Fits w64 (i * each)
-    judging_from l enough room = inside_fits l enough room (i * each) (omega arith)
-
-    pub judging_to : i < length now → length before * each ≤ length hs → length hs * 1 < 2 ^ 63 → Fits w64 (i * each + each)
-    judging_to l enough room = inside_fits l enough room (i * each + each) (omega arith)
 
     pub judging_all : length now ≤ i → Judged sd b mode each hs before now
     judging_all l =
         record { each = λ m e. filled_all (length before) _ 0 i now (w.filled m e) (let q = w.size in omega arith) }
-
--- ---- all of them
-
-numbers_with : (b m : List ℕ) (mode width : ℕ) (kind : Width) → kind ≡ width_from width → (each : ℕ) → each ≡ length_of kind
-    → (hs ns : List ℕ) (a : ℕ) → a ≡ whole each (length hs) → (n : ℕ) → n ≡ fewer a (length ns) → (sd : Bool)
-    → sd ≡ (good b && sound (store_in b) (length m)) → (after : List ℕ) → Judged sd b mode each hs (mid_of 0 (n - 0) ns) after
-    → put_mid 0 (n - 0) ns after ≡ numbers_of b m mode (per_handle width) hs ns
-numbers_with b m mode width kind ek each el hs ns a ea n en sd ed after w =
-    ap (λ (l : List ℕ). l ++ drop (n - 0) ns)
-    (w.each m ed ∙ ap (λ (k : ℕ). tabulate k told) (length_judged each hs ns a ea n en))
-    ∙ ap (λ (k : ℕ). tabulate n told ++ drop k ns) (same n)
-    ∙ ap (λ (k : ℕ). tabulate k told ++ drop k ns) (e each hs ns a ea n en)
-    ∙ ap (λ (k : ℕ). numbers_of b m mode k hs ns) (el ∙ ap length_of ek)
-  where
-    same : (k : ℕ) → k - 0 ≡ k
-    same k = omega arith
-
-    told : ℕ → ℕ
-    told i = number_of b m mode (slot each hs i)
-
-pub numbers_are : (b : List ℕ) (mode width : ℕ) (kind : Width) → kind ≡ width_from width → (each : ℕ) → each ≡ length_of kind
-    → (hs ns : List ℕ) (a : ℕ) → a ≡ whole each (length hs) → (n : ℕ) → n ≡ fewer a (length ns) → (sd : Bool)
-    → sd ≡ (good b && sound (store_in b) memory) → (after : List ℕ) → Judged sd b mode each hs (mid_of 0 (n - 0) ns) after
-    → NumbersAre b mode (per_handle width) hs ns (put_mid 0 (n - 0) ns after)
-numbers_are b mode width kind ek each el hs ns a ea n en sd ed after w m e =
-    numbers_with b m mode width kind ek each el hs ns a ea n en sd
-    (ed ∙ ap (λ (k : ℕ). good b && sound (store_in b) k) (sym e)) after w
-
-pub count_is : (width : ℕ) (kind : Width) → kind ≡ width_from width → (each : ℕ) → each ≡ length_of kind → (hs ns : List ℕ) (a : ℕ) → a ≡ whole each (length hs)
-    → (n : ℕ) → n ≡ fewer a (length ns) → n ≡ as_many (per_handle width) hs ns
-count_is width kind ek each el hs ns a ea n en =
-    e each hs ns a ea n en ∙ ap (λ (k : ℕ). as_many k hs ns) (el ∙ ap length_of ek)
 
 -- ---- written out
 

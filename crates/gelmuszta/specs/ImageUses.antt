@@ -12,7 +12,7 @@
 --                        image, with a handle of no length, and done
 -- Assumes nothing.
 use Rattle.std.specs.Prelude.{◌≡◌, true, List, [], ◌∷◌, ◌++◌, ℕ, ◌+◌, ◌-◌, ◌<◌, ◌≤◌, length, get_or, take, drop, replicate}
-use Rattle.store.specs.declared.Place.TheVariants.{Present}
+use Rattle.store.specs.Places.{present_at}
 use Rattle.store.specs.declared.Store.{Store}
 use Rattle.store.specs.Records.{cluster_at, table_at}
 use Rattle.calls.specs.declared.Part.{Part}
@@ -94,7 +94,7 @@ module _ (v : Wide) (p : Passwords) (b c d y z : ℕ) (xs : List Call) where
   pub record FrozenOnUses : Type 0 where
     pub good : good (run_on xs (image v p) (memory b c d y z)).image ≡ true
     pub active : (cluster_at frozen_end.store 31).active ≡ true
-    pub place : place_at frozen_end.store 3 7 (top v) ≡ Present 0 4
+    pub place : place_at frozen_end.store 3 7 (top v) ≡ present_at 0 4
     pub frozen : frozen_at frozen_end.store 3 7 (top v) ≡ true
     pub bytes : (i : ℕ) → i < 4 → get_or frozen_end.memory (12288 + i) 0 ≡ b
 
@@ -106,16 +106,16 @@ module _ (v : Wide) (b c d y z : ℕ) (xs : List Call) where
   again_end = left_on (freezing 3 (top v) (own v 3 7 34) ∷ xs) (image v equal) (memory b c d y z)
 
   pub record FrozenFromUses : Type 0 where
-    pub present : (base : ℕ) × (size : ℕ) × (place_at (store_in (image v equal)) 3 7 0 ≡ Present base size)
+    pub present : (base : ℕ) × (size : ℕ) × (place_at (store_in (image v equal)) 3 7 0 ≡ present_at base size)
     pub again_good : good (run_on (freezing 3 (top v) (own v 3 7 34) ∷ xs) (image v equal) (memory b c d y z)).image ≡ true
     pub good : good (run_on (freezing 3 0 (own v 3 7 34) ∷ xs) (image v equal) (memory b c d y z)).image ≡ true
     pub active : (cluster_at freeze_end.store 31).active ≡ true
-    pub place : place_at freeze_end.store 3 7 0 ≡ Present 4 2
+    pub place : place_at freeze_end.store 3 7 0 ≡ present_at 4 2
     pub frozen : frozen_at freeze_end.store 3 7 0 ≡ true
     pub bytes : (get_or freeze_end.memory 12292 0 ≡ c) × (get_or freeze_end.memory 12293 0 ≡ d)
-    pub again_present : (base : ℕ) × (size : ℕ) × (place_at (store_in (image v equal)) 3 7 (top v) ≡ Present base size)
+    pub again_present : (base : ℕ) × (size : ℕ) × (place_at (store_in (image v equal)) 3 7 (top v) ≡ present_at base size)
     pub again_active : (cluster_at again_end.store 31).active ≡ true
-    pub again_place : place_at again_end.store 3 7 (top v) ≡ Present 0 4
+    pub again_place : place_at again_end.store 3 7 (top v) ≡ present_at 0 4
     pub again_frozen : frozen_at again_end.store 3 7 (top v) ≡ true
     pub again_bytes : (i : ℕ) → i < 4 → get_or again_end.memory (12288 + i) 0 ≡ b
 

@@ -42,10 +42,10 @@ use Rattle.sizes.specs.Sizes.{nodes, clusters, segments}
 use Rattle.handle.specs.Handles.{node_of}
 use Rattle.handle.specs.Conversion.{product}
 use Rattle.bits.specs.Bytes.{Bytes}
-use Rattle.store.specs.declared.Place.TheVariants.{Present}
+use Rattle.store.specs.Places.{present_at}
 use Rattle.store.specs.Records.{record_of, table_at, place_on}
 use Rattle.calls.specs.declared.Part.{Part}
-use Rattle.calls.specs.declared.Looked.{Looked}
+use Rattle.calls.specs.Looks.{Looked}
 use Rattle.calls.specs.Calls.{Copy, Call, Arguments, call, weaken, freeze, is_look, handle_of, buffer}
 use Rattle.calls.specs.Words.{BadLength}
 use Rattle.calls.specs.Steps.{Reply, Ran, plain, run, aes_step}
@@ -137,12 +137,12 @@ abbrev pub FrozenOnImages : Type 0
 FrozenOnImages =
     (v l i base size : ℕ) → v < 4 → l < 8 → i < 16 → (xs : List Call) (b m : List ℕ) → AllFit xs
     → Bytes image_bytes b → good b ≡ true → SoundCopy (held b m)
-    → place_at (store_in b) v l i ≡ Present base size → frozen_at (store_in b) v l i ≡ true
+    → place_at (store_in b) v l i ≡ present_at base size → frozen_at (store_in b) v l i ≡ true
     → FixedOn v l i base size xs b m
 
 pub record FromThenOnImages (v l i : ℕ) (xs : List Call) (b m : List ℕ) : Type 0 where
-  pub present : (base : ℕ) × (size : ℕ) × (place_at (store_in b) v l i ≡ Present base size)
-  pub fixed : (base size : ℕ) → place_at (store_in b) v l i ≡ Present base size → FixedOn v l i base size xs b m
+  pub present : (base : ℕ) × (size : ℕ) × (place_at (store_in b) v l i ≡ present_at base size)
+  pub fixed : (base size : ℕ) → place_at (store_in b) v l i ≡ present_at base size → FixedOn v l i base size xs b m
 
 -- that it is done says that the image holds a store
 abbrev pub FrozenFromThenOn : Type 0

@@ -1,2 +1,2 @@
 -- What only inner contracts cite: how the code goes about it. What states the documents stands beside this folder.
-pub mod Opened
+pub mod Found

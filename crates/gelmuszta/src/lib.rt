@@ -6,19 +6,23 @@
 // reads the record of its cluster, has the core (`cluster`) do the call on it, and writes it back.
 #![tactic(auto)]
 
-ghost use Rattle.std.specs.Prelude.{◌≡◌};
-ghost use Rattle.codec.specs.Held.{bytes_held};
+ghost use Rattle.std.specs.Prelude.{◌≡◌, true};
+ghost use Rattle.numbers.specs.Codes.{told};
+ghost use Rattle.handle.specs.Handles.{decoded};
+ghost use Rattle.codec.specs.Held.{bytes_held, handed};
+ghost use Rattle.calls.specs.Answers.{gives, first, no_handle};
+ghost use Rattle.refusals.specs.Given.{put};
+ghost use Rattle.image.specs.Images.{good, store_in, image_of};
 ghost use Rattle.image.specs.Verdicts.{sound_in};
 ghost use Rattle.gelmuszta.specs.Version as versions;
-ghost use Rattle.gelmuszta.specs.Exported as exported;
-ghost use Rattle.gelmuszta.specs.inner.Opened as opened;
+ghost use Rattle.gelmuszta.specs.inner.Found as found;
 
-use calls::RecordLeft;
+use calls::{Answer, Changed, Given};
 use codec::HELD;
 use handle::Handle;
 use image::IMAGE;
-use numbers::{LENGTH, UNSOUND};
-use store::{Cluster, Found};
+use numbers::Number;
+use refusals::Opened;
 
 mod bytes; // bytes.rt: calls 3, 5 and 6, which use the memory's bytes, and the look, which tells where they lie
 mod handles; // handles.rt: conversion, calls 7, 8 and 11
@@ -49,96 +53,64 @@ pub extern "C" fn gelmuszta_version() -> u32
     VERSION
 }
 
-// What a call finds in an image: the number and the record of its cluster, the first where there is no such place; whether
-// the image holds a sound store.
-#[derive(Clone, Copy)]
-struct Located {
-    at: usize,
-    cluster: Cluster,
-    sound: bool,
+// What a handle opens in an image that holds a sound store.
+fn look_up(image: &[u8; IMAGE], held: &[u8; HELD]) -> Result<Opened, Number>
+    ensures { found.Looks result image.now (decoded (bytes_held held.now)) }
+{
+    open(image, codec::taken(held), image::sound_in(image))
 }
 
-fn locate(image: &[u8; IMAGE], node: usize, local: usize, sound: bool) -> Located
+// The same of a handle that is decoded, where it is known whether the store is sound: 25 where there is no handle, then 1 where
+// there is no sound store.
+fn open(image: &[u8; IMAGE], handle: Handle, sound: bool) -> Result<Opened, Number>
     requires { sound ≡ sound_in image.now }
-    ensures { opened.Locates result image.now node local }
+    ensures { found.Looks result image.now handle }
 {
-    let at = store::record_at(node, local);
-    let cluster = image::record_in(image, node, local);
-    Located { at, cluster, sound }
-}
-
-// The same for the cluster that a handle names, the handle, and what its length and the image are turned down with before
-// all else.
-#[derive(Clone, Copy)]
-struct Opened {
-    handle: Handle,
-    at: usize,
-    cluster: Cluster,
-    sound: bool,
-    refused: u8,
-}
-
-// What comes before all else: 25 where there is no handle, 1 where there is no sound store; or 0.
-fn early(none: bool, sound: bool) -> u8
-    ensures { result ≡ exported.early none sound }
-{
-    if none {
-        return LENGTH;
+    let cluster = image::record_in(image, handle.node(), handle.local as usize);
+    if handle.has_width(0) {
+        return Err(Number::Length);
     }
     if !sound {
-        return UNSOUND;
+        return Err(Number::Unsound);
     }
-    0
-}
-
-fn look_up(image: &[u8; IMAGE], held: &[u8; HELD]) -> Opened
-    ensures { opened.Opens result image.now (bytes_held held.now) }
-{
-    let handle = codec::taken(held);
-    opened_by(image, handle, image::sound_in(image))
-}
-
-// The same of a handle that is decoded, where it is known whether the store is sound.
-fn opened_by(image: &[u8; IMAGE], handle: Handle, sound: bool) -> Opened
-    requires { sound ≡ sound_in image.now }
-    ensures { opened.OpensFor result image.now handle }
-{
-    let l = locate(image, handle.node(), handle.local as usize, sound);
-    let cluster = l.cluster;
-    let refused = early(handle.has_width(0), l.sound);
-    Opened {
+    Ok(Opened {
+        sound,
         handle,
-        at: l.at,
         cluster,
-        sound: l.sound,
-        refused,
-    }
+    })
 }
 
-// The same, and the base of a new segment of `size` bytes on the handle's node.
-#[derive(Clone, Copy)]
-struct Sited {
-    opened: Opened,
-    found: Found,
-}
-
-fn look_up_with_base(image: &[u8; IMAGE], held: &[u8; HELD], size: usize) -> Sited
-    ensures { opened.Sites result image.now (bytes_held held.now) size }
+// Writes the record that a call leaves of a handle's cluster, and tells what the call gives.
+fn put_back(image: &mut [u8; IMAGE], handle: Handle, changed: &Changed) -> Given
+    ensures given { result ≡ changed.now.given }
+    ensures image { good image.old ≡ true
+        → image.new ≡ image_of (put handle changed.now.cluster (store_in image.old)) }
 {
-    let handle = codec::taken(held);
-    let judged = image::sound_and_base(image, handle.node(), size);
-    let opened = opened_by(image, handle, judged.sound);
-    let found = judged.found;
-    Sited { opened, found }
+    let at = store::record_at(handle.node(), handle.local as usize);
+    image::put_record_in(changed.cluster, at, image);
+    changed.given
 }
 
-// Writes the record that a call done leaves; a refusal writes nothing.
-fn keep(left: RecordLeft, at: usize, image: &mut [u8; IMAGE])
-    ensures { opened.Kept left at image.old image.new }
+// Does a call on what a handle opens and writes the record that it leaves: `call` is its core. A refusal writes nothing.
+// Stays: beside that of `guard`, over records by value: a trait for records and for bytes would be longer than the two.
+fn change<F: FnOnce(&Opened) -> Result<Changed, Number>>(
+    image: &mut [u8; IMAGE],
+    held: &[u8; HELD],
+    call: F,
+) -> Answer
+    requires { F.IsAlwaysCallable call }
+    ensures { found.Changes (F.post call) (bytes_held held.now) result image.old image.new }
 {
-    let answer = left.answer;
-    if answer.number != 0 {
-        return;
-    }
-    image::put_record_in(left.cluster, at, image);
+    let opened = look_up(image, held)?;
+    let changed = call(&opened)?;
+    Ok(put_back(image, opened.handle, &changed))
+}
+
+// The number that is told of an answer, and the handle that the call gives, as a caller holds it: none with a refusal.
+fn hand(answer: &Answer, given: &mut [u8; HELD]) -> u8
+    ensures number { result ≡ told answer.now }
+    ensures handle { handed given.new ≡ gives first no_handle answer.now }
+{
+    *given = codec::held(answer.unwrap_or(Given::Nothing).first());
+    numbers::told(answer)
 }

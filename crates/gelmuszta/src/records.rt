@@ -2,13 +2,15 @@
 ghost use Rattle.std.specs.Prelude.{◌≡◌, []};
 ghost use Rattle.calls.specs.Calls as calls;
 ghost use Rattle.calls.specs.Steps.{plain};
+ghost use Rattle.calls.specs.Answers.{replied};
 ghost use Rattle.codec.specs.Held.{bytes_held};
 ghost use Rattle.gelmuszta.specs.Exported.{giving, giving_both, Gives};
 
-use crate::{keep, locate, look_up};
+use crate::{change, hand};
+use calls::{Answer, Given};
 use codec::HELD;
 use image::IMAGE;
-use numbers::UNSOUND;
+use numbers::Number;
 use sizes::Password;
 
 // Call 1: a cluster of the current node becomes active with a width; its read and its write primary handle.
@@ -26,23 +28,31 @@ pub extern "C" fn gelmuszta_new_cluster(
     ensures { Gives (calls.making_cluster current local width read.now write.now) image.old
         (giving_both result first.new second.new) image.new }
 {
-    let l = locate(image, current, local, image::sound_in(image));
-    let sound = l.sound;
-    if !sound {
-        *first = [0; HELD];
-        *second = [0; HELD];
-        return UNSOUND;
+    let answer = new_cluster(image, current, local, width, *read, *write);
+    let given = answer.unwrap_or(Given::Nothing);
+    *first = codec::held(given.first());
+    *second = codec::held(given.second());
+    numbers::told(&answer)
+}
+
+// The two handles that it gives, or its refusal.
+fn new_cluster(
+    image: &mut [u8; IMAGE],
+    current: usize,
+    local: usize,
+    width: usize,
+    read: Password,
+    write: Password,
+) -> Answer
+    ensures { Gives (calls.making_cluster current local width read write) image.old (replied result []) image.new }
+{
+    let cluster = image::record_in(image, current, local);
+    if !image::sound_in(image) {
+        return Err(Number::Unsound);
     }
-    let r = *read;
-    let w = *write;
-    let left = cluster::new_cluster(true, l.cluster, current, local, width, r, w);
-    keep(left, l.at, image);
-    let answer = left.answer;
-    let a = codec::held(answer.first);
-    let b = codec::held(answer.second);
-    *first = a;
-    *second = b;
-    answer.number
+    let changed = cluster::new_cluster(true, cluster, current, local, width, read, write)?;
+    image::put_record_in(changed.cluster, store::record_at(current, local), image);
+    Ok(changed.given)
 }
 
 // Call 2: the cluster's record becomes that of the starting store, unless a segment of it is frozen.
@@ -54,15 +64,12 @@ pub extern "C" fn gelmuszta_delete_cluster(
 ) -> u8
     ensures { Gives (calls.deleting_cluster current (bytes_held handle.now)) image.old (plain result []) image.new }
 {
-    let o = look_up(image, handle);
-    let refused = o.refused;
-    if refused != 0 {
-        return refused;
-    }
-    let left = cluster::delete_cluster(true, o.handle, o.cluster, current);
-    keep(left, o.at, image);
-    let answer = left.answer;
-    answer.number
+    let answer = change(
+        image,
+        handle,
+        |opened| cluster::delete_cluster(opened, current),
+    );
+    numbers::told(&answer)
 }
 
 // Call 4: the segment is absent, unless it is frozen; memory bytes stay.
@@ -75,15 +82,12 @@ pub extern "C" fn gelmuszta_delete_segment(
 ) -> u8
     ensures { Gives (calls.deleting_segment current segment (bytes_held handle.now)) image.old (plain result []) image.new }
 {
-    let o = look_up(image, handle);
-    let refused = o.refused;
-    if refused != 0 {
-        return refused;
-    }
-    let left = cluster::delete_segment(true, o.handle, o.cluster, current, segment);
-    keep(left, o.at, image);
-    let answer = left.answer;
-    answer.number
+    let answer = change(
+        image,
+        handle,
+        |opened| cluster::delete_segment(opened, current, segment),
+    );
+    numbers::told(&answer)
 }
 
 // Call 9: the primary password of the mode named becomes the new one; the new primary handle.
@@ -98,19 +102,12 @@ pub extern "C" fn gelmuszta_new_password(
     ensures { Gives (calls.renewing mode (bytes_held handle.now) password.now) image.old
         (giving result given.new) image.new }
 {
-    let o = look_up(image, handle);
-    let refused = o.refused;
-    if refused != 0 {
-        *given = [0; HELD];
-        return refused;
-    }
-    let p = *password;
-    let left = cluster::new_password(true, o.handle, o.cluster, mode, p);
-    keep(left, o.at, image);
-    let answer = left.answer;
-    let g = codec::held(answer.first);
-    *given = g;
-    answer.number
+    let answer = change(
+        image,
+        handle,
+        |opened| cluster::new_password(opened, mode, *password),
+    );
+    hand(&answer, given)
 }
 
 // Call 10: the segment is frozen where it lies; one that is frozen already stays so.
@@ -123,13 +120,10 @@ pub extern "C" fn gelmuszta_freeze(
 ) -> u8
     ensures { Gives (calls.freezing current segment (bytes_held handle.now)) image.old (plain result []) image.new }
 {
-    let o = look_up(image, handle);
-    let refused = o.refused;
-    if refused != 0 {
-        return refused;
-    }
-    let left = cluster::freeze(true, o.handle, o.cluster, current, segment);
-    keep(left, o.at, image);
-    let answer = left.answer;
-    answer.number
+    let answer = change(
+        image,
+        handle,
+        |opened| cluster::freeze(opened, current, segment),
+    );
+    numbers::told(&answer)
 }

@@ -20,9 +20,16 @@ pub extern "C" fn gelmuszta_register(
         ≡ handles_left product (bytes_held handle.now) entries.now handles.old }
 {
     let bytes = codec::own(handle);
-    let answer = register::handles(bytes, entries, handles);
-    *entry = answer.entry;
-    answer.number
+    match register::handles(bytes, entries, handles) {
+        Ok(()) => {
+            *entry = 0;
+            0
+        }
+        Err(fault) => {
+            *entry = fault.entry;
+            fault.number.code()
+        }
+    }
 }
 
 // The numbers of the entries whose handle references a segment, in rising order, and how many they are; or the lowest entry
@@ -42,8 +49,16 @@ pub extern "C" fn gelmuszta_openers(
         ≡ openers_left product (bytes_held handle.now) segment entries.now openers.old }
 {
     let bytes = codec::own(handle);
-    let answer = register::openers(bytes, segment, entries, openers);
-    *entry = answer.entry;
-    *count = answer.count;
-    answer.number
+    match register::openers(bytes, segment, entries, openers) {
+        Ok(listed) => {
+            *entry = 0;
+            *count = listed;
+            0
+        }
+        Err(fault) => {
+            *entry = fault.entry;
+            *count = 0;
+            fault.number.code()
+        }
+    }
 }

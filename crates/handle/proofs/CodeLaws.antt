@@ -2,18 +2,17 @@
 -- subselectors; the code looks at the four of them, and a list of four is the list of its elements.
 -- Assumes nothing.
 use Prim.Native.Nat.{ℕ, suc, ◌+◌, ◌*◌, ◌-◌, ◌/◌, ◌%◌, ◌^◌, ◌≤◌, ◌<◌}
-use native.Mathlib.Nat.{one-mul, zero-add, mod-eq_of_lt, lt_of_lt_of_le}
-use native.Mathlib.Numerals.{add-one}
+use native.Mathlib.Nat.{one-mul, mod-eq_of_lt, lt_of_lt_of_le}
 use native.Mathlib.Omega.{arith}
 use mathlib.Core.Path.{◌≡◌, refl, sym, ap, ap₂, ◌∙◌, subst}
-use mathlib.Core.Bool.{Bool, true, false, not, ◌&&◌, ◌||◌, false≢true, and-true, and-false, or-false}
-use mathlib.Core.List.{List, [], ◌∷◌}
-use lib.Dec.{eqb, leb}
+use mathlib.Core.Bool.{Bool, true, false, not, ◌&&◌, ◌||◌, false≢true, and-true}
+use mathlib.Core.List.{List, [], ◌∷◌, ◌++◌}
+use lib.Dec.{eqb, leb, ltb}
 use lib.Bits.{bit_and, bit_or, and_le_l, and_le_r}
 use lib.Count.{ones, ones-le}
-use lib.ListN.{length, get_or, set, drop, replicate}
+use lib.ListN.{length, get_or, set, replicate}
+use lib.Pointwise.{pointwise}
 use lib.Pow.{pow-lt, pow_mono}
-use lib.Seq.{drop-cons}
 use mir.Val.{Fits}
 use mir.Syntax.{w8, w16}
 use borrow.Author.Tests.{eq-eqb, ne_eqb}
@@ -23,16 +22,19 @@ use Rattle.bits.proofs.OperationLaws.{has_and, has_or, has_full, full_lt, mask_t
 use Rattle.bits.proofs.ByteLaws.{bytes_word16}
 use Rattle.loops.specs.Tabulate.{tabulate}
 use Rattle.aes.specs.Cipher.{cipher}
+use Rattle.std.specs.Prelude.{Option, None, Some, cond, position}
+use Rattle.std.specs.List.{position_or_len}
+use Rattle.std.proofs.lemmas.Bool.{ltb-false}
+use Rattle.std.proofs.lemmas.List.Sums.{prefix_len-le-length}
+use Rattle.std.proofs.lemmas.List.Recursion.{is_position_or_len}
 use Rattle.handle.specs.declared.Handle.{Handle}
-use Rattle.handle.specs.declared.Weakened.{Weakened}
 use Rattle.handle.specs.Conversion.{conversion}
 use Rattle.handle.specs.Sizes.{subselectors}
 use Rattle.handle.specs.Widths.{room}
-use Rattle.handle.specs.Selectors.{references, either, all_flat, gapped, first_flat, common, referenced}
+use Rattle.handle.specs.Selectors.{place_of, references, either, all_flat, gapped, first_flat, common, referenced}
 use Rattle.handle.specs.Selectors.{union, whole_union}
-use Rattle.handle.specs.Handles.{node_of, width_of, same_name, no_handle, refusal, renewed, cut, same_password, converted, through}
+use Rattle.handle.specs.Handles.{node_of, width_of, same_name, renewed, cut, same_password, converted, through}
 use Rattle.handle.specs.Handles.{validates, made, reduced, joined}
-use Rattle.handle.proofs.SelectorLaws.{first_here, first_past}
 use Rattle.handle.proofs.HandleLaws.{reduced_cases}
 use Rattle.handle.proofs.CodecLaws.{listed}
 
@@ -83,22 +85,21 @@ module _ (w : ℕ) where
     code_whole x y e ey = ap₂ eqb e ey
 
   -- x is the flat subselector, as the code has it
-  module _ (ss : List ℕ) (e : length ss ≡ subselectors) (x : ℕ) (ex : x ≡ full w) where
+  module _ (ss : List ℕ) (l : length ss ≡ subselectors) (x : ℕ) (ex : x ≡ full w) where
     abbrev is : ℕ → ℕ → Bool
     is n k = eqb (get_or ss k 0) n
 
     abbrev at : ℕ → Bool
     at k = is x k
 
-    pub code_primary : at 0 && (at 1 && (at 2 && at 3)) ≡ all_flat w ss
+    pub code_primary : (b : Bool) → b ≡ pointwise eqb ss (x ∷ x ∷ x ∷ x ∷ []) → b ≡ all_flat w ss
     unfolding tabulate
-    code_primary =
-        ap (λ (b : Bool). at 0 && (at 1 && (at 2 && b))) (sym (and-true (at 3)))
-        ∙ ap (λ (n : ℕ). is n 0 && (is n 1 && (is n 2 && (is n 3 && true)))) ex
-        ∙ ap (all_flat w) (sym (listed subselectors ss e))
+    code_primary b e =
+        e
+        ∙ (λ j. pointwise eqb (listed subselectors ss l j) (ex j ∷ ex j ∷ ex j ∷ ex j ∷ []))
+        ∙ ap (all_flat w) (sym (listed subselectors ss l))
 
-    pub code_gapped : (at 0 && not (at 1 && (at 2 && at 3))) || ((at 1 && not (at 2 && at 3)) || (at 2 && not (at 3)))
-        ≡ gapped w ss
+    pub code_gapped : (at 0 && not (at 1)) || ((at 1 && not (at 2)) || (at 2 && not (at 3))) ≡ gapped w ss
     unfolding tabulate
     code_gapped =
         ends (at 0) (at 1) (at 2) (at 3)
@@ -107,62 +108,44 @@ module _ (w : ℕ) where
         is n 0 && not (is n 1 && (is n 2 && (is n 3 && true)))
         || (is n 1 && not (is n 2 && (is n 3 && true)) || (is n 2 && not (is n 3 && true) || (is n 3 && not true || false))))
         ex
-        ∙ ap (gapped w) (sym (listed subselectors ss e))
+        ∙ ap (gapped w) (sym (listed subselectors ss l))
       where
-        ends : (a b c d : Bool) → a && not (b && (c && d)) || (b && not (c && d) || c && not d)
+        ends : (a b c d : Bool) → a && not b || (b && not c || c && not d)
             ≡ a && not (b && (c && (d && true)))
             || (b && not (c && (d && true)) || (c && not (d && true) || (d && not true || false)))
-        ends a b c d = simp (and-true, and-false, or-false)
+        ends true true true true = refl
+        ends true true true false = refl
+        ends true true false true = refl
+        ends true true false false = refl
+        ends true false c d = refl
+        ends false true true true = refl
+        ends false true true false = refl
+        ends false true false d = refl
+        ends false false true true = refl
+        ends false false true false = refl
+        ends false false false true = refl
+        ends false false false false = refl
 
--- ---- the search for the first flat one: it is k further than the first one from place k on; x is the flat one, as the
--- code has it, of whatever width
+-- ---- the search for the first flat one; x is the flat one, as the code has it, of whatever width
 
-pub record Searched (x : ℕ) (ss : List ℕ) (k : ℕ) : Type 0 where
-  pub within : k ≤ subselectors
-  pub rest : (w : ℕ) → x ≡ full w → first_flat w ss ≡ k + first_flat w (drop k ss)
-
-pub searched_none : (x : ℕ) (ss : List ℕ) → Searched x ss 0
-searched_none x ss = record { within = omega arith; rest = λ w e. sym (zero-add (first_flat w ss)) }
-
-module _ (x : ℕ) (ss : List ℕ) (k : ℕ) (r : Searched x ss k) (e : length ss ≡ subselectors) where
-  next : (w : ℕ) → k < subselectors → first_flat w (drop k ss) ≡ first_flat w (get_or ss k 0 ∷ drop (suc k) ss)
-  next w h = ap (first_flat w) (drop-cons ss k 0 (omega arith))
-
-  pub searched_more : k < subselectors → (get_or ss k 0 ≡ x → ⊥) → Searched x ss (k + 1)
-  searched_more h n = record {
-    within = omega arith;
-    rest =
-        λ w ex.
-        omega (
-          arith,
-          r.rest w ex,
-          next w h,
-          first_past w (get_or ss k 0) (drop (suc k) ss) (ne_eqb (get_or ss k 0) (full w) (λ q. n (q ∙ sym ex))),
-          ap (λ (m : ℕ). first_flat w (drop m ss)) (add-one k),
-        );
-  }
-
-  pub searched_here : (w : ℕ) → x ≡ full w → k < subselectors → get_or ss k 0 ≡ x → k ≡ first_flat w ss
-  searched_here w ex h n =
-      omega (
-        arith,
-        r.rest w ex,
-        next w h,
-        first_here w (get_or ss k 0) (drop (suc k) ss) (eq-eqb (get_or ss k 0) (full w) (n ∙ ex)),
-      )
-
-  pub searched_all : (w : ℕ) → x ≡ full w → subselectors ≤ k → subselectors ≡ first_flat w ss
-  unfolding tabulate
-  searched_all w ex h =
-      omega (
-        arith,
-        r.rest w ex,
-        ap (λ (m : ℕ). first_flat w (drop m ss)) whole,
-        ap (λ (l : List ℕ). first_flat w (drop subselectors l)) (listed subselectors ss e),
-      )
+module _ (w : ℕ) (ss : List ℕ) (x : ℕ) (ex : x ≡ full w) where
+  first_is : first_flat w ss ≡ position_or_len (λ s. eqb s x) ss
+  first_is = is_position_or_len (first_flat w) (λ s. eqb s x) refl next ss
     where
-      whole : k ≡ subselectors
-      whole = omega (arith, r.within)
+      next : (s : ℕ) (ss : List ℕ) → first_flat w (s ∷ ss) ≡ cond (eqb s x) 0 (1 + first_flat w ss)
+      next s ss = ap (λ (n : ℕ). elim (eqb s n) [ true ↦ 0 | false ↦ suc (first_flat w ss) ]) (sym ex) ∙ go (eqb s x)
+        where
+          go : (b : Bool) → elim b [ true ↦ 0 | false ↦ suc (first_flat w ss) ] ≡ cond b 0 (1 + first_flat w ss)
+          go true = refl
+          go false = omega arith
+
+  pub first_placed : length ss ≡ subselectors → (r : Option ℕ) → r ≡ position (λ s. eqb s x) ss → place_of r ≡ first_flat w ss
+  first_placed l r e = ap place_of e ∙ go (ltb (position_or_len (λ s. eqb s x) ss) (length ss)) refl ∙ sym first_is
+    where
+      go : (b : Bool) → ltb (position_or_len (λ s. eqb s x) ss) (length ss) ≡ b
+          → place_of (cond b (Some (position_or_len (λ s. eqb s x) ss)) None) ≡ position_or_len (λ s. eqb s x) ss
+      go true t = refl
+      go false t = omega (arith, l, ltb-false _ _ t, first_is, prefix_len-le-length (λ s. not (eqb s x)) ss)
 
 module _ (w : ℕ) where
   -- ---- the chain of conversions
@@ -258,18 +241,12 @@ code_references ss x ex i h =
 
 -- ---- the block of a conversion
 
-pub code_converted : (p : List ℕ) (c : ℕ) → Fits w16 c → (a b : ℕ) → a ≡ c / 256 % 256 → b ≡ c % 256
-    → (r : List ℕ) → r ≡ cipher p (set (set (replicate 16 0) 14 a) 15 b) → r ≡ conversion p c
+pub code_converted : (p : List ℕ) (c : ℕ) → Fits w16 c → (t u : List ℕ) → t ≡ c / 256 % 256 ∷ c % 256 ∷ [] → u ≡ t
+    → (r : List ℕ) → r ≡ cipher p (replicate 14 0 ++ (u ++ [])) → r ≡ conversion p c
 unfolding conversion
-code_converted p c h a b ea eb r er =
+code_converted p c h t u et eu r er =
     er
-    ∙ ap (cipher p)
-    (ap₂ (λ (x y : ℕ). set (set (replicate 16 0) 14 x) 15 y) ea eb ∙ sym (bytes_word16 14 c h.fits))
-
--- ---- the reply of a refusal
-
-pub refused_is : (n : ℕ) (h : Handle) → h ≡ no_handle → ◌≡◌ {A = Weakened} (record { number = n; handle = h; count = 0 }) (refusal n)
-refused_is n h e = λ j. record { number = n; handle = e j; count = 0 }
+    ∙ ap (cipher p) (ap (λ (l : List ℕ). replicate 14 0 ++ (l ++ [])) (eu ∙ et) ∙ sym (bytes_word16 14 c h.fits))
 
 -- ---- the width, as the code has it
 

@@ -2,15 +2,16 @@
 -- elements, so that taking parts of it, and bytes written out one by one, compute; the node and the subselectors alone are
 -- arithmetic.
 -- Assumes nothing.
-use Prim.Native.Nat.{ℕ, ◌+◌, ◌/◌, ◌%◌, ◌^◌, ◌≤◌, ◌<◌}
+use Prim.Native.Nat.{ℕ, ◌+◌, ◌/◌, ◌%◌, ◌≤◌}
 use native.Mathlib.Omega.{arith}
 use mathlib.Core.Path.{◌≡◌, refl, sym, ap, ap₂, ◌∙◌}
 use mathlib.Core.Bool.{Bool, true, false}
 use mathlib.Core.List.{List, [], ◌∷◌, ◌++◌}
 use lib.Dec.{eqb}
-use lib.ListN.{length, get_or, take, drop, replicate, length-drop}
+use lib.ListN.{length, get_or, set, take, drop, replicate, length-drop}
 use lib.Seq.{get_or-take, get_or-drop, length-take-le}
 use borrow.Author.Tests.{eqb-true}
+use borrow.Rule.Slice.PartMut.{put_mid}
 use Rattle.bits.specs.Bytes.{bytes, word_from, word}
 use Rattle.loops.specs.Tabulate.{tabulate}
 use Rattle.loops.proofs.TabulateLaws.{tabulate_is}
@@ -19,7 +20,7 @@ use Rattle.handle.specs.declared.HandleBytes.{HandleBytes}
 use Rattle.handle.specs.declared.Width.{Width}
 use Rattle.handle.specs.declared.Width.TheVariants.{None, Four, Eight, Sixteen}
 use Rattle.sizes.specs.Sizes.{password_bytes}
-use Rattle.handle.specs.Sizes.{node_bytes, local_at, password_at, selector_at}
+use Rattle.handle.specs.Sizes.{node_bytes, selector_at}
 use Rattle.handle.specs.Widths.{length_of, most_bytes, width_for, halves, packed, unpacked}
 use Rattle.handle.specs.Handles.{encoded_as, encoded, written, laid, laid_with, before, held_with, decoded_as, decoded}
 
@@ -76,15 +77,6 @@ width_cases P n a b = go (eqb n (length_of Four)) refl
 
 -- ---- what the code reads
 
-pub with_is : (b : List ℕ) → selector_at ≤ length b → (v : Width) (ss : List ℕ) (n : ℕ)
-    → n ≡ word (get_or b 0 0 ∷ get_or b 1 0 ∷ [])
-    → handle_of n (get_or b local_at 0) (elements_from password_at password_bytes b) v ss ≡ held_with v b ss
-unfolding tabulate
-with_is b h v ss n e =
-    λ j.
-    handle_of ((e ∙ ap word (sym (part_is 0 node_bytes b (omega arith)))) j) (get_or b local_at 0)
-    (sym (part_is password_at password_bytes b (omega arith)) j) v ss
-
 module _ (b : List ℕ) (r : Handle) where
   abbrev at : ℕ → ℕ
   at k = get_or b (selector_at + k) 0
@@ -133,18 +125,17 @@ module _ (h : Handle) (lp : length h.password ≡ password_bytes) where
   before_listed : (t : List ℕ) → before h t ≡ listed_before t
   before_listed t = ap (λ (p : List ℕ). bytes node_bytes h.node ++ (h.local ∷ []) ++ p ++ t) (listed password_bytes h.password lp)
 
-  pub laid_is : (n : ℕ) (t : List ℕ) → length t ≡ 8 → h.node < 256 ^ node_bytes
-      → bytes_of n (h.node / 256 ∷ h.node % 256 ∷ h.local ∷ elements password_bytes h.password ++ elements 8 t)
-      ≡ laid_with h n t
+  -- zeros, and over them the node, the local number, the password and the bytes after it, as the code has them
+  pub laid_is : (n : ℕ) (b m q u t : List ℕ) → b ≡ h.node / 256 % 256 ∷ h.node % 256 ∷ [] → m ≡ b → q ≡ h.password → u ≡ t
+      → length t ≡ 8
+      → bytes_of n (put_mid 19 8 (put_mid 3 16 (set (m ++ replicate 25 0) 2 h.local) q) u) ≡ laid_with h n t
   unfolding bytes tabulate
-  laid_is n t lt l =
-      ap (bytes_of n)
-      (ap₂ (λ (m : ℕ) (u : List ℕ). m ∷ h.node % 256 ∷ h.local ∷ elements password_bytes h.password ++ u) high
-      (sym (listed 8 t lt))
-      ∙ sym (before_listed t))
-    where
-      high : h.node / 256 ≡ h.node / 256 % 256
-      high = omega arith
+  laid_is n b m q u t eb em eq eu lt =
+      (λ j.
+      bytes_of n
+      (put_mid 19 8 (put_mid 3 16 (set ((em ∙ eb) j ++ replicate 25 0) 2 h.local) ((eq ∙ listed password_bytes h.password lp) j))
+      ((eu ∙ listed 8 t lt) j)))
+      ∙ ap (bytes_of n) (ap listed_before (sym (listed 8 t lt)) ∙ sym (before_listed t))
 
   -- the bytes u are the bytes t and zeros after them
   spread : (n : ℕ) (t u : List ℕ)
@@ -175,27 +166,33 @@ module _ (h : Handle) (lp : length h.password ≡ password_bytes) where
         ∙ spread (length_of Four) (packed Four h.selector)
         (halves (sub 0) (sub 1) ∷ halves (sub 2) (sub 3) ∷ 0 ∷ 0 ∷ 0 ∷ 0 ∷ 0 ∷ 0 ∷ []) refl)
 
-    pub written_eight : h.width ≡ Eight → (a b c d : ℕ) → a ≡ sub 0 % 256 → b ≡ sub 1 % 256 → c ≡ sub 2 % 256
-        → d ≡ sub 3 % 256 → r ≡ laid_with h (length_of Eight) (a ∷ b ∷ c ∷ d ∷ 0 ∷ 0 ∷ 0 ∷ 0 ∷ []) → r ≡ written h
+    -- the two bytes of a subselector
+    abbrev two : ℕ → List ℕ
+    two k = sub k / 256 % 256 ∷ sub k % 256 ∷ []
+
+    pub written_eight : h.width ≡ Eight → (a b c d : List ℕ) → a ≡ two 0 → b ≡ two 1 → c ≡ two 2 → d ≡ two 3
+        → r ≡ laid_with h (length_of Eight) (get_or a 1 0 ∷ get_or b 1 0 ∷ get_or c 1 0 ∷ get_or d 1 0 ∷ 0 ∷ 0 ∷ 0 ∷ 0 ∷ [])
+        → r ≡ written h
     unfolding packed bytes tabulate
     written_eight e a b c d ea eb ec ed er =
         written_as Eight e r
-        (er ∙ (λ j. laid_with h (length_of Eight) (ea j ∷ eb j ∷ ec j ∷ ed j ∷ 0 ∷ 0 ∷ 0 ∷ 0 ∷ []))
+        (er
+        ∙ (λ j.
+        laid_with h (length_of Eight)
+        (get_or (ea j) 1 0 ∷ get_or (eb j) 1 0 ∷ get_or (ec j) 1 0 ∷ get_or (ed j) 1 0 ∷ 0 ∷ 0 ∷ 0 ∷ 0 ∷ []))
         ∙ spread (length_of Eight) (packed Eight h.selector)
         (sub 0 % 256 ∷ sub 1 % 256 ∷ sub 2 % 256 ∷ sub 3 % 256 ∷ 0 ∷ 0 ∷ 0 ∷ 0 ∷ []) refl)
 
-    abbrev high : ℕ → ℕ
-    high k = sub k / 256 % 256
-
-    abbrev low : ℕ → ℕ
-    low k = sub k % 256
-
-    pub written_sixteen : h.width ≡ Sixteen → (a b c d i k m n : ℕ) → a ≡ high 0 → b ≡ low 0 → c ≡ high 1
-        → d ≡ low 1 → i ≡ high 2 → k ≡ low 2 → m ≡ high 3 → n ≡ low 3
-        → r ≡ laid_with h (length_of Sixteen) (a ∷ b ∷ c ∷ d ∷ i ∷ k ∷ m ∷ n ∷ []) → r ≡ written h
+    pub written_sixteen : h.width ≡ Sixteen → (a b c d : List ℕ) → a ≡ two 0 → b ≡ two 1 → c ≡ two 2 → d ≡ two 3
+        → r ≡ laid_with h (length_of Sixteen)
+        (get_or a 0 0 ∷ get_or a 1 0 ∷ get_or b 0 0 ∷ get_or b 1 0 ∷ get_or c 0 0 ∷ get_or c 1 0 ∷ get_or d 0 0 ∷ get_or d 1 0 ∷ [])
+        → r ≡ written h
     unfolding packed bytes tabulate
-    written_sixteen e a b c d i k m n ea eb ec ed ei ek em en er =
+    written_sixteen e a b c d ea eb ec ed er =
         written_as Sixteen e r
-        (er ∙ (λ j. laid_with h (length_of Sixteen) (ea j ∷ eb j ∷ ec j ∷ ed j ∷ ei j ∷ ek j ∷ em j ∷ en j ∷ []))
-        ∙ spread (length_of Sixteen) (packed Sixteen h.selector)
-        (high 0 ∷ low 0 ∷ high 1 ∷ low 1 ∷ high 2 ∷ low 2 ∷ high 3 ∷ low 3 ∷ []) refl)
+        (er
+        ∙ (λ j.
+        laid_with h (length_of Sixteen)
+        (get_or (ea j) 0 0 ∷ get_or (ea j) 1 0 ∷ get_or (eb j) 0 0 ∷ get_or (eb j) 1 0 ∷ get_or (ec j) 0 0 ∷ get_or (ec j) 1 0
+        ∷ get_or (ed j) 0 0 ∷ get_or (ed j) 1 0 ∷ []))
+        ∙ spread (length_of Sixteen) (packed Sixteen h.selector) (two 0 ++ two 1 ++ two 2 ++ two 3) refl)

@@ -10,7 +10,7 @@ use borrow.Author.Tests.{eqb-false}
 use Rattle.bits.proofs.SetLaws.{count_out, count_in}
 use Rattle.loops.proofs.BelowLaws.{test_off}
 use Rattle.handle.specs.declared.Handle.{Handle}
-use Rattle.handle.specs.declared.Weakened.{Weakened}
+use Rattle.handle.specs.Handles.{Weakened}
 use Rattle.numbers.specs.Numbers.{empty_number}
 use Rattle.handle.specs.Selectors.{references, keeps, gapped, keeps_none, spent, referenced}
 use Rattle.handle.specs.Handles.{no_width, no_such_place, reply, weaken_number, weakened, weakening}

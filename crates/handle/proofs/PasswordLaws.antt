@@ -1,16 +1,17 @@
 -- Passwords compared. The loop or-s the differences of the bytes together: after i bytes the sum of differences is zero
 -- just where the first i bytes agree. Of two passwords of sixteen bytes the test says whether they are equal.
 -- Assumes nothing.
-use Prim.Native.Nat.{ℕ, ◌+◌, ◌≤◌, ◌<◌}
+use Prim.Native.Nat.{ℕ, suc, ◌+◌, ◌≤◌, ◌<◌}
 use native.Mathlib.Omega.{arith}
 use native.Mathlib.Numerals.{add-one}
-use mathlib.Core.Path.{◌≡◌, refl, sym, ap, ap₂, ◌∙◌}
+use mathlib.Core.Path.{◌≡◌, refl, sym, ap, ap₂, ◌∙◌, subst}
+use mathlib.Core.Logic.{◌⊎◌, inl, inr}
 use mathlib.Core.Bool.{Bool, true, false, ◌&&◌}
 use mathlib.Core.List.{List, [], ◌∷◌}
 use lib.Dec.{eqb}
 use lib.Bits.{bit_or, bit_xor}
-use lib.ListN.{length, get_or}
-use lib.Seq.{ext_get_or}
+use lib.ListN.{length, get_or, drop, length-drop}
+use lib.Seq.{ext_get_or, drop-cons}
 use borrow.Author.Tests.{eq-eqb}
 use Rattle.bits.proofs.OperationLaws.{or_none, xor_none}
 use Rattle.loops.specs.Below.{every}
@@ -52,6 +53,55 @@ module _ (a b : List ℕ) (d i : ℕ) (c : Compared a b d i) where
     where
       whole : i ≡ password_bytes
       whole = omega (arith, c.within)
+
+-- us and vs are what is left to compare
+pub record Comparing (a b : List ℕ) (d : ℕ) (us vs : List ℕ) : Type 0 where
+  pub seen : ℕ
+  pub compared : Compared a b d seen
+  pub first : us ≡ drop seen a
+  pub second : vs ≡ drop seen b
+
+pub comparing_none : (a b us vs : List ℕ) → us ≡ a → vs ≡ b → Comparing a b 0 us vs
+comparing_none a b us vs e f = record { seen = 0; compared = compared_none a b; first = e; second = f }
+
+-- the first of what is left, and the rest
+module _ (a : List ℕ) (i x : ℕ) (us : List ℕ) (e : x ∷ us ≡ drop i a) where
+  left : i < length a
+  left = omega (arith, ap length e, length-drop i a)
+
+  split : x ∷ us ≡ get_or a i 0 ∷ drop (suc i) a
+  split = e ∙ drop-cons a i 0 left
+
+  head_is : x ≡ get_or a i 0
+  head_is = ap (λ (l : List ℕ). get_or l 0 0) split
+
+  tail_is : us ≡ drop (i + 1) a
+  tail_is = ap (drop 1) split ∙ ap (λ (n : ℕ). drop n a) (sym (add-one i))
+
+module _ (a b : List ℕ) (la : length a ≡ password_bytes) (lb : length b ≡ password_bytes) (d : ℕ) (us vs : List ℕ)
+    (c : Comparing a b d us vs) where
+  pub comparing_more : (x y : ℕ) (xs ys : List ℕ) → us ≡ x ∷ xs → vs ≡ y ∷ ys → Comparing a b (bit_or (bit_xor x y) d) xs ys
+  comparing_more x y xs ys e f =
+      record {
+        seen = c.seen + 1;
+        compared =
+            subst (λ (n : ℕ). Compared a b (bit_or n d) (c.seen + 1))
+            (sym (ap₂ bit_xor (head_is a c.seen x xs p) (head_is b c.seen y ys q)))
+            (compared_more a b d c.seen c.compared (let l = left a c.seen x xs p in omega arith));
+        first = tail_is a c.seen x xs p;
+        second = tail_is b c.seen y ys q;
+      }
+    where
+      p : x ∷ xs ≡ drop c.seen a
+      p = sym e ∙ c.first
+
+      q : y ∷ ys ≡ drop c.seen b
+      q = sym f ∙ c.second
+
+  -- none of one of them is left
+  pub comparing_all : {A B : Type 0} → (A → length us ≡ 0) → (B → length vs ≡ 0) → A ⊎ B → eqb d 0 ≡ same_password a b
+  comparing_all f g (inl s) = compared_all a b d c.seen c.compared (omega (arith, la, f s, ap length c.first, length-drop c.seen a))
+  comparing_all f g (inr s) = compared_all a b d c.seen c.compared (omega (arith, lb, g s, ap length c.second, length-drop c.seen b))
 
 -- ---- the test and equality
 

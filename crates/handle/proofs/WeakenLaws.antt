@@ -4,65 +4,34 @@
 use Prim.Native.Nat.{ℕ, zero, suc, ◌-◌, ◌≤◌, ◌<◌}
 use native.Mathlib.Omega.{arith}
 use mathlib.Core.Path.{◌≡◌, refl, sym, ap, ap₂, ◌∙◌}
-use mathlib.Core.Bool.{Bool, true, false, not, ◌&&◌, ◌||◌, false≢true, cond}
+use mathlib.Core.Bool.{Bool, true, false, not, ◌&&◌, false≢true, cond}
 use mathlib.Core.List.{List}
 use lib.Bits.{bit_and}
 use lib.ListN.{length}
-use lib.Dec.{eqb, leb}
+use lib.Dec.{eqb}
 use mir.Val.{Fits}
 use mir.Syntax.{w16}
-use borrow.Author.Tests.{eq-eqb, ne_eqb, le-leb, lt-leb}
+use borrow.Author.Tests.{eq-eqb, ne_eqb}
 use Rattle.bits.specs.Sets.{full, set_of}
 use Rattle.bits.proofs.SetLaws.{set_of_lt, count_none}
 use Rattle.bits.proofs.OperationLaws.{and_has, and_not}
+use Rattle.std.specs.Prelude.{Result, Err}
+use Rattle.numbers.specs.declared.Number.{Number}
+use Rattle.numbers.specs.Codes.{code}
 use Rattle.handle.specs.declared.Handle.{Handle}
-use Rattle.handle.specs.declared.Weakened.{Weakened}
-use Rattle.sizes.specs.Sizes.{nodes, clusters}
+use Rattle.handle.specs.declared.Weaker.{Weaker}
+use Rattle.handle.specs.Handles.{Weakened}
 use Rattle.handle.specs.Sizes.{subselectors}
 use Rattle.handle.specs.Selectors.{references, excludes, keeps, any_flat, gapped, first_flat, common, referenced}
 use Rattle.handle.specs.Selectors.{keeps_all, keeps_none, parameter, spent}
 use Rattle.handle.specs.Handles.{width_of, no_width, cut, weakened, weakening}
 use Rattle.numbers.specs.Numbers.{wrong_length_number, place_number, gapped_number, empty_number, spent_number}
-use Rattle.handle.specs.Handles.{node_of, no_such_place, first_of, own_rows, refusal, reply, weaken_number}
+use Rattle.handle.specs.Handles.{no_such_place, first_of, own_rows, refusal, reply, reply_of, weaken_number}
+use Rattle.numbers.proofs.ToldLaws.{code_above}
 use Rattle.handle.proofs.SelectorLaws.{any_flat_lem, none_flat}
 use Rattle.handle.proofs.HandleLaws.{telling, weakened_cases}
 
 -- ---- what the handle is turned down with whatever the mask
-
-module _ (w : ℕ) (h : Handle) where
-  abbrev own : Bool → Bool → Bool → ℕ
-  own l a b = cond l wrong_length_number (cond a place_number (cond b gapped_number 0))
-
-  pub own_length : (b : ℕ) → b ≡ width_of h → b ≡ 0 → wrong_length_number ≡ first_of (own_rows w h)
-  own_length b eb t =
-      sym (ap (λ (x : Bool). own x (no_such_place h) (gapped w h.selector)) (eq-eqb (width_of h) 0 (sym eb ∙ t)))
-
-  module _ (b : ℕ) (eb : b ≡ width_of h) (z : b ≡ 0 → ⊥) (v : ℕ) (ev : v ≡ node_of h) where
-    of_place : (c : Bool) → no_such_place h ≡ c → first_of (own_rows w h) ≡ cond c place_number (cond (gapped w h.selector) gapped_number 0)
-    of_place c e = ap₂ (λ (x y : Bool). own x y (gapped w h.selector)) (ne_eqb (width_of h) 0 (λ q. z (eb ∙ q))) e
-
-    pub own_node : nodes ≤ v → place_number ≡ first_of (own_rows w h)
-    own_node t =
-        sym (of_place true (ap (λ (x : Bool). x || leb clusters h.local) (le-leb nodes (node_of h) (omega (arith, ev)))))
-
-    module _ (n : v < nodes) where
-      here : (c : Bool) → leb clusters h.local ≡ c → no_such_place h ≡ c
-      here c e = ap₂ (λ (x y : Bool). x || y) (lt-leb nodes (node_of h) (omega (arith, ev))) e
-
-      pub own_local : clusters ≤ h.local → place_number ≡ first_of (own_rows w h)
-      own_local t = sym (of_place true (here true (le-leb clusters h.local t)))
-
-      module _ (l : h.local < clusters) (g : Bool) (eg : g ≡ gapped w h.selector) where
-        of_gap : (c : Bool) → g ≡ c → first_of (own_rows w h) ≡ cond c gapped_number 0
-        of_gap c e =
-            of_place false (here false (lt-leb clusters h.local l))
-            ∙ ap (λ (x : Bool). cond x gapped_number 0) (sym eg ∙ e)
-
-        pub own_gapped : g ≡ true → gapped_number ≡ first_of (own_rows w h)
-        own_gapped e = sym (of_gap true e)
-
-        pub own_none : g ≡ false → 0 ≡ first_of (own_rows w h)
-        own_none e = sym (of_gap false e)
 
 own_told : (l a b c d : Bool) → (cond l wrong_length_number (cond a place_number (cond b gapped_number 0)) ≡ 0 → ⊥)
     → telling l a b c d ≡ cond l wrong_length_number (cond a place_number (cond b gapped_number 0))
@@ -112,6 +81,10 @@ module _ (w : ℕ) (f : List ℕ → ℕ → List ℕ) (h : Handle) (mask : ℕ)
         (own_told (no_width h) (no_such_place h) (gapped w h.selector) (keeps_none w mask h.selector)
         (spent w mask h.selector) (λ e. t (en ∙ e))
         ∙ sym en)
+
+    -- the same, of the code's own result
+    pub refused_standing : (e : Number) → code e ≡ n → (r : Result Weaker Number) → r ≡ Err e → reply_of r ≡ weakening w f h mask
+    refused_standing e q r er = ap reply_of er ∙ refused_own (refusal (code e)) (ap refusal q) (λ z. code_above e (q ∙ z))
 
     module _ (u : n ≡ 0) where
       -- only the last two rows are left

@@ -13,7 +13,7 @@
 -- Assumes nothing.
 use Rattle.std.specs.Prelude.{ℕ, List, [], ◌∷◌, replicate}
 use Rattle.handle.specs.declared.Handle.{Handle}
-use Rattle.handle.specs.declared.Weakened.{Weakened}
+use Rattle.handle.specs.Handles.{Weakened}
 use Rattle.handle.specs.declared.Width.TheVariants.{None, Eight}
 use Rattle.handle.specs.Selectors.{common, referenced}
 use Rattle.handle.specs.Handles.{weakening, reduced, joined}

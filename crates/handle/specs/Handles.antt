@@ -18,8 +18,10 @@
 --     Row, first_of       a number of the table and whether it applies; the first that applies, or 0
 --     no_width h          there is no handle: the bytes had the length of no width
 --     no_such_place h      node above 3 or local number above 7
+--     Weakened           the reply of a weakening: a number, a handle and how many segments it references
 --     refusal n          the reply to a call refused with n: no handle and a zero count
 --     reply n h c        the handle h and the count c where n is 0, else the refusal with n
+--     reply_of r         the reply that the code's result stands for: 0 and what it gives, or the refusal with its number
 --     own_rows h          the rows that weakening h meets whatever the mask
 --     rows h m           the rows that weakening h by the mask m meets, in the table's order
 --     weaken_number h m   what it is turned down with, or 0
@@ -35,15 +37,17 @@
 --                        references in subselector 0
 --     weakening h m      the reply of call 7
 -- Assumes nothing.
-use Rattle.std.specs.Prelude.{ℕ, zero, suc, ◌-◌, ◌^◌, ◌<◌, ◌≡◌, Bool, true, false, ◌&&◌, ◌||◌, cond, List, [], ◌∷◌, ◌++◌, eqb, leb, length, get_or, set, take, drop, replicate}
+use Rattle.std.specs.Prelude.{ℕ, zero, suc, ◌-◌, ◌^◌, ◌<◌, ◌≡◌, Bool, true, false, ◌&&◌, ◌||◌, cond, List, [], ◌∷◌, ◌++◌, eqb, leb, length, get_or, set, take, drop, replicate, Result, Ok, Err}
 use Rattle.bits.specs.Bytes.{bytes, word}
 use Rattle.loops.specs.Below.{every}
 use Rattle.handle.specs.declared.Handle.{Handle}
 use Rattle.handle.specs.declared.HandleBytes.{HandleBytes}
-use Rattle.handle.specs.declared.Weakened.{Weakened}
+use Rattle.handle.specs.declared.Weaker.{Weaker}
 use Rattle.handle.specs.declared.Width.{Width}
 use Rattle.handle.specs.declared.Width.TheVariants.{None, Four, Eight, Sixteen}
 use Rattle.sizes.specs.Sizes.{nodes, clusters, password_bytes}
+use Rattle.numbers.specs.declared.Number.{Number}
+use Rattle.numbers.specs.Codes.{code}
 use Rattle.numbers.specs.Numbers.{place_number, gapped_number, empty_number, spent_number, wrong_length_number}
 use Rattle.handle.specs.Sizes.{subselectors}
 use Rattle.handle.specs.Sizes.{node_bytes, local_at, password_at, selector_at}
@@ -164,12 +168,21 @@ no_width h = eqb (width_of h) 0
 abbrev pub no_such_place : Handle → Bool
 no_such_place h = leb nodes (node_of h) || leb clusters h.local
 
+pub record Weakened : Type 0 where
+  pub number : ℕ
+  pub handle : Handle
+  pub count : ℕ
+
 abbrev pub refusal : ℕ → Weakened
 refusal n = record { number = n; handle = no_handle; count = 0 }
 
 abbrev pub reply : ℕ → Handle → ℕ → Weakened
 reply zero h c = record { number = 0; handle = h; count = c }
 reply (suc n) h c = refusal (suc n)
+
+abbrev pub reply_of : Result Weaker Number → Weakened
+reply_of (Ok w) = record { number = 0; handle = w.handle; count = w.count }
+reply_of (Err n) = refusal (code n)
 
 module _ (w : ℕ) where
   abbrev pub own_rows : Handle → List Row

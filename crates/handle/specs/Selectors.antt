@@ -9,6 +9,7 @@
 --     all_flat, any_flat   every subselector is flat; some subselector is
 --     gapped             a flat subselector stands below one that is not flat
 --     first_flat          the place of the first flat subselector; how many there are, where none is flat
+--     place_of p          the place p; how many subselectors a selector has, where there is none
 --     common             the bits set in every subselector
 --     referenced         how many segments are referenced
 --     keeps_all m ss      the mask m excludes none
@@ -22,7 +23,7 @@
 --     in_first s          subselector 0 is s and the others are flat
 --     Within ss          no subselector has a bit at or above the width
 -- Assumes nothing.
-use Rattle.std.specs.Prelude.{ℕ, zero, suc, ◌-◌, ◌^◌, ◌<◌, Bool, true, false, not, ◌&&◌, ◌||◌, List, [], ◌∷◌, eqb, set, replicate}
+use Rattle.std.specs.Prelude.{ℕ, zero, suc, ◌-◌, ◌^◌, ◌<◌, Bool, true, false, not, ◌&&◌, ◌||◌, List, [], ◌∷◌, eqb, set, replicate, Option, None, Some}
 use Rattle.bits.specs.Sets.{has, full, set_of, count}
 use Rattle.handle.specs.Sizes.{subselectors}
 
@@ -38,6 +39,10 @@ keeps mask ss i = references ss i && has i mask
 
 abbrev pub either : List ℕ → List ℕ → ℕ → Bool
 either ss ts i = references ss i || references ts i
+
+abbrev pub place_of : Option ℕ → ℕ
+place_of None = subselectors
+place_of (Some k) = k
 
 module _ (w : ℕ) where
   abbrev pub flat : ℕ → Bool

@@ -5,22 +5,18 @@ ghost use Rattle.handle.specs.Widths as widths;
 ghost use Rattle.handle.specs.Handles as spec;
 ghost use Rattle.handle.specs.Opens.{primary_bytes};
 
-use crate::{
-    HANDLE_BYTES, Handle, HandleBytes, LARGE, LONGER, LONGEST, MIDDLE, SHORT, SMALL, SUBSELECTORS,
-    Width,
-};
-use bits::BYTE;
-use sizes::Password;
+use crate::{HANDLE_BYTES, Handle, HandleBytes, LARGE, MIDDLE, SMALL, SUBSELECTORS, Width};
+use sizes::{PASSWORD_BYTES, Password};
 
 // The numbers that half a byte has room for.
 const HALF: u16 = 16;
 
-// The byte as a wider number.
-fn wide(byte: u8) -> u16
-    ensures { result ≡ byte }
-{
-    byte as u16
-}
+// Where the local number, the password and the selector begin in a handle's bytes.
+const LOCAL_AT: usize = 2;
+
+const PASSWORD_AT: usize = 3;
+
+const SELECTOR_AT: usize = 19;
 
 impl Handle {
     // The handle whose node, local number and password stand in the bytes.
@@ -28,14 +24,12 @@ impl Handle {
         requires { selector_at ≤ length bytes.now }
         ensures { result ≡ spec.held_with width bytes.now selector }
     {
-        let b = bytes;
+        let mut password = [0u8; PASSWORD_BYTES];
+        password.copy_from_slice(&bytes[PASSWORD_AT..SELECTOR_AT]);
         Handle {
-            node: bits::word(b[0], b[1]),
-            local: b[2],
-            password: [
-                b[3], b[4], b[5], b[6], b[7], b[8], b[9], b[10], b[11], b[12], b[13], b[14], b[15],
-                b[16], b[17], b[18],
-            ],
+            node: bits::word(bytes[0], bytes[1]),
+            local: bytes[LOCAL_AT],
+            password,
             width,
             selector,
         }
@@ -45,69 +39,40 @@ impl Handle {
     pub fn decode(bytes: &[u8]) -> Handle
         ensures { result ≡ spec.decoded bytes.now }
     {
-        let n = bytes.len();
-        if n == SMALL {
-            let a = wide(bytes[19]);
-            let b = wide(bytes[20]);
-            return Handle::with(bytes, Width::Four, [a % HALF, a / HALF, b % HALF, b / HALF]);
+        match bytes.len() {
+            SMALL => {
+                let a = u16::from(bytes[19]);
+                let b = u16::from(bytes[20]);
+                Handle::with(bytes, Width::Four, [a % HALF, a / HALF, b % HALF, b / HALF])
+            }
+            MIDDLE => {
+                let a = u16::from(bytes[19]);
+                let b = u16::from(bytes[20]);
+                let c = u16::from(bytes[21]);
+                let d = u16::from(bytes[22]);
+                Handle::with(bytes, Width::Eight, [a, b, c, d])
+            }
+            LARGE => {
+                let a = bits::word(bytes[19], bytes[20]);
+                let b = bits::word(bytes[21], bytes[22]);
+                let c = bits::word(bytes[23], bytes[24]);
+                let d = bits::word(bytes[25], bytes[26]);
+                Handle::with(bytes, Width::Sixteen, [a, b, c, d])
+            }
+            _ => Handle::none(),
         }
-        if n == MIDDLE {
-            let a = wide(bytes[19]);
-            let b = wide(bytes[20]);
-            let c = wide(bytes[21]);
-            let d = wide(bytes[22]);
-            return Handle::with(bytes, Width::Eight, [a, b, c, d]);
-        }
-        if n == LARGE {
-            let a = bits::word(bytes[19], bytes[20]);
-            let b = bits::word(bytes[21], bytes[22]);
-            let c = bits::word(bytes[23], bytes[24]);
-            let d = bits::word(bytes[25], bytes[26]);
-            return Handle::with(bytes, Width::Sixteen, [a, b, c, d]);
-        }
-        Handle::none()
     }
 
     // The bytes of the handle up to its selector, and then those of `tail`.
     fn laid(self, length: u8, tail: [u8; 8]) -> HandleBytes
         ensures { result ≡ spec.laid_with self length tail }
     {
-        let node = self.node;
-        let local = self.local;
-        let p = self.password;
-        let t = tail;
-        HandleBytes {
-            length,
-            bytes: [
-                (node / BYTE) as u8,
-                (node % BYTE) as u8,
-                local,
-                p[0],
-                p[1],
-                p[2],
-                p[3],
-                p[4],
-                p[5],
-                p[6],
-                p[7],
-                p[8],
-                p[9],
-                p[10],
-                p[11],
-                p[12],
-                p[13],
-                p[14],
-                p[15],
-                t[0],
-                t[1],
-                t[2],
-                t[3],
-                t[4],
-                t[5],
-                t[6],
-                t[7],
-            ],
-        }
+        let mut bytes = [0u8; HANDLE_BYTES];
+        bytes[..LOCAL_AT].copy_from_slice(&self.node.to_be_bytes());
+        bytes[LOCAL_AT] = self.local;
+        bytes[PASSWORD_AT..SELECTOR_AT].copy_from_slice(&self.password);
+        bytes[SELECTOR_AT..].copy_from_slice(&tail);
+        HandleBytes { length, bytes }
     }
 
     // The bytes of the handle.
@@ -124,46 +89,28 @@ impl Handle {
             Width::Four => {
                 let a = halves(s[0], s[1]);
                 let b = halves(s[2], s[3]);
-                self.laid(SHORT, [a, b, 0, 0, 0, 0, 0, 0])
+                self.laid(SMALL as u8, [a, b, 0, 0, 0, 0, 0, 0])
             }
             Width::Eight => {
-                let a = low(s[0]);
-                let b = low(s[1]);
-                let c = low(s[2]);
-                let d = low(s[3]);
-                self.laid(LONGER, [a, b, c, d, 0, 0, 0, 0])
+                let [_, a] = s[0].to_be_bytes();
+                let [_, b] = s[1].to_be_bytes();
+                let [_, c] = s[2].to_be_bytes();
+                let [_, d] = s[3].to_be_bytes();
+                self.laid(MIDDLE as u8, [a, b, c, d, 0, 0, 0, 0])
             }
-            Width::Sixteen => self.laid(
-                LONGEST,
-                [
-                    high(s[0]),
-                    low(s[0]),
-                    high(s[1]),
-                    low(s[1]),
-                    high(s[2]),
-                    low(s[2]),
-                    high(s[3]),
-                    low(s[3]),
-                ],
-            ),
+            Width::Sixteen => {
+                let [a, b] = s[0].to_be_bytes();
+                let [c, d] = s[1].to_be_bytes();
+                let [e, f] = s[2].to_be_bytes();
+                let [g, h] = s[3].to_be_bytes();
+                self.laid(LARGE as u8, [a, b, c, d, e, f, g, h])
+            }
         }
     }
 }
 
-// The low byte, and the high one.
-pub fn low(s: u16) -> u8
-    ensures { result ≡ s % 256 }
-{
-    (s % BYTE) as u8
-}
-
-pub fn high(s: u16) -> u8
-    ensures { result ≡ s / 256 % 256 }
-{
-    (s / BYTE) as u8
-}
-
 // Two subselectors of four bits in a byte, the first in its low half.
+// Stays: by hand, since the library puts no two halves into a byte.
 fn halves(a: u16, b: u16) -> u8
     ensures { result ≡ widths.halves a b }
 {

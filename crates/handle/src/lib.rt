@@ -7,9 +7,9 @@ mod codec; // codec.rt: a handle from its bytes, and back
 mod sets; // sets.rt: reduction and joining, which put a set of segments in subselector 0
 mod weaken; // weaken.rt: weakening, and what it is refused with
 
-ghost use Rattle.std.specs.Prelude.{◌≡◌, eqb, leb};
-ghost use Rattle.aes.specs.Tables.{IsTables};
+ghost use Rattle.std.specs.Prelude.{◌≡◌, ◌<◌, eqb, leb, position, IfSome};
 ghost use Rattle.bits.specs.Sets.{full};
+ghost use Rattle.handle.specs.Sizes.{subselectors};
 ghost use Rattle.handle.specs.Widths.{bits_of, length_of, width_from, room};
 ghost use Rattle.handle.specs.Selectors as sel;
 ghost use Rattle.handle.specs.Handles as spec;
@@ -25,10 +25,8 @@ const ROOM: usize = 16;
 // How many subselectors a selector has.
 const SUBSELECTORS: usize = 4;
 
-// The places of the parameter's two bytes in the block that a conversion encrypts: the last two.
-const HIGH_AT: usize = 14;
-
-const LOW_AT: usize = 15;
+// Where the parameter's two bytes stand in the block that a conversion encrypts: they are the last two.
+const PARAMETER_AT: usize = 14;
 
 // The bytes of the longest handle.
 pub const HANDLE_BYTES: usize = 27;
@@ -40,49 +38,36 @@ const MIDDLE: usize = 23;
 
 const LARGE: usize = HANDLE_BYTES;
 
-// The same as bytes.
-const SHORT: u8 = 21;
-
-const LONGER: u8 = 23;
-
-const LONGEST: u8 = 27;
-
 // How many segments a cluster has, and how many bits a subselector of its handles; none for what is no handle.
+// Stays: `None` is a width, and no `Option` around one, since the theorem `HeldTrips` says what bytes of no width decode to: the
+// handle `no_handle`, of the width `None`, for which the row `no_width` stands.
 #[derive(Clone, Copy)]
 pub enum Width {
-    None,
-    Four,
-    Eight,
-    Sixteen,
+    None = 0,
+    Four = 4,
+    Eight = 8,
+    Sixteen = 16,
 }
 
 impl Width {
     // The width of a cluster of so many segments.
+    // Stays: no `TryFrom`, since each number has an answer, `None` too.
     pub fn from_bits(bits: usize) -> Width
         ensures { result ≡ width_from bits }
     {
-        if bits == 4 {
-            return Width::Four;
+        match bits {
+            4 => Width::Four,
+            8 => Width::Eight,
+            16 => Width::Sixteen,
+            _ => Width::None,
         }
-        if bits == 8 {
-            return Width::Eight;
-        }
-        if bits == 16 {
-            return Width::Sixteen;
-        }
-        Width::None
     }
 
     // The width as a number.
     pub fn bits(self) -> u8
         ensures { result ≡ bits_of self }
     {
-        match self {
-            Width::None => 0,
-            Width::Four => 4,
-            Width::Eight => 8,
-            Width::Sixteen => 16,
-        }
+        self as u8
     }
 
     // How many bytes a handle of the width has.
@@ -121,35 +106,32 @@ pub struct Handle {
 }
 
 // The bytes of a handle, as many as `length` tells, and then zeros.
+// Stays: an array of the longest handle's bytes and a length, since there is no heap, and calls in C, and the `Reply` of the
+// definitions, give handles of any width in one size.
 #[derive(Clone, Copy)]
 pub struct HandleBytes {
     pub length: u8,
     pub bytes: [u8; HANDLE_BYTES],
 }
 
-// The reply of a weakening: 0, the new handle and how many segments it references; or the number of the refusal, no
-// handle and 0.
+// What a weakening gives: the weaker handle, and how many segments it references.
 #[derive(Clone, Copy)]
-pub struct Weakened {
-    pub number: u8,
+pub struct Weaker {
     pub handle: Handle,
     pub count: u8,
 }
 
 // The password that a parameter turns a password into.
 pub fn convert_with(tables: &Tables, password: Password, parameter: u16) -> Password
-    requires { IsTables tables.now }
     ensures { result ≡ conversion password parameter }
 {
     let mut block = [0u8; PASSWORD_BYTES];
-    block[HIGH_AT] = codec::high(parameter);
-    block[LOW_AT] = codec::low(parameter);
+    block[PARAMETER_AT..].copy_from_slice(&parameter.to_be_bytes());
     aes::encrypt_with(tables, password, block)
 }
 
 // A password through the conversion of one subselector; a flat one is skipped.
 fn converted_with(tables: &Tables, width: Width, password: Password, subselector: u16) -> Password
-    requires { IsTables tables.now }
     ensures { result ≡ spec.converted (bits_of width) conversion password subselector }
 {
     let flat = width.full();
@@ -165,10 +147,17 @@ pub fn same(a: Password, b: Password) -> bool
     ensures { result ≡ spec.same_password a b }
 {
     let mut differing = 0u8;
-    for i in 0..PASSWORD_BYTES {
-        differing = (a[i] ^ b[i]) | differing;
+    for (x, y) in a.iter().zip(&b) {
+        differing = (*x ^ *y) | differing;
     }
     differing == 0
+}
+
+// The place of the first of the subselectors that is `flat`; none where none is.
+fn place_of(selector: [u16; SUBSELECTORS], flat: u16) -> Option<usize>
+    ensures { result ≡ position (λ s. eqb s flat) selector }
+{
+    selector.iter().position(|s| *s == flat)
 }
 
 impl Handle {
@@ -254,7 +243,7 @@ impl Handle {
         let b = s[1] == flat;
         let c = s[2] == flat;
         let d = s[3] == flat;
-        (a & !(b & (c & d))) | ((b & !(c & d)) | (c & !d))
+        (a & !b) | ((b & !c) | (c & !d))
     }
 
     // Whether all four subselectors are flat.
@@ -263,28 +252,20 @@ impl Handle {
     {
         let width = self.width;
         let flat = width.full();
-        let s = self.selector;
-        (s[0] == flat) & ((s[1] == flat) & ((s[2] == flat) & (s[3] == flat)))
+        self.selector == [flat; SUBSELECTORS]
     }
 
-    // The place of the first flat subselector; past the last where none is flat.
-    pub fn first_flat(self) -> usize
-        ensures { result ≡ sel.first_flat (spec.width_of self) self.selector }
+    // The place of the first flat subselector; none where none is flat.
+    pub fn first_flat(self) -> Option<usize>
+        ensures place { sel.place_of result ≡ sel.first_flat (spec.width_of self) self.selector }
+        ensures bound { IfSome result (λ k. k < subselectors) }
     {
         let width = self.width;
-        let flat = width.full();
-        let s = self.selector;
-        for k in 0..SUBSELECTORS {
-            if s[k] == flat {
-                return k;
-            }
-        }
-        SUBSELECTORS
+        place_of(self.selector, width.full())
     }
 
     // A primary password through the conversions of the handle's subselectors, 0 first.
     fn opened_with(self, tables: &Tables, primary: Password) -> Password
-        requires { IsTables tables.now }
         ensures { result ≡ spec.through (spec.width_of self) (product (spec.name_of self)) self.selector primary }
     {
         let width = self.width;
@@ -297,7 +278,6 @@ impl Handle {
 
     // Whether the handle validates from a primary password.
     pub fn validates_with(self, tables: &Tables, primary: Password) -> bool
-        requires { IsTables tables.now }
         ensures { result ≡ spec.validates (spec.width_of self) (product (spec.name_of self)) primary self }
     {
         let opened = self.opened_with(tables, primary);

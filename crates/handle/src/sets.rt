@@ -1,7 +1,6 @@
 // Reduction (document 01) and joining (document 02, §5): both make a handle that holds a set of segments in subselector 0
 // alone, with a password from the primary one.
 ghost use Rattle.std.specs.Prelude.{◌≡◌};
-ghost use Rattle.aes.specs.Tables.{IsTables};
 ghost use Rattle.handle.specs.Selectors as sel;
 ghost use Rattle.handle.specs.Handles as spec;
 ghost use Rattle.handle.specs.Conversion.{product};
@@ -13,7 +12,6 @@ use sizes::Password;
 impl Handle {
     // The handle's name and width, with a set of segments in subselector 0 and the password made from the primary one.
     fn made_with(self, tables: &Tables, primary: Password, set: u16) -> Handle
-        requires { IsTables tables.now }
         ensures { result ≡ spec.made (spec.width_of self) (product (spec.name_of self)) self primary set }
     {
         let width = self.width;
@@ -30,7 +28,6 @@ impl Handle {
 
     // The handle reduced: the common bits in subselector 0.
     pub fn reduce_with(self, tables: &Tables, primary: Password) -> Handle
-        requires { IsTables tables.now }
         ensures { result ≡ spec.reduced (spec.width_of self) (product (spec.name_of self)) self primary }
     {
         if self.primary() {
@@ -69,7 +66,6 @@ impl Handle {
 
     // The handle joined with another: the union of what either references in subselector 0.
     pub fn join_with(self, tables: &Tables, other: Handle, primary: Password) -> Handle
-        requires { IsTables tables.now }
         ensures { result ≡ spec.joined (spec.width_of self) (product (spec.name_of self)) self other primary }
     {
         let union = self.either(other);

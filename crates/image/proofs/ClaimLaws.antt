@@ -17,7 +17,7 @@ use Rattle.loops.proofs.TabulateLaws.{get_d_tabulate}
 use Rattle.loops.proofs.TurnLaws.{Turning, turning_none, turning_more, turning_all, turns_same}
 use Rattle.sizes.specs.Sizes.{segments}
 use Rattle.spans.specs.Spans.{marks, Marked}
-use Rattle.store.specs.declared.Place.{Place}
+use Rattle.store.specs.Places.{Place}
 use Rattle.store.specs.declared.Segment.{Segment}
 use Rattle.store.specs.Records.{absent_segment, table_of, segment_of, place_of}
 use Rattle.store.specs.Sound.{settled}

@@ -19,8 +19,7 @@ use Rattle.loops.specs.Tabulate.{tabulate}
 use Rattle.loops.proofs.BelowLaws.{and_left, and_right, and_both, tests_equal, every_at}
 use Rattle.loops.specs.Turns.{turns}
 use Rattle.sizes.specs.Sizes.{segments, password_bytes}
-use Rattle.store.specs.declared.Place.{Place}
-use Rattle.store.specs.declared.Place.TheVariants.{Absent, Present}
+use Rattle.store.specs.Places.{Place, None, Some}
 use Rattle.store.specs.declared.Segment.{Segment}
 use Rattle.store.specs.declared.Cluster.{Cluster}
 use Rattle.store.specs.Records.{absent_segment, inactive, table_of, segment_of, place_of}
@@ -92,9 +91,9 @@ claimed_mark gs map t i h =
 -- a place and a mark, absent and not frozen
 pub none_marked : (p : Place) (f : Bool) → is_absent p ≡ true → not (is_absent p && f) ≡ true
     → ◌≡◌ {A = Segment} (record { place = p; frozen = f }) absent_segment
-none_marked Absent false t m = refl
-none_marked Absent true t m = absurd (true≢false (sym m))
-none_marked (Present base length) f t m = absurd (true≢false (sym t))
+none_marked None false t m = refl
+none_marked None true t m = absurd (true≢false (sym m))
+none_marked (Some span) f t m = absurd (true≢false (sym t))
 
 idle_inactive : (c : Cluster) → ClusterFits c → c.active ≡ false → c.width ≡ 0 → idle c ≡ true
     → ((i : ℕ) → i < segments → sound_mark (segment_of (table_of c) i) ≡ true) → c ≡ inactive

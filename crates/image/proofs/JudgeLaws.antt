@@ -11,6 +11,8 @@ use native.Mathlib.Omega.{arith}
 use lib.Dec.{eqb, ltb}
 use lib.ListN.{replicate}
 use borrow.Author.Tests.{not-true, not-false, eqb-true, eqb-false, ltb-true, ltb-false}
+use Rattle.std.specs.Option.{is_some, option_flatten}
+use Rattle.std.specs.Bool.{then_some}
 use Rattle.loops.specs.Below.{every}
 use Rattle.loops.proofs.BelowLaws.{and_left, and_right, and_off, tests_equal, every_at, every_in, every_same, every_both}
 use Rattle.loops.proofs.BelowLaws.{every_pair_at, every_pair_in}
@@ -20,8 +22,7 @@ use Rattle.sizes.specs.Sizes.{nodes, clusters, segments, records, memory}
 use Rattle.spans.specs.Spans.{marks}
 use Rattle.spans.proofs.SpanLaws.{marks_none}
 use Rattle.store.specs.declared.Cluster.{Cluster}
-use Rattle.store.specs.declared.Found.{Found}
-use Rattle.store.specs.declared.Found.TheVariants.{Nowhere}
+use Rattle.store.specs.Places.{Found, None}
 use Rattle.store.specs.Records.{Tables, record_of, table_of, table_at, segment_of, place_of, place_on}
 use Rattle.store.specs.Sound.{settled, sound}
 use Rattle.store.specs.Placement.{placement, placed_by, no_room}
@@ -170,9 +171,9 @@ module _ (b : List ℕ) where
     pub record Sought (node : ℕ) (ok : Bool) (found : Found) : Type 0 where
       pub told : Running nodes (λ v. every clusters (passes v)) node ok
       pub based : wanted < node → ok ≡ true → Based (node_map tables wanted clusters) size found
-      pub beyond : nodes ≤ wanted → found ≡ Nowhere
+      pub beyond : nodes ≤ wanted → found ≡ None
 
-    pub sought_none : Sought 0 true Nowhere
+    pub sought_none : Sought 0 true None
     sought_none = record { told = running_none _ _; based = λ h. absurd (omega arith); beyond = λ h. refl }
 
     pub sought_more : (node : ℕ) (ok : Bool) (found : Found) → Sought node ok found → node < nodes
@@ -205,17 +206,17 @@ module _ (b : List ℕ) where
             }
 
     module _ (node : ℕ) (ok : Bool) (found : Found) (w : Sought node ok found) (h : nodes ≤ node) where
-      pub sought_sound : ok ≡ sound_in b
+      sought_sound : ok ≡ sound_in b
       sought_sound = nodes_told node ok w.told h
 
       -- what is told where the verdict is that
       verdict : (t : Bool) → ok ≡ t → cond t (placement tables wanted size) no_room ≡ placement_in b wanted size
       verdict t e = ap (λ (u : Bool). cond u (placement tables wanted size) no_room) (sym e ∙ sought_sound)
 
-      pub sought_nowhere : not ok ≡ true → placed_by Nowhere ≡ placement_in b wanted size
+      sought_nowhere : not ok ≡ true → placed_by None ≡ placement_in b wanted size
       sought_nowhere e = verdict false (not-true ok e)
 
-      pub sought_base : not ok ≡ false → placed_by found ≡ placement_in b wanted size
+      sought_base : not ok ≡ false → placed_by found ≡ placement_in b wanted size
       sought_base e = go (ltb wanted nodes) refl ∙ verdict true t
         where
           t : ok ≡ true
@@ -232,3 +233,18 @@ module _ (b : List ℕ) where
           go false q =
               let l = ltb-false wanted nodes q in
               ap placed_by (w.beyond l) ∙ base_no_node tables wanted size l
+
+      -- the base, where the store is sound
+      pub sought_told : is_some (then_some ok found) ≡ sound_in b
+      sought_told = go ok refl
+        where
+          go : (t : Bool) → ok ≡ t → is_some (then_some t found) ≡ sound_in b
+          go true e = sym e ∙ sought_sound
+          go false e = sym e ∙ sought_sound
+
+      pub sought_placed : placed_by (option_flatten (then_some ok found)) ≡ placement_in b wanted size
+      sought_placed = go ok refl
+        where
+          go : (t : Bool) → ok ≡ t → placed_by (option_flatten (then_some t found)) ≡ placement_in b wanted size
+          go true e = sought_base (ap not e)
+          go false e = sought_nowhere (ap not e)

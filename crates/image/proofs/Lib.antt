@@ -1,4 +1,5 @@
 pub mod PartLaws
+pub mod CutLaws
 pub mod WrittenLaws
 pub mod SegmentLaws
 pub mod RecordLaws

@@ -7,7 +7,7 @@ use Prim.Native.Nat.{ℕ}
 use Rattle.bits.specs.Bytes.{bytes, word_from, word}
 use Rattle.loops.specs.Below.{every}
 use Rattle.loops.specs.Tabulate.{tabulate}
-use Rattle.store.specs.declared.Place.TheVariants.{Absent}
+use Rattle.store.specs.Places.{None}
 use Rattle.store.specs.declared.Store.{Store}
 use Rattle.store.specs.Sound.{sound}
 use Rattle.store.proofs.QuickLaws.{quick, quickly, sound_quick}
@@ -47,6 +47,6 @@ damaged_widths =
     record {
       good = λ v. refl;
       held = λ v. refl;
-      judged = sounds (λ v. sample v (record { place = Absent; frozen = false })) (0 ∷ 4 ∷ 5 ∷ 8 ∷ 16 ∷ 17 ∷ 255 ∷ []) ∙ refl;
+      judged = sounds (λ v. sample v (record { place = None; frozen = false })) (0 ∷ 4 ∷ 5 ∷ 8 ∷ 16 ∷ 17 ∷ 255 ∷ []) ∙ refl;
       idle = sounds (λ v. store_in (idle_bytes v)) (0 ∷ 1 ∷ 8 ∷ []) ∙ refl;
     }

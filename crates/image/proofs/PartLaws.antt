@@ -26,6 +26,9 @@ length_slot w b n k e h = mid_len (k * w) (k * w + w) b fits ∙ width (k * w) w
     fits : k * w + w ≤ length b
     fits = subst (λ (m : ℕ). k * w + w ≤ m) (sym e) (subst (λ (m : ℕ). m ≤ n * w) (suc-mul k w) (mul-le-mul_right w h))
 
+pub slot_is : (w : ℕ) (b : List ℕ) (k : ℕ) → slot w b k ≡ take w (drop (k * w) b)
+slot_is w b k = ap (λ (m : ℕ). take m (drop (k * w) b)) (width (k * w) w)
+
 -- byte j of a part
 pub get_d_part : (b : List ℕ) (from to j : ℕ) → j < to - from → get_or (part b from to) j 0 ≡ get_or b (from + j) 0
 get_d_part b from to j h = get_or-take (to - from) (drop from b) j 0 h ∙ get_or-drop from b j 0

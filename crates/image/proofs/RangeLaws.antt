@@ -14,8 +14,7 @@ use lib.Seq.{get_or-set_same, get_or-set_other}
 use Rattle.loops.proofs.TabulateLaws.{length_tabulate, get_d_tabulate}
 use Rattle.sizes.specs.Sizes.{records, segments, password_bytes}
 use Rattle.bits.specs.Bytes.{Bytes}
-use Rattle.store.specs.declared.Place.{Place}
-use Rattle.store.specs.declared.Place.TheVariants.{Absent}
+use Rattle.store.specs.Places.{Place, None}
 use Rattle.store.specs.declared.Segment.{Segment}
 use Rattle.store.specs.declared.Cluster.{Cluster}
 use Rattle.store.specs.declared.Store.{Store}
@@ -81,7 +80,7 @@ put_fits s n c f g = record { whole = length-set s.clusters n c ∙ f.whole; eac
         (subst ClusterFits (sym (put_same s n c (let z = f.whole in omega arith))) g)
     at k h (no e) = subst ClusterFits (sym (put_other s n c k e)) (f.each k h)
 
-pub absent_fits : PlaceFits Absent
+pub absent_fits : PlaceFits None
 unfolding PlaceFits
 absent_fits = tt
 

@@ -2,21 +2,21 @@
 -- Assumes nothing.
 use mathlib.Core.Path.{◌≡◌, refl, sym, ap, ap₂, ◌∙◌}
 use mathlib.Core.Bool.{Bool, true, false, not, ◌||◌}
-use mathlib.Core.List.{List, [], ◌∷◌, ◌++◌}
+use mathlib.Core.List.{List, [], ◌∷◌}
 use mir.Syntax.{w16}
-use mir.Val.{Fits, bool_byte}
+use mir.Val.{bool_byte}
 use Prim.Native.Nat.{ℕ, ◌/◌, ◌%◌, ◌<◌}
 use native.Mathlib.Omega.{arith}
 use borrow.Author.Tests.{eq-eqb, ne_eqb}
 use lib.Dec.{eqb}
-use lib.ListN.{length, get_or, set}
+use lib.ListN.{length, get_or}
 use Rattle.bits.proofs.ByteLaws.{word_two}
+use Rattle.std.specs.Int.{to_be_bytes, byte_at}
 use Rattle.bits.specs.Bytes.{bytes, word, Bytes}
-use Rattle.store.specs.declared.Place.{Place}
-use Rattle.store.specs.declared.Place.TheVariants.{Absent, Present}
+use Rattle.store.specs.Places.{Place, None, present_at}
 use Rattle.store.specs.declared.Segment.{Segment}
 use Rattle.store.specs.Records.{base_of, length_of}
-use Rattle.image.specs.Images.{word_bytes, segment_bytes, mark_at, flag_in, base_in, length_in, mark_in, place_with, place_in}
+use Rattle.image.specs.Images.{word_bytes, segment_bytes, flag_in, base_in, length_in, mark_in, place_with, place_in}
 use Rattle.image.specs.Images.{good_place, segment_in, flag_out, place_out, segment_out}
 use Rattle.image.specs.Ranges.{words}
 
@@ -63,10 +63,10 @@ module _ (l : List ℕ) (e : length l ≡ segment_bytes) (base length : ℕ) (eb
   unfolding place_in
   same = ap₂ (λ (n b : ℕ). place_with (eqb n 0) b n) long starts
 
-  pub place_absent : length ≡ 0 → Absent ≡ place_in l
+  pub place_absent : length ≡ 0 → None ≡ place_in l
   place_absent z = sym (ap (λ (t : Bool). place_with t base length) (eq-eqb length 0 z)) ∙ same
 
-  pub place_present : (length ≡ 0 → ⊥) → Present base length ≡ place_in l
+  pub place_present : (length ≡ 0 → ⊥) → present_at base length ≡ place_in l
   place_present z = sym (ap (λ (t : Bool). place_with t base length) (ne_eqb length 0 z)) ∙ same
 
 pub segment_same : (l : List ℕ) (p : Place) → p ≡ place_in l
@@ -77,19 +77,26 @@ pub flag_is : (b : Bool) → bool_byte b ≡ flag_out b
 flag_is true = refl
 flag_is false = refl
 
-stored : (l : List ℕ) → Five l → (a b c d m : ℕ)
-    → set (set (set (set (set l 0 a) 1 b) 2 c) 3 d) mark_at m ≡ a ∷ b ∷ c ∷ d ∷ m ∷ []
-stored l (five x y z w v) a b c d m = refl
-
-pub segment_put : (g : Segment) (l : List ℕ) (b n : ℕ) → length l ≡ segment_bytes → b ≡ base_of g.place
-    → n ≡ length_of g.place → Fits w16 b → Fits w16 n
-    → set (set (set (set (set l 0 (b / 256)) 1 (b % 256)) 2 (n / 256)) 3 (n % 256)) mark_at (bool_byte g.frozen)
-    ≡ segment_out g
-unfolding segment_out place_out bytes
-segment_put g l b n e eb en fb fn =
-    stored l (is_five l e) (b / 256) (b % 256) (n / 256) (n % 256) (bool_byte g.frozen)
-    ∙ (λ j. high b fb.fits j ∷ (b % 256) ∷ high n fn.fits j ∷ (n % 256) ∷ flag_is g.frozen j ∷ [])
-    ∙ ap₂ (λ (x y : ℕ). (bytes word_bytes x ++ bytes word_bytes y) ++ (flag_out g.frozen ∷ [])) eb en
+-- the two bytes of a word, as `to_be_bytes` gives them
+word_out : (n : ℕ) → to_be_bytes w16 n ≡ bytes word_bytes n
+unfolding bytes
+word_out n = λ j. high j ∷ low j ∷ []
   where
-    high : (k : ℕ) → k < words → k / 256 ≡ k / 256 % 256
-    high k h = omega arith
+    high : byte_at 1 n ≡ n / 256 % 256
+    high = omega arith
+
+    low : byte_at 0 n ≡ n % 256
+    low = omega arith
+
+pub segment_made : (g : Segment) (x y : List ℕ) (b n : ℕ) → b ≡ base_of g.place → x ≡ to_be_bytes w16 b
+    → n ≡ length_of g.place → y ≡ to_be_bytes w16 n
+    → get_or x 0 0 ∷ get_or x 1 0 ∷ get_or y 0 0 ∷ get_or y 1 0 ∷ bool_byte g.frozen ∷ [] ≡ segment_out g
+unfolding segment_out place_out bytes
+segment_made g x y b n eb ex en ey =
+    (λ j. get_or (first j) 0 0 ∷ get_or (first j) 1 0 ∷ get_or (second j) 0 0 ∷ get_or (second j) 1 0 ∷ flag_is g.frozen j ∷ [])
+  where
+    first : x ≡ bytes word_bytes (base_of g.place)
+    first = ex ∙ word_out b ∙ ap (bytes word_bytes) eb
+
+    second : y ≡ bytes word_bytes (length_of g.place)
+    second = ey ∙ word_out n ∙ ap (bytes word_bytes) en

@@ -12,8 +12,7 @@ use lib.Seq.{take_at, drop_at, take-add}
 use Rattle.bits.specs.Bytes.{bytes, word, Bytes}
 use Rattle.bits.proofs.ByteLaws.{length_bytes, word_bytes_lem, bytes_word}
 use Rattle.loops.proofs.BelowLaws.{and_left, and_right, and_both}
-use Rattle.store.specs.declared.Place.{Place}
-use Rattle.store.specs.declared.Place.TheVariants.{Absent, Present}
+use Rattle.store.specs.Places.{Place, None, Some, present_at}
 use Rattle.store.specs.declared.Segment.{Segment}
 use Rattle.store.specs.Records.{base_of, length_of}
 use Rattle.image.specs.Parts.{part}
@@ -69,23 +68,23 @@ above length a z = omega arith
 module _ (m : List ℕ) where
   place_trip : (p : Place) → PlaceFits p → place_in (place_out p ++ m) ≡ p
   unfolding place_in PlaceFits
-  place_trip Absent h =
-      ap₂ (λ (b n : ℕ). place_with (eqb n 0) b n) (base_out Absent m (omega arith)) (length_out Absent m (omega arith))
-  place_trip (Present base length) h =
+  place_trip None h =
+      ap₂ (λ (b n : ℕ). place_with (eqb n 0) b n) (base_out None m (omega arith)) (length_out None m (omega arith))
+  place_trip (Some span) h =
       ap₂ (λ (b n : ℕ). place_with (eqb n 0) b n)
-      (base_out (Present base length) m h.starts) (length_out (Present base length) m h.ends)
-      ∙ ap (λ (t : Bool). place_with t base length) (ne_eqb length 0 (above length h.some))
+      (base_out (present_at span.base span.length) m h.starts) (length_out (present_at span.base span.length) m h.ends)
+      ∙ ap (λ (t : Bool). place_with t span.base span.length) (ne_eqb span.length 0 (above span.length h.some))
 
   place_good : (p : Place) → PlaceFits p → good_place (place_out p ++ m) ≡ true
   unfolding good_place PlaceFits
-  place_good Absent h =
-      ap₂ (λ (b n : ℕ). not (eqb n 0) || eqb b 0) (base_out Absent m (omega arith)) (length_out Absent m (omega arith))
-  place_good (Present base length) h =
-      ap (λ (n : ℕ). not (eqb n 0) || eqb begins 0) (length_out (Present base length) m h.ends)
-      ∙ ap (λ (t : Bool). not t || eqb begins 0) (ne_eqb length 0 (above length h.some))
+  place_good None h =
+      ap₂ (λ (b n : ℕ). not (eqb n 0) || eqb b 0) (base_out None m (omega arith)) (length_out None m (omega arith))
+  place_good (Some span) h =
+      ap (λ (n : ℕ). not (eqb n 0) || eqb begins 0) (length_out (present_at span.base span.length) m h.ends)
+      ∙ ap (λ (t : Bool). not t || eqb begins 0) (ne_eqb span.length 0 (above span.length h.some))
     where
       begins : ℕ
-      begins = base_in (place_out (Present base length) ++ m)
+      begins = base_in (place_out (present_at span.base span.length) ++ m)
 
 -- ---- a segment
 

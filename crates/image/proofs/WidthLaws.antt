@@ -12,8 +12,7 @@ use borrow.Author.Tests.{eqb-true, le-ltb, not-false}
 use Rattle.loops.specs.Turns.{turns}
 use Rattle.loops.proofs.TurnLaws.{turns_more}
 use Rattle.sizes.specs.Sizes.{segments}
-use Rattle.store.specs.declared.Place.{Place}
-use Rattle.store.specs.declared.Place.TheVariants.{Absent, Present}
+use Rattle.store.specs.Places.{Place, None, Some}
 use Rattle.store.specs.Records.{table_of, place_of}
 use Rattle.store.specs.Sound.{in_ranges, ends_inside, inside, is_absent, is_width, sized}
 use Rattle.store.specs.inner.Passes.{Map, stamped, stamped_by}
@@ -52,8 +51,8 @@ turns_rest f a w (suc d) h =
 
 absent_leaves : (p : Place) (map : Map) → is_absent p ≡ true → stamped p map ≡ map
 unfolding stamped inside in_ranges ends_inside
-absent_leaves Absent map e = refl
-absent_leaves (Present base size) map e = absurd (true≢false (sym e))
+absent_leaves None map e = refl
+absent_leaves (Some span) map e = absurd (true≢false (sym e))
 
 -- ---- the segments of a record
 

@@ -7,8 +7,7 @@ use native.Mathlib.Omega.{arith}
 use mathlib.Core.List.{List}
 use lib.ListN.{get_or}
 use Rattle.bits.specs.Bytes.{bytes}
-use Rattle.store.specs.declared.Place.{Place}
-use Rattle.store.specs.declared.Place.TheVariants.{Absent, Present}
+use Rattle.store.specs.Places.{Place, None, Some}
 use Rattle.store.specs.declared.Segment.{Segment}
 use Rattle.store.specs.declared.Store.{Store}
 use Rattle.store.specs.Records.{absent_segment, cluster_at, base_of, length_of}
@@ -25,13 +24,13 @@ use Rattle.image.proofs.TripLaws.{low_byte, segment_at_lem, read_in, write_in, s
 
 base_low : (p : Place) → PlaceFits p → base_of p < 65536
 unfolding PlaceFits
-base_low Absent h = omega arith
-base_low (Present base length) h = h.starts
+base_low None h = omega arith
+base_low (Some span) h = h.starts
 
 length_low : (p : Place) → PlaceFits p → length_of p < 65536
 unfolding PlaceFits
-length_low Absent h = omega arith
-length_low (Present base length) h = h.ends
+length_low None h = omega arith
+length_low (Some span) h = h.ends
 
 high : (n : ℕ) → n < 65536 → n / 256 % 256 ≡ n / 256
 high n h = omega arith

@@ -29,8 +29,7 @@ use Rattle.bits.specs.Bytes.{bytes, word}
 use Rattle.loops.specs.Below.{every}
 use Rattle.loops.specs.Tabulate.{tabulate}
 use Rattle.sizes.specs.Sizes.{records, segments, password_bytes}
-use Rattle.store.specs.declared.Place.{Place}
-use Rattle.store.specs.declared.Place.TheVariants.{Absent, Present}
+use Rattle.store.specs.Places.{Place, None, present_at}
 use Rattle.store.specs.declared.Segment.{Segment}
 use Rattle.store.specs.declared.Cluster.{Cluster}
 use Rattle.store.specs.declared.Store.{Store}
@@ -90,8 +89,8 @@ abbrev pub mark_in : List ℕ → ℕ
 mark_in b = get_or b mark_at 0
 
 abbrev pub place_with : Bool → ℕ → ℕ → Place
-place_with true base length = Absent
-place_with false base length = Present base length
+place_with true base length = None
+place_with false base length = present_at base length
 
 unfoldable pub place_in : List ℕ → Place
 place_in b = place_with (eqb (length_in b) 0) (base_in b) (length_in b)

@@ -24,7 +24,7 @@
 --                     four its segment 5 is above the width, and 0, 5, 17 and 255 are no widths. An inactive cluster has 0
 -- Assumes nothing.
 use Rattle.std.specs.Prelude.{ℕ, ◌≡◌, true, false, List, [], ◌∷◌, ◌++◌, map, replicate}
-use Rattle.store.specs.declared.Place.TheVariants.{Absent, Present}
+use Rattle.store.specs.Places.{None, present_at}
 use Rattle.store.specs.declared.Segment.{Segment}
 use Rattle.store.specs.declared.Cluster.{Cluster}
 use Rattle.store.specs.declared.Store.{Store}
@@ -34,7 +34,7 @@ use Rattle.image.specs.Images.{store_in, good, image_of}
 -- ---- the store
 
 abbrev absent : Segment
-absent = record { place = Absent; frozen = false }
+absent = record { place = None; frozen = false }
 
 abbrev empty : Cluster
 empty =
@@ -48,7 +48,7 @@ small =
       read = replicate 16 0x21;
       write = replicate 16 0x22;
       segments =
-          replicate 3 absent ++ (record { place = Present 0x0a0b 0x0001; frozen = false } ∷ replicate 12 absent);
+          replicate 3 absent ++ (record { place = present_at 0x0a0b 0x0001; frozen = false } ∷ replicate 12 absent);
     }
 
 abbrev used : ℕ → Segment → Cluster
@@ -62,9 +62,9 @@ used v g =
           absent
           ∷ absent
           ∷ absent
-          ∷ record { place = Present 0x0102 0x0304; frozen = false }
+          ∷ record { place = present_at 0x0102 0x0304; frozen = false }
           ∷ g
-          ∷ record { place = Present 0x0506 0x0708; frozen = true }
+          ∷ record { place = present_at 0x0506 0x0708; frozen = true }
           ∷ replicate 10 absent;
     }
 
@@ -77,8 +77,8 @@ large =
       write = replicate 16 0x32;
       segments =
           replicate 8 absent
-          ++ (record { place = Present 0x0c0d 0x000e; frozen = false } ∷ replicate 6 absent)
-          ++ (record { place = Present 0x0fff 0x0001; frozen = true } ∷ []);
+          ++ (record { place = present_at 0x0c0d 0x000e; frozen = false } ∷ replicate 6 absent)
+          ++ (record { place = present_at 0x0fff 0x0001; frozen = true } ∷ []);
     }
 
 abbrev pub sample : ℕ → Segment → Store
@@ -145,8 +145,8 @@ pub record DamagedBytes : Type 0 where
   pub marked : good (sample_bytes 1 8 0 0 2) ≡ false
   pub full : good (sample_bytes 1 8 0 0 255) ≡ false
   pub absent_mark : good (sample_bytes 1 8 0 1 1) ≡ true
-  pub held : store_in (sample_bytes 1 8 0 1 1) ≡ sample 8 (record { place = Absent; frozen = true })
-  pub unsound : sound (sample 8 (record { place = Absent; frozen = true })) 16384 ≡ false
+  pub held : store_in (sample_bytes 1 8 0 1 1) ≡ sample 8 (record { place = None; frozen = true })
+  pub unsound : sound (sample 8 (record { place = None; frozen = true })) 16384 ≡ false
   pub sound : sound (sample 8 absent) 16384 ≡ true
 
 pub record DamagedWidths : Type 0 where

@@ -8,8 +8,7 @@
 -- Assumes nothing.
 use Rattle.std.specs.Prelude.{◌≡◌, ℕ, ◌^◌, ◌≤◌, ◌<◌, length}
 use Rattle.sizes.specs.Sizes.{records, segments, password_bytes}
-use Rattle.store.specs.declared.Place.{Place}
-use Rattle.store.specs.declared.Place.TheVariants.{Absent, Present}
+use Rattle.store.specs.Places.{Place, None, Some}
 use Rattle.store.specs.declared.Cluster.{Cluster}
 use Rattle.store.specs.declared.Store.{Store}
 use Rattle.store.specs.Records.{cluster_at, table_of, place_of}
@@ -27,8 +26,8 @@ pub record WordsFit (base length : ℕ) : Type 0 where
   pub ends : length < words
 
 unfoldable pub PlaceFits : Place → Type 0
-PlaceFits Absent = Unit {0}
-PlaceFits (Present base length) = WordsFit base length
+PlaceFits None = Unit {0}
+PlaceFits (Some span) = WordsFit span.base span.length
 
 pub record ClusterFits (c : Cluster) : Type 0 where
   pub wide : c.width < widths

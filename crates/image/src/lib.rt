@@ -5,7 +5,7 @@ ghost use Rattle.std.specs.Prelude.{◌≡◌, true};
 ghost use Rattle.store.specs.Records.{put_record};
 ghost use Rattle.image.specs.Images as images;
 
-use store::{Cluster, Found};
+use store::Cluster;
 
 mod reading; // reading.rt: from bytes
 mod soundness; // soundness.rt: the test of the store, and the base of a new segment, on bytes
@@ -32,13 +32,6 @@ const SEGMENTS_AT: usize = 34;
 
 // Where the mark stands in a segment, after base and length.
 const MARK_AT: usize = 4;
-
-// What was judged of an image: whether it holds a sound store, and the base of a new segment, nowhere where it does not.
-#[derive(Clone, Copy)]
-pub struct Judged {
-    pub sound: bool,
-    pub found: Found,
-}
 
 // Replaces one record; past the last there is none. The image of a store becomes that of the store with the record replaced.
 pub fn put_record_in(cluster: Cluster, at: usize, image: &mut [u8; IMAGE])

@@ -1,60 +1,48 @@
 // To bytes: segments and a record, each over a part of the image.
 ghost use Rattle.std.specs.Prelude.{◌≡◌, true, ◌*◌, length};
-ghost use Rattle.sizes.specs.Sizes.{segments, password_bytes};
+ghost use Rattle.sizes.specs.Sizes.{segments};
 ghost use Rattle.store.specs.Records.{put_record};
 ghost use Rattle.image.specs.Images as images;
 
-use crate::{MARK_AT, READ_AT, RECORD, SEGMENT, SEGMENTS_AT, WIDTH_AT, WRITE_AT};
-use bits::BYTE;
-use sizes::{PASSWORD_BYTES, Password, RECORDS, SEGMENTS};
+use crate::{READ_AT, RECORD, SEGMENT, SEGMENTS_AT, WIDTH_AT, WRITE_AT};
+use sizes::{RECORDS, SEGMENTS};
 use store::{Cluster, Segment};
 
-// Base and length, two bytes each, high byte first, zeros for an absent segment; and the mark.
-fn put_segment(segment: Segment, out: &mut [u8])
-    requires { length out.old ≡ images.segment_bytes }
-    ensures { out.new ≡ images.segment_out segment }
+// The five bytes of a segment: base and length, two bytes each, high byte first, zeros for an absent segment; and the mark.
+fn segment_out(segment: Segment) -> [u8; SEGMENT]
+    ensures { result ≡ images.segment_out segment }
 {
-    let place = segment.place;
-    let base = store::base_of(place);
-    let length = store::length_of(place);
-    out[0] = (base / BYTE) as u8;
-    out[1] = (base % BYTE) as u8;
-    out[2] = (length / BYTE) as u8;
-    out[3] = (length % BYTE) as u8;
-    out[MARK_AT] = segment.frozen as u8;
+    let [base_high, base_low] = store::base_of(segment.place).to_be_bytes();
+    let [length_high, length_low] = store::length_of(segment.place).to_be_bytes();
+    [
+        base_high,
+        base_low,
+        length_high,
+        length_low,
+        segment.frozen as u8,
+    ]
 }
 
+// Stays: over a slice. What the slice ends as after `as_chunks_mut` no proof is told, and `first_chunk_mut` may find none.
 fn put_segments(table: [Segment; SEGMENTS], out: &mut [u8])
     requires { length out.old ≡ segments * images.segment_bytes }
     ensures { out.new ≡ images.segments_out table }
 {
-    for i in 0..SEGMENTS {
-        let segment = table[i];
+    for (i, segment) in table.iter().enumerate() {
         let from = i * SEGMENT;
         let to = from + SEGMENT;
-        put_segment(segment, &mut out[from..to]);
+        out[from..to].copy_from_slice(&segment_out(*segment));
     }
 }
 
-fn put_password(password: Password, out: &mut [u8])
-    requires { length out.old ≡ password_bytes }
-    ensures { out.new ≡ password }
-{
-    for i in 0..PASSWORD_BYTES {
-        out[i] = password[i];
-    }
-}
-
+// Stays: over a slice, as `put_segments` is.
 fn put_record(cluster: Cluster, out: &mut [u8])
     requires { length out.old ≡ images.record_bytes }
     ensures { out.new ≡ images.record_out cluster }
 {
-    let read = cluster.read;
-    let write = cluster.write;
-    let segments = cluster.segments;
-    put_password(read, &mut out[READ_AT..WRITE_AT]);
-    put_password(write, &mut out[WRITE_AT..SEGMENTS_AT]);
-    put_segments(segments, &mut out[SEGMENTS_AT..RECORD]);
+    out[READ_AT..WRITE_AT].copy_from_slice(&cluster.read);
+    out[WRITE_AT..SEGMENTS_AT].copy_from_slice(&cluster.write);
+    put_segments(cluster.segments, &mut out[SEGMENTS_AT..RECORD]);
     out[0] = cluster.active as u8;
     out[WIDTH_AT] = cluster.width;
 }

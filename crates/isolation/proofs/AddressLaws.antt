@@ -9,8 +9,7 @@ use mathlib.Core.Option.{some}
 use Prim.Native.Nat.{ℕ, ◌+◌, ◌≤◌, ◌<◌}
 use native.Mathlib.Omega.{arith}
 use Rattle.sizes.specs.Sizes.{nodes, clusters, records, segments, memory}
-use Rattle.store.specs.declared.Place.{Place}
-use Rattle.store.specs.declared.Place.TheVariants.{Absent, Present}
+use Rattle.store.specs.Places.{Place, None, Some, present_at}
 use Rattle.store.specs.declared.Store.{Store}
 use Rattle.store.specs.Records.{record_of, table_at, segment_of, place_at, place_on, base_of, length_of, address}
 use Rattle.store.specs.Sound.{inside, apart}
@@ -22,26 +21,26 @@ use Rattle.isolation.specs.Copies.{InPlace, set_apart, Outside}
 
 pub in_place : (v : ℕ) (p : Place) (a : ℕ) → address v (base_of p) ≤ a → a < address v (base_of p) + length_of p
     → InPlace v p a
-in_place v Absent a lo hi = absurd (omega arith)
-in_place v (Present base size) a lo hi = (lo, hi)
+in_place v None a lo hi = absurd (omega arith)
+in_place v (Some span) a lo hi = (lo, hi)
 
 pub place_fits : (v : ℕ) (p : Place) → v < nodes → inside p ≡ true → address v (base_of p) + length_of p ≤ memory
-place_fits v Absent h s = omega arith
-place_fits v (Present base size) h s = let i = inside_out base size s in omega arith
+place_fits v None h s = omega arith
+place_fits v (Some span) h s = let i = inside_out span.base span.length s in omega arith
 
 pub disjoint : (v w : ℕ) (p q : Place) → inside p ≡ true → inside q ≡ true → (v ≡ w → apart p q ≡ true) → (a : ℕ)
     → InPlace v p a → InPlace w q a → ⊥
-disjoint v w Absent q s t h a u z = u
-disjoint v w (Present b l) Absent s t h a u z = z
-disjoint v w (Present b l) (Present b' l') s t h a u z =
-    let i = inside_out b l s in
-    let j = inside_out b' l' t in
+disjoint v w None q s t h a u z = u
+disjoint v w (Some span) None s t h a u z = z
+disjoint v w (Some span) (Some span') s t h a u z =
+    let i = inside_out span.base span.length s in
+    let j = inside_out span'.base span'.length t in
     let u0 = u.0 in
     let u1 = u.1 in
     let z0 = z.0 in
     let z1 = z.1 in
     let e : v ≡ w = omega arith in
-    true≢false (sym (h e) ∙ apart_off b l b' l' (omega arith) (omega arith))
+    true≢false (sym (h e) ∙ apart_off span.base span.length span'.base span'.length (omega arith) (omega arith))
 
 module _ (s : Store) (size : ℕ) (r : Sound s size) where
   pub place_inside : (n i : ℕ) → n < records → i < segments → inside (place_at (table_at s) n i) ≡ true
@@ -59,12 +58,12 @@ module _ (s : Store) (size : ℕ) (r : Sound s size) where
         a u z
 
     pub room_outside : (v base length : ℕ) → new_base (table_at s) v length ≡ some base → (a : ℕ)
-        → InPlace v (Present base length) a → Outside node local (table_at s) a
+        → InPlace v (present_at base length) a → Outside node local (table_at s) a
     room_outside v base length q a u j hj z =
         let f = new_base_fits (table_at s) v length base q in
-        disjoint v node (Present base length) (place_on (table_at s) node local j) f.within
+        disjoint v node (present_at base length) (place_on (table_at s) node local j) f.within
         (place_inside (set_apart node local) j (omega arith) hj)
         (λ e.
-        ap (λ (k : ℕ). apart (Present base length) (place_on (table_at s) k local j)) (sym e)
+        ap (λ (k : ℕ). apart (present_at base length) (place_on (table_at s) k local j)) (sym e)
         ∙ f.free local j low hj)
         a u z

@@ -10,7 +10,7 @@ use mathlib.Core.List.{List}
 use lib.ListN.{length, take, replicate, length-set}
 use Rattle.sizes.specs.Sizes.{nodes, clusters}
 use Rattle.handle.specs.Handles.{Name}
-use Rattle.store.specs.declared.Place.TheVariants.{Absent}
+use Rattle.store.specs.Places.{None}
 use Rattle.store.specs.declared.Cluster.{Cluster}
 use Rattle.store.specs.declared.Store.{Store}
 use Rattle.store.specs.Records.{Table, Tables, inactive, started, table_of, table_at, place_of, put_record}
@@ -130,7 +130,7 @@ module _ (node local : ℕ) (high : node < nodes) (low : local < clusters) (f : 
       change node local a b al (call delete_cluster g) (λ d. inactive) (elsewhere delete_cluster refl e h)
   left_alike new_segment h e = made_alike e (elsewhere new_segment refl e h)
   left_alike delete_segment h e =
-      change node local a b al (call delete_segment g) (λ d. with_place d g.segment Absent)
+      change node local a b al (call delete_segment g) (λ d. with_place d g.segment None)
       (elsewhere delete_segment refl e h)
   left_alike read h e = al
   left_alike write h e = written_alike e

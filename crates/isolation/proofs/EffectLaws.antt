@@ -11,8 +11,7 @@ use mathlib.Core.List.{List, ◌++◌}
 use lib.ListN.{length, get_or, set, take, drop, replicate, length-replicate, get_or-eq_default}
 use lib.Seq.{get_or-set_same, set_out}
 use Rattle.handle.specs.Handles.{Name}
-use Rattle.store.specs.declared.Place.{Place}
-use Rattle.store.specs.declared.Place.TheVariants.{Absent}
+use Rattle.store.specs.Places.{Place, None}
 use Rattle.store.specs.declared.Segment.{Segment}
 use Rattle.store.specs.declared.Cluster.{Cluster}
 use Rattle.store.specs.Records.{Tables, segment_at, absent_segment, inactive, table_of, record_of, cluster_at, place_of, place_at}
@@ -151,6 +150,6 @@ module _ (f : Name → List ℕ → ℕ → List ℕ) where
       let x : Call = call delete_segment g in
       ap (λ (o : Outcome). place_for x (tables o.copy)) (step_done f x c e)
       ∙ ap (λ (d : Cluster). place_of (table_of d) g.segment)
-      (put_same c.store (record_for x) (with_place (about x c) g.segment Absent)
+      (put_same c.store (record_for x) (with_place (about x c) g.segment None)
       (active_in c.store (record_for x) (done_active f x c.store (length c.memory) e refl)))
       ∙ ap (λ (z : Segment). z.place) (absent_set (about x c).segments g.segment)

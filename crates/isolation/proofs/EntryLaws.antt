@@ -10,8 +10,7 @@ use mathlib.Core.List.{List}
 use lib.ListN.{length, get_or}
 use lib.Seq.{get_or-set_same, get_or-set_other, set_out}
 use Rattle.handle.specs.Handles.{Name}
-use Rattle.store.specs.declared.Place.{Place}
-use Rattle.store.specs.declared.Place.TheVariants.{Absent}
+use Rattle.store.specs.Places.{Place, None}
 use Rattle.store.specs.declared.Segment.{Segment}
 use Rattle.store.specs.declared.Cluster.{Cluster}
 use Rattle.store.specs.declared.Store.{Store}
@@ -131,7 +130,7 @@ module _ (f : Name → List ℕ → ℕ → List ℕ) (g : Arguments) (c : Copy)
       (entries_same new_segment x (about x c)) (placed x (about x c) (segment_at p))
   left_entries delete_segment e =
       let x : Call = call delete_segment g in
-      by_cases (OtherSegments x (about x c)) c.store (record_for x) (with_place (about x c) g.segment Absent)
+      by_cases (OtherSegments x (about x c)) c.store (record_for x) (with_place (about x c) g.segment None)
       (entries_same delete_segment x (about x c)) (placed x (about x c) absent_segment)
   left_entries read e = refl
   left_entries write e = refl

@@ -15,8 +15,7 @@ use borrow.Author.Tests.{not-false, not-true}
 use Rattle.loops.proofs.BelowLaws.{every_at}
 use Rattle.sizes.specs.Sizes.{segments}
 use Rattle.handle.specs.Handles.{Name}
-use Rattle.store.specs.declared.Place.{Place}
-use Rattle.store.specs.declared.Place.TheVariants.{Present}
+use Rattle.store.specs.Places.{Place, present_at}
 use Rattle.store.specs.declared.Segment.{Segment}
 use Rattle.store.specs.declared.Cluster.{Cluster}
 use Rattle.store.specs.declared.Store.{Store}
@@ -45,7 +44,7 @@ module _ (f : Name → List ℕ → ℕ → List ℕ) (v l i base size : ℕ) (h
 
   -- the segment is present there, and frozen
   record Published (c : Copy) : Type 0 where
-    present : place_of (tables c n) i ≡ Present base size
+    present : place_of (tables c n) i ≡ present_at base size
     marked : frozen_of (tables c n) i ≡ true
 
   module _ (c : Copy) (k : SoundCopy c) (p : Published c) where
@@ -222,7 +221,7 @@ module _ (f : Name → List ℕ → ℕ → List ℕ) where
       k : SoundCopy c
       k = not-false (sound c.store (length c.memory)) (no_row f (call freeze g) c.store (length c.memory) e).unsound
 
-      fixed : (base size : ℕ) → place_at c.store (node_for (call freeze g)) (local_for (call freeze g)) g.segment ≡ Present base size
+      fixed : (base size : ℕ) → place_at c.store (node_for (call freeze g)) (local_for (call freeze g)) g.segment ≡ present_at base size
           → Fixed (node_for (call freeze g)) (local_for (call freeze g)) g.segment base size c (run f (call freeze g ∷ xs) c).copy
       fixed base size q =
           let r = done_range f (call freeze g) c.store (length c.memory) e in

@@ -6,10 +6,9 @@ use Prim.Native.Nat.{ℕ, zero, suc, ◌<◌}
 use native.Mathlib.Omega.{arith}
 use lib.ListN.{get_or, replicate}
 use lib.Seq.{get_or-set_same}
-use Rattle.store.specs.declared.Place.TheVariants.{Present}
+use Rattle.store.specs.Places.{Place, present_at}
 use Rattle.store.specs.declared.Segment.{Segment}
 use Rattle.store.specs.declared.Cluster.{Cluster}
-use Rattle.store.specs.declared.Place.{Place}
 use Rattle.store.specs.Records.{segment_at, absent_segment, starting_store, table_at, place_at}
 use Rattle.store.proofs.ChangeLaws.{put_other}
 use Rattle.calls.specs.Calls.{Copy}
@@ -24,10 +23,10 @@ four n i r w b (suc (suc (suc zero))) l = refl
 four n i r w b (suc (suc (suc (suc p)))) l = absurd (omega arith)
 
 module _ (n i : ℕ) (hi : i < 16) where
-  pub placed : (r w b : ℕ) → place_at (table_at (holding_of n i r w b).store) 2 i ≡ Present 0 4
+  pub placed : (r w b : ℕ) → place_at (table_at (holding_of n i r w b).store) 2 i ≡ present_at 0 4
   placed r w b =
       ap (λ (s : Segment). s.place)
-      (get_or-set_same (replicate 16 absent_segment) i (segment_at (Present 0 4)) absent_segment (omega arith))
+      (get_or-set_same (replicate 16 absent_segment) i (segment_at (present_at 0 4)) absent_segment (omega arith))
 
   -- the four bytes are the segment's
   pub within : (r w b p : ℕ) → p < 4 → InPlace 0 (place_at (table_at (holding_of n i r w b).store) 2 i) p

@@ -14,7 +14,7 @@ use Rattle.store.specs.declared.Cluster.{Cluster}
 use Rattle.store.specs.declared.Store.{Store}
 use Rattle.store.specs.Records.{Tables, cluster_at, put_record, length_of, primary_of}
 use Rattle.store.proofs.ChangeLaws.{put_other, put_same, put_out}
-use Rattle.calls.specs.declared.Looked.{Looked}
+use Rattle.calls.specs.Looks.{Looked}
 use Rattle.calls.specs.Calls.{Copy, Call, call, Arguments, Kind, new_cluster, delete_cluster, new_segment, delete_segment}
 use Rattle.calls.specs.Calls.{read, write, weaken, reduce, new_password, freeze, join, validate, look, is_look, among, opens, uses}
 use Rattle.calls.specs.Calls.{handle_of, other_of, buffer, node_for, place_for, start_for, part_for}

@@ -10,8 +10,7 @@ use lib.ListN.{length, get_or, take, drop, length-append, length-drop, get_or-ap
 use lib.Seq.{length-take-le, get_or-take, get_or-drop, get_or-append-add}
 use borrow.Author.Tests.{ltb-false, not-false}
 use Rattle.handle.specs.Handles.{Name}
-use Rattle.store.specs.declared.Place.{Place}
-use Rattle.store.specs.declared.Place.TheVariants.{Absent, Present}
+use Rattle.store.specs.Places.{Place, None, Some, present_at}
 use Rattle.store.specs.Records.{table_at, base_of, length_of, address}
 use Rattle.store.specs.Sound.{is_absent, sound}
 use Rattle.calls.specs.Calls.{Copy, Call, call, Arguments, read, node_for, place_for}
@@ -86,31 +85,31 @@ module _ (f : Name → List ℕ → ℕ → List ℕ) (g : Arguments) (c : Copy)
   fits = segment_fits f g c sound_copy x (done_range f x c.store (length c.memory) e) (low_segment f g c sound_copy read refl e)
 
   read_gives_at : (p : Place) → place_for x (table_at c.store) ≡ p → is_absent p ≡ false → Read g c (step f x c).reply
-  read_gives_at Absent q h = absurd (true≢false h)
-  read_gives_at (Present base size) q h =
+  read_gives_at None q h = absurd (true≢false h)
+  read_gives_at (Some span) q h =
       record {
-        base = base;
-        size = size;
+        base = span.base;
+        size = span.length;
         place = q;
-        told = whole ∙ ap (λ (b : List ℕ). read_reply size b) (sym buffer);
-        long = ap length buffer ∙ length_joined c.memory g.bytes at size fit enough;
-        segment = λ i l. ap (λ (b : List ℕ). get_or b i 0) buffer ∙ joined_first c.memory g.bytes at size fit enough i l;
-        rest = λ i l. ap (λ (b : List ℕ). get_or b i 0) buffer ∙ joined_rest c.memory g.bytes at size fit enough i l;
+        told = whole ∙ ap (λ (b : List ℕ). read_reply span.length b) (sym buffer);
+        long = ap length buffer ∙ length_joined c.memory g.bytes at span.length fit enough;
+        segment = λ i l. ap (λ (b : List ℕ). get_or b i 0) buffer ∙ joined_first c.memory g.bytes at span.length fit enough i l;
+        rest = λ i l. ap (λ (b : List ℕ). get_or b i 0) buffer ∙ joined_rest c.memory g.bytes at span.length fit enough i l;
       }
     where
       at : ℕ
-      at = address (node_for x) base
+      at = address (node_for x) span.base
 
-      whole : (step f x c).reply ≡ at_place (Present base size)
+      whole : (step f x c).reply ≡ at_place (present_at span.base span.length)
       whole = reply_is ∙ ap at_place q
 
-      buffer : (step f x c).reply.buffer ≡ joined c.memory g.bytes at size
+      buffer : (step f x c).reply.buffer ≡ joined c.memory g.bytes at span.length
       buffer = ap (λ (r : Reply). r.buffer) whole
 
-      fit : at + size ≤ length c.memory
+      fit : at + span.length ≤ length c.memory
       fit = subst (λ (p : Place). address (node_for x) (base_of p) + length_of p ≤ length c.memory) q fits
 
-      enough : size ≤ length g.bytes
+      enough : span.length ≤ length g.bytes
       enough = subst (λ (p : Place). length_of p ≤ length g.bytes) q room
 
 pub read_gives : (f : Name → List ℕ → ℕ → List ℕ) → ReadGives f

@@ -13,7 +13,7 @@ use Rattle.loops.proofs.BelowLaws.{and_left, and_right}
 use Rattle.handle.specs.Handles.{Name}
 use Rattle.store.specs.declared.Store.{Store}
 use Rattle.store.specs.Records.{table_at, read_mode, write_mode}
-use Rattle.calls.specs.declared.Looked.{Looked}
+use Rattle.calls.specs.Looks.{Looked}
 use Rattle.calls.specs.Calls.{Copy, Call, is_look}
 use Rattle.calls.specs.Steps.{Reply, Outcome, Ran, followed, run_by, outcome, step, run}
 use Rattle.calls.specs.Looks.{looked_by, looked}

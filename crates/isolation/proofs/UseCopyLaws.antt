@@ -16,8 +16,7 @@ use borrow.Author.Tests.{leb-true, eqb-true, ltb-true, ltb-false}
 use Rattle.loops.specs.Below.{every}
 use Rattle.loops.proofs.BelowLaws.{and_left, and_right, every_at, every_pair_at}
 use Rattle.sizes.specs.Sizes.{nodes, clusters, segments}
-use Rattle.store.specs.declared.Place.{Place}
-use Rattle.store.specs.declared.Place.TheVariants.{Absent, Present}
+use Rattle.store.specs.Places.{Place, None, Some, present_at}
 use Rattle.store.specs.Records.{record_of, table_at, place_at, place_on}
 use Rattle.store.proofs.QuickLaws.{quick, quickly, sound_quick}
 use Rattle.store.proofs.ChangeLaws.{put_other}
@@ -47,15 +46,15 @@ top_low of_sixteen = omega arith
 
 -- a place that is absent, or begins at lo or after and ends at hi or before
 abbrev between : ℕ → ℕ → Place → Bool
-between lo hi Absent = true
-between lo hi (Present base size) = leb lo base && leb (base + size) hi
+between lo hi None = true
+between lo hi (Some span) = leb lo span.base && leb (span.base + span.length) hi
 
 in_between : (node lo hi : ℕ) (q : Place) (p : ℕ) → between lo hi q ≡ true → InPlace node q p
     → (node * 4096 + lo ≤ p) × (p < node * 4096 + hi)
-in_between node lo hi Absent p e u = absurd u
-in_between node lo hi (Present base size) p e (l, h) =
-    let from = leb-true lo base (and_left (leb lo base) (leb (base + size) hi) e) in
-    let to = leb-true (base + size) hi (and_right (leb lo base) (leb (base + size) hi) e) in
+in_between node lo hi None p e u = absurd u
+in_between node lo hi (Some span) p e (l, h) =
+    let from = leb-true lo span.base (and_left (leb lo span.base) (leb (span.base + span.length) hi) e) in
+    let to = leb-true (span.base + span.length) hi (and_right (leb lo span.base) (leb (span.base + span.length) hi) e) in
     (omega arith, omega arith)
 
 module _ (v : Wide) (r w : List ℕ) where
@@ -70,11 +69,11 @@ module _ (v : Wide) (r w : List ℕ) where
       in_between 3 0 6 (place_at (table_at (records v r w)) 31 i) p
       (every_at segments (λ j. between 0 6 (place_at (table_at (records v r w)) 31 j)) its_ends i hi) u
 
-  pub its_top : place_at (table_at (records v r w)) 31 (top v) ≡ Present 0 4
-  its_top = elim v as (λ (u : Wide). place_at (table_at (records u r w)) 31 (top u) ≡ Present 0 4) [ of_four ↦ refl | of_eight ↦ refl | of_sixteen ↦ refl ]
+  pub its_top : place_at (table_at (records v r w)) 31 (top v) ≡ present_at 0 4
+  its_top = elim v as (λ (u : Wide). place_at (table_at (records u r w)) 31 (top u) ≡ present_at 0 4) [ of_four ↦ refl | of_eight ↦ refl | of_sixteen ↦ refl ]
 
-  pub its_first : place_at (table_at (records v r w)) 31 0 ≡ Present 4 2
-  its_first = elim v as (λ (u : Wide). place_at (table_at (records u r w)) 31 0 ≡ Present 4 2) [ of_four ↦ refl | of_eight ↦ refl | of_sixteen ↦ refl ]
+  pub its_first : place_at (table_at (records v r w)) 31 0 ≡ present_at 4 2
+  its_first = elim v as (λ (u : Wide). place_at (table_at (records u r w)) 31 0 ≡ present_at 4 2) [ of_four ↦ refl | of_eight ↦ refl | of_sixteen ↦ refl ]
 
   pub in_top : (q : ℕ) → q < 4 → InPlace 3 (place_at (table_at (records v r w)) 31 (top v)) (12288 + q)
   in_top q l = subst (λ (p : Place). InPlace 3 p (12288 + q)) (sym its_top) (omega arith, omega arith)

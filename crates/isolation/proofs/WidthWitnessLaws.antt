@@ -12,7 +12,7 @@ use Rattle.loops.specs.Tabulate.{tabulate}
 use Rattle.sizes.specs.Sizes.{memory}
 use Rattle.handle.specs.Handles.{Name, decoded}
 use Rattle.handle.proofs.CodecLaws.{listed}
-use Rattle.store.specs.declared.Place.TheVariants.{Present}
+use Rattle.store.specs.Places.{present_at}
 use Rattle.store.specs.declared.Store.{Store}
 use Rattle.store.specs.Records.{started, table_at, put_record, with_place, Table}
 use Rattle.store.proofs.QuickLaws.{quick, quickly, sound_quick}
@@ -87,7 +87,7 @@ module _ (f : Name → List ℕ → ℕ → List ℕ) where
   -- the records that they leave: the other cluster has its segment
   abbrev records : Sort → Store
   records v =
-      put_record (one v).store 3 (with_place (started (width (turned v)) (sixteen 3) (sixteen 4)) (top (turned v)) (Present 4 2))
+      put_record (one v).store 3 (with_place (started (width (turned v)) (sixteen 3) (sixteen 4)) (top (turned v)) (present_at 4 2))
 
   records_before : (v : Sort) → (left v).store ≡ records v
   unfolding effects computing

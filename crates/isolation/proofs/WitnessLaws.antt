@@ -17,7 +17,7 @@ use Rattle.loops.proofs.TabulateLaws.{get_d_tabulate}
 use Rattle.sizes.specs.Sizes.{memory}
 use Rattle.handle.specs.Handles.{Name, decoded}
 use Rattle.handle.proofs.CodecLaws.{listed}
-use Rattle.store.specs.declared.Place.TheVariants.{Present}
+use Rattle.store.specs.Places.{present_at}
 use Rattle.store.specs.declared.Store.{Store}
 use Rattle.store.specs.Records.{started, table_at, place_on, put_record, with_place, with_mark}
 use Rattle.store.proofs.QuickLaws.{quick, quickly, sound_quick}
@@ -88,8 +88,8 @@ module _ (f : Name → List ℕ → ℕ → List ℕ) where
   -- the records before the last calls: the other node's cluster has its segment, and the one that is frozen stays
   abbrev records : Store
   records =
-      put_record (put_record one.store 4 (with_mark (with_place (started 8 (sixteen 3) (sixteen 4)) 6 (Present 4 1)) 6)) 26
-      (with_place (started 8 (sixteen 3) (sixteen 4)) 7 (Present 0 2))
+      put_record (put_record one.store 4 (with_mark (with_place (started 8 (sixteen 3) (sixteen 4)) 6 (present_at 4 1)) 6)) 26
+      (with_place (started 8 (sixteen 3) (sixteen 4)) 7 (present_at 0 2))
 
   records_before : left.store ≡ records
   unfolding effects computing

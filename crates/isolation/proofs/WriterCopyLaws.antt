@@ -10,7 +10,7 @@ use mathlib.Core.Bool.{true}
 use lib.ListN.{length, get_or, replicate, get_or-replicate}
 use lib.Seq.{get_or-set_other}
 use Rattle.sizes.specs.Sizes.{nodes, clusters, records, segments}
-use Rattle.store.specs.declared.Place.TheVariants.{Present}
+use Rattle.store.specs.Places.{present_at}
 use Rattle.store.specs.declared.Segment.{Segment}
 use Rattle.store.specs.declared.Cluster.{Cluster}
 use Rattle.store.specs.Records.{segment_at, absent_segment, inactive, starting_store, table_of, record_of, no_cluster, cluster_at}
@@ -39,14 +39,14 @@ module _ (r v l i p : ℕ) (hv : v < nodes) (hl : l < clusters) (ne : record_of 
     where
       by_segment : record_of v l ≡ 10 → Dec (i ≡ 0) → InPlace v (place_of (table_of tenth) i) p → (4096 ≤ p) × (p < 4098)
       by_segment q (yes e) w =
-          let here : InPlace v (Present 0 2) p = subst (λ (k : ℕ). InPlace v (place_of (table_of tenth) k) p) e w in
+          let here : InPlace v (present_at 0 2) p = subst (λ (k : ℕ). InPlace v (place_of (table_of tenth) k) p) e w in
           let lo = here.0 in
           let hi = here.1 in
           (omega arith, omega arith)
       by_segment q (no e) w =
           absurd (vacant v i p
           (subst (λ (g : Segment). InPlace v g.place p)
-          (get_or-set_other (replicate segments absent_segment) 0 i (segment_at (Present 0 2)) absent_segment e) w))
+          (get_or-set_other (replicate segments absent_segment) 0 i (segment_at (present_at 0 2)) absent_segment e) w))
 
       by_record : (cluster_at (put_record starting_store 10 tenth) (record_of v l) ≡ cluster_at starting_store (record_of v l))
           ⊎ ((record_of v l ≡ 10) × (cluster_at (put_record starting_store 10 tenth) (record_of v l) ≡ tenth))

@@ -31,12 +31,11 @@ use Rattle.handle.specs.declared.Handle.{Handle}
 use Rattle.handle.specs.Selectors.{gapped}
 use Rattle.handle.specs.Handles.{Name, node_of, width_of}
 pub use Rattle.handle.specs.Conversion.{SixteenBytes}
-use Rattle.store.specs.declared.Place.{Place}
-use Rattle.store.specs.declared.Place.TheVariants.{Absent, Present}
+use Rattle.store.specs.Places.{Place, None, Some}
 use Rattle.store.specs.declared.Store.{Store}
 use Rattle.store.specs.Records.{Tables, record_of, cluster_at, table_at, place_at, read_mode, write_mode, address}
 use Rattle.store.specs.Sound.{sound}
-use Rattle.calls.specs.declared.Looked.{Looked}
+use Rattle.calls.specs.Looks.{Looked}
 use Rattle.calls.specs.Calls.{Copy, Call, is_look, opens, presented, any_of}
 use Rattle.calls.specs.Numbers.{valid, number}
 use Rattle.calls.specs.Steps.{Outcome, step}
@@ -46,8 +45,8 @@ abbrev pub SoundCopy : Copy → Type 0
 SoundCopy c = sound c.store (length c.memory) ≡ true
 
 abbrev pub InPlace : ℕ → Place → ℕ → Type 0
-InPlace v Absent a = ⊥
-InPlace v (Present base size) a = (address v base ≤ a) × (a < address v base + size)
+InPlace v None a = ⊥
+InPlace v (Some span) a = (address v span.base ≤ a) × (a < address v span.base + span.length)
 
 abbrev pub Done : (Name → List ℕ → ℕ → List ℕ) → Call → Copy → Type 0
 Done f x c = number f x c.store (length c.memory) ≡ 0

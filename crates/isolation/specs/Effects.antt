@@ -36,7 +36,7 @@ use Rattle.handle.specs.declared.Handle.{Handle}
 use Rattle.handle.specs.declared.HandleBytes.{HandleBytes}
 use Rattle.handle.specs.Selectors.{references, either, all_flat, gapped}
 use Rattle.handle.specs.Handles.{Name, name_of, width_of, decoded, bytes_in}
-use Rattle.store.specs.declared.Place.TheVariants.{Absent}
+use Rattle.store.specs.Places.{None}
 use Rattle.store.specs.declared.Cluster.{Cluster}
 use Rattle.store.specs.declared.Store.{Store}
 use Rattle.store.specs.Records.{inactive, table_of, cluster_at, table_at, segment_of, place_of}
@@ -165,7 +165,7 @@ module _ (f : Name → List ℕ → ℕ → List ℕ) where
   abbrev pub SegmentGone : Type 0
   SegmentGone =
       (g : Arguments) (c : Copy) → let x = call delete_segment g in
-      Done f x c → place_for x (table_at (step f x c).copy.store) ≡ Absent
+      Done f x c → place_for x (table_at (step f x c).copy.store) ≡ None
 
 -- ---- the record of the cluster that a call is about
 

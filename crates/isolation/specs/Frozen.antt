@@ -13,8 +13,7 @@
 -- Assumes nothing.
 use Rattle.std.specs.Prelude.{◌≡◌, ℕ, ◌+◌, ◌*◌, ◌<◌, Bool, true, List, ◌∷◌, get_or}
 use Rattle.handle.specs.Handles.{Name, node_of}
-use Rattle.store.specs.declared.Place.{Place}
-use Rattle.store.specs.declared.Place.TheVariants.{Present}
+use Rattle.store.specs.Places.{Place, present_at}
 use Rattle.store.specs.declared.Store.{Store}
 use Rattle.store.specs.Records.{table_of, cluster_at, segment_of}
 use Rattle.calls.specs.Calls.{Copy, Call, Arguments, call, freeze, handle_of}
@@ -29,20 +28,20 @@ frozen_at s v l i = (segment_of (table_of (cluster_at s (v * 8 + l))) i).frozen
 
 pub record Fixed (v l i base length : ℕ) (c d : Copy) : Type 0 where
   pub active : (cluster_at d.store (v * 8 + l)).active ≡ true
-  pub place : place_at d.store v l i ≡ Present base length
+  pub place : place_at d.store v l i ≡ present_at base length
   pub frozen : frozen_at d.store v l i ≡ true
   pub bytes : (k : ℕ) → k < length
       → get_or d.memory (v * 4096 + (base + k)) 0 ≡ get_or c.memory (v * 4096 + (base + k)) 0
 
 pub record FromThenOn (v l i : ℕ) (c d : Copy) : Type 0 where
-  pub present : (base : ℕ) × (length : ℕ) × (place_at c.store v l i ≡ Present base length)
-  pub fixed : (base length : ℕ) → place_at c.store v l i ≡ Present base length → Fixed v l i base length c d
+  pub present : (base : ℕ) × (length : ℕ) × (place_at c.store v l i ≡ present_at base length)
+  pub fixed : (base length : ℕ) → place_at c.store v l i ≡ present_at base length → Fixed v l i base length c d
 
 module _ (f : Name → List ℕ → ℕ → List ℕ) where
   abbrev pub FrozenStays : Type 0
   FrozenStays =
       (v l i base length : ℕ) → v < 4 → l < 8 → i < 16 → (xs : List Call) (c : Copy) → SoundCopy c
-      → place_at c.store v l i ≡ Present base length → frozen_at c.store v l i ≡ true
+      → place_at c.store v l i ≡ present_at base length → frozen_at c.store v l i ≡ true
       → Fixed v l i base length c (run f xs c).copy
 
   abbrev pub FixedFromThenOn : Type 0

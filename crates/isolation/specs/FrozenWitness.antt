@@ -17,7 +17,7 @@
 -- Assumes nothing.
 use Rattle.std.specs.Prelude.{◌≡◌, ℕ, ◌<◌, true, List, [], ◌∷◌, get_or}
 use Rattle.handle.specs.Handles.{Name}
-use Rattle.store.specs.declared.Place.TheVariants.{Present}
+use Rattle.store.specs.Places.{present_at}
 use Rattle.store.specs.Records.{starting_store, cluster_at, put_record, with_mark}
 use Rattle.calls.specs.Calls.{Copy, Call, making_cluster, deleting_cluster, making_segment, deleting_segment, reading}
 use Rattle.calls.specs.Calls.{writing, weakening_by, reducing, renewing, freezing, joining, validating, looking}
@@ -109,7 +109,7 @@ module _ (f : Name → List ℕ → ℕ → List ℕ) where
 
   pub record Standing : Type 0 where
     pub active : (cluster_at (run f (the_freeze ∷ attempts) one).copy.store 2).active ≡ true
-    pub place : place_at (run f (the_freeze ∷ attempts) one).copy.store 0 2 5 ≡ Present 0 4
+    pub place : place_at (run f (the_freeze ∷ attempts) one).copy.store 0 2 5 ≡ present_at 0 4
     pub frozen : frozen_at (run f (the_freeze ∷ attempts) one).copy.store 0 2 5 ≡ true
     pub bytes : (p : ℕ) → p < 4 → get_or (run f (the_freeze ∷ attempts) one).copy.memory p 0 ≡ 7
 

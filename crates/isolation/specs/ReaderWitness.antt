@@ -16,7 +16,7 @@
 -- Assumes nothing.
 use Rattle.std.specs.Prelude.{◌≡◌, ℕ, ◌<◌, List, [], ◌∷◌, get_or}
 use Rattle.handle.specs.Handles.{Name}
-use Rattle.store.specs.declared.Place.TheVariants.{Present}
+use Rattle.store.specs.Places.{present_at}
 use Rattle.store.specs.Records.{cluster_at, table_at, place_on}
 use Rattle.calls.specs.Calls.{Call, making_cluster, deleting_cluster, making_segment, deleting_segment, reading}
 use Rattle.calls.specs.Calls.{writing, weakening_by, reducing, renewing, freezing, joining, validating, looking}
@@ -134,6 +134,6 @@ module _ (f : Name → List ℕ → ℕ → List ℕ) where
     pub replies : (run f reader_calls one).replies ≡ reader_answers
 
   pub record Unharmed : Type 0 where
-    pub place : place_on (table_at (run f reader_calls one).copy.store) 0 2 5 ≡ Present 0 4
+    pub place : place_on (table_at (run f reader_calls one).copy.store) 0 2 5 ≡ present_at 0 4
     pub write : (cluster_at (run f reader_calls one).copy.store 2).write ≡ sixteen 34
     pub bytes : (p : ℕ) → p < 4 → get_or (run f reader_calls one).copy.memory p 0 ≡ 7

@@ -9,7 +9,7 @@
 -- Assumes nothing.
 use Rattle.std.specs.Prelude.{◌≡◌, ℕ, ◌+◌, ◌*◌, ◌≤◌, ◌<◌, List, length, get_or}
 use Rattle.handle.specs.Handles.{Name, decoded}
-use Rattle.store.specs.declared.Place.TheVariants.{Present}
+use Rattle.store.specs.Places.{present_at}
 use Rattle.store.specs.Records.{table_at, place_on}
 use Rattle.calls.specs.Calls.{Copy, Arguments, call, read}
 use Rattle.calls.specs.Steps.{Reply, step}
@@ -20,7 +20,7 @@ pub record Read (g : Arguments) (c : Copy) (r : Reply) : Type 0 where
   pub base : ℕ
   pub size : ℕ
   pub place : place_on (table_at c.store) (decoded g.handle).node (decoded g.handle).local g.segment
-      ≡ Present base size
+      ≡ present_at base size
   pub told : r ≡ told 0 none none 0 size r.buffer
   pub long : length r.buffer ≡ length g.bytes
   pub segment : (i : ℕ) → i < size

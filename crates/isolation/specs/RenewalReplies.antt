@@ -17,7 +17,7 @@
 -- Assumes nothing.
 use Rattle.std.specs.Prelude.{◌≡◌, ℕ, ◌+◌, true, false, List, [], ◌∷◌, replicate}
 use Rattle.handle.specs.Handles.{Name}
-use Rattle.store.specs.declared.Place.TheVariants.{Absent}
+use Rattle.store.specs.Places.{None}
 use Rattle.store.specs.Records.{starting_store, cluster_at, put_record}
 use Rattle.calls.specs.Calls.{Copy, start, Call, making_cluster, deleting_cluster, making_segment, deleting_segment, reading}
 use Rattle.calls.specs.Calls.{writing, reducing, renewing, freezing, joining, validating, looking}
@@ -169,7 +169,7 @@ alone r w =
             width = 8;
             read = sixteen r;
             write = sixteen w;
-            segments = replicate 16 (record { place = Absent; frozen = false });
+            segments = replicate 16 (record { place = None; frozen = false });
           });
       memory = start.memory;
     }

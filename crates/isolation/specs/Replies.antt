@@ -11,7 +11,7 @@
 --     EachDone                  they are the replies; the records are those, and the bytes written stay
 -- Assumes nothing.
 use Rattle.std.specs.Prelude.{◌≡◌, ℕ, ◌+◌, List, [], ◌∷◌, true, false, take, drop, replicate}
-use Rattle.store.specs.declared.Place.TheVariants.{Absent, Present}
+use Rattle.store.specs.Places.{None, present_at}
 use Rattle.store.specs.declared.Store.{Store}
 use Rattle.store.specs.Records.{starting_store, put_record}
 use Rattle.calls.specs.Calls.{start, Call}
@@ -142,7 +142,7 @@ frozen_store =
       width = 8;
       read = sixteen 7;
       write = sixteen 8;
-      segments = record { place = Present 0 1; frozen = true } ∷ replicate 15 (record { place = Absent; frozen = false });
+      segments = record { place = present_at 0 1; frozen = true } ∷ replicate 15 (record { place = None; frozen = false });
     })
 
 pub record Seen : Type 0 where

@@ -20,11 +20,11 @@
 --                        above 255, and data of 300 bytes
 -- Assumes nothing.
 use Rattle.std.specs.Prelude.{ℕ, zero, suc, List, [], ◌∷◌, ◌++◌, replicate}
-use Rattle.store.specs.declared.Place.TheVariants.{Present}
+use Rattle.store.specs.Places.{present_at}
 use Rattle.store.specs.declared.Cluster.{Cluster}
 use Rattle.store.specs.declared.Store.{Store}
 use Rattle.store.specs.Records.{starting_store, started, put_record, with_place, with_mark}
-use Rattle.calls.specs.declared.Looked.{Looked}
+use Rattle.calls.specs.Looks.{Looked}
 use Rattle.calls.specs.Calls.{Copy, Call, making_cluster, deleting_cluster, making_segment, deleting_segment, reading}
 use Rattle.calls.specs.Calls.{writing, weakening_by, reducing, renewing, freezing, joining, validating, looking}
 use Rattle.calls.specs.Steps.{Reply}
@@ -54,13 +54,13 @@ own of_sixteen = large
 -- ---- the copies
 
 abbrev pub beside : Cluster
-beside = with_place (started 8 (sixteen 3) (sixteen 4)) 7 (Present 0 2)
+beside = with_place (started 8 (sixteen 3) (sixteen 4)) 7 (present_at 0 2)
 
 abbrev pub near : Cluster
-near = with_mark (with_place (started 16 (sixteen 50) (sixteen 50)) 15 (Present 7 2)) 15
+near = with_mark (with_place (started 16 (sixteen 50) (sixteen 50)) 15 (present_at 7 2)) 15
 
 abbrev pub apart : Wide → List ℕ → List ℕ → Cluster
-apart v r w = with_mark (with_place (with_place (started (bits v) r w) (top v) (Present 0 4)) 0 (Present 4 2)) (top v)
+apart v r w = with_mark (with_place (with_place (started (bits v) r w) (top v) (present_at 0 4)) 0 (present_at 4 2)) (top v)
 
 abbrev pub rest : Store
 rest = put_record (put_record starting_store 3 beside) 26 near

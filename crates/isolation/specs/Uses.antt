@@ -17,7 +17,7 @@
 -- Assumes nothing.
 use Rattle.std.specs.Prelude.{◌≡◌, ℕ, ◌+◌, ◌<◌, true, List, [], ◌∷◌, length, get_or}
 use Rattle.handle.specs.Handles.{Name}
-use Rattle.store.specs.declared.Place.TheVariants.{Present}
+use Rattle.store.specs.Places.{present_at}
 use Rattle.store.specs.Records.{table_of, cluster_at, table_at, primary_of}
 use Rattle.calls.specs.Calls.{Copy, Call, renewing, freezing}
 use Rattle.calls.specs.Steps.{step, run}
@@ -134,7 +134,7 @@ module _ (f : Name → List ℕ → ℕ → List ℕ) (v : Wide) where
 
     pub record FrozenUses : Type 0 where
       pub active : (cluster_at frozen_end.store 31).active ≡ true
-      pub place : place_at frozen_end.store 3 7 (top v) ≡ Present 0 4
+      pub place : place_at frozen_end.store 3 7 (top v) ≡ present_at 0 4
       pub frozen : frozen_at frozen_end.store 3 7 (top v) ≡ true
       pub bytes : (i : ℕ) → i < 4 → get_or frozen_end.memory (12288 + i) 0 ≡ b
 
@@ -149,13 +149,13 @@ module _ (f : Name → List ℕ → ℕ → List ℕ) (v : Wide) where
     again_end = (run f (freezing 3 (top v) (own v 3 7 34) ∷ xs) freezable).copy
 
     pub record FreezeUses : Type 0 where
-      pub present : (base : ℕ) × (size : ℕ) × (place_at freezable.store 3 7 0 ≡ Present base size)
+      pub present : (base : ℕ) × (size : ℕ) × (place_at freezable.store 3 7 0 ≡ present_at base size)
       pub active : (cluster_at freeze_end.store 31).active ≡ true
-      pub place : place_at freeze_end.store 3 7 0 ≡ Present 4 2
+      pub place : place_at freeze_end.store 3 7 0 ≡ present_at 4 2
       pub frozen : frozen_at freeze_end.store 3 7 0 ≡ true
       pub bytes : (get_or freeze_end.memory 12292 0 ≡ c) × (get_or freeze_end.memory 12293 0 ≡ d)
-      pub again_present : (base : ℕ) × (size : ℕ) × (place_at freezable.store 3 7 (top v) ≡ Present base size)
+      pub again_present : (base : ℕ) × (size : ℕ) × (place_at freezable.store 3 7 (top v) ≡ present_at base size)
       pub again_active : (cluster_at again_end.store 31).active ≡ true
-      pub again_place : place_at again_end.store 3 7 (top v) ≡ Present 0 4
+      pub again_place : place_at again_end.store 3 7 (top v) ≡ present_at 0 4
       pub again_frozen : frozen_at again_end.store 3 7 (top v) ≡ true
       pub again_bytes : (i : ℕ) → i < 4 → get_or again_end.memory (12288 + i) 0 ≡ b

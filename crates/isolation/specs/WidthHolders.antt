@@ -13,7 +13,7 @@
 --                           answered to the freeze and to these
 -- Assumes nothing.
 use Rattle.std.specs.Prelude.{List, [], ◌∷◌, replicate}
-use Rattle.calls.specs.declared.Looked.{Looked}
+use Rattle.calls.specs.Looks.{Looked}
 use Rattle.calls.specs.Calls.{Call, making_cluster, deleting_cluster, making_segment, deleting_segment, reading}
 use Rattle.calls.specs.Calls.{writing, weakening_by, reducing, renewing, freezing, joining, validating, looking}
 use Rattle.calls.specs.Steps.{Reply}

@@ -25,7 +25,7 @@
 use Rattle.std.specs.Prelude.{ℕ, List, [], ◌∷◌, ◌++◌, get_or}
 use Rattle.loops.specs.Tabulate.{tabulate}
 use Rattle.handle.specs.Handles.{Name}
-use Rattle.calls.specs.declared.Looked.{Looked}
+use Rattle.calls.specs.Looks.{Looked}
 use Rattle.calls.specs.Calls.{Copy, Call, making_cluster, deleting_cluster, making_segment, deleting_segment, reading}
 use Rattle.calls.specs.Calls.{writing, weakening_by, reducing, renewing, freezing, joining, validating, looking}
 use Rattle.calls.specs.Steps.{Reply}

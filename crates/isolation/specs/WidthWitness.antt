@@ -23,7 +23,7 @@
 use Rattle.std.specs.Prelude.{◌≡◌, ℕ, ◌<◌, true, false, List, [], ◌∷◌, get_or}
 use Rattle.sizes.specs.Sizes.{memory}
 use Rattle.handle.specs.Handles.{Name}
-use Rattle.store.specs.declared.Place.TheVariants.{Present}
+use Rattle.store.specs.Places.{present_at}
 use Rattle.store.specs.Records.{cluster_at, table_at, read_mode}
 use Rattle.calls.specs.Calls.{Copy, start, Call, reading}
 use Rattle.calls.specs.Numbers.{number}
@@ -106,7 +106,7 @@ module _ (f : Name → List ℕ → ℕ → List ℕ) (v : Sort) where
 
   pub record ReadsTold : Type 0 where
     pub wide : (cluster_at read_end.store 2).width ≡ width v
-    pub place : place_at read_end.store 0 2 (top v) ≡ Present 0 4
+    pub place : place_at read_end.store 0 2 (top v) ≡ present_at 0 4
     pub write : (cluster_at read_end.store 2).write ≡ sixteen 34
     pub bytes : (p : ℕ) → p < 4 → get_or read_end.memory p 0 ≡ 7
 
@@ -121,6 +121,6 @@ module _ (f : Name → List ℕ → ℕ → List ℕ) (v : Sort) where
 
   pub record FrozenTold : Type 0 where
     pub active : (cluster_at frozen_end.store 2).active ≡ true
-    pub place : place_at frozen_end.store 0 2 (top v) ≡ Present 0 4
+    pub place : place_at frozen_end.store 0 2 (top v) ≡ present_at 0 4
     pub frozen : frozen_at frozen_end.store 0 2 (top v) ≡ true
     pub bytes : (p : ℕ) → p < 4 → get_or frozen_end.memory p 0 ≡ 7

@@ -37,21 +37,21 @@ use Rattle.std.specs.Prelude.{◌≡◌, ℕ, ◌-◌, ◌<◌, true, List, [], 
 use Rattle.loops.specs.Tabulate.{tabulate}
 use Rattle.sizes.specs.Sizes.{memory}
 use Rattle.handle.specs.Handles.{Name}
-use Rattle.store.specs.declared.Place.TheVariants.{Present}
+use Rattle.store.specs.Places.{present_at}
 use Rattle.store.specs.Records.{starting_store, started, record_of, cluster_at, table_at, put_record, with_place, read_mode}
 use Rattle.calls.specs.Calls.{Copy, Call, making_cluster, deleting_cluster, making_segment, deleting_segment, reading}
 use Rattle.calls.specs.Calls.{writing, weakening_by, reducing, renewing, freezing, joining, validating, looking}
 use Rattle.calls.specs.Numbers.{number}
 use Rattle.calls.specs.Steps.{Reply, step, run}
 use Rattle.calls.specs.Literals.{sixteen, handle, primary, small, large, none, told, shows}
-use Rattle.calls.specs.declared.Looked.{Looked}
+use Rattle.calls.specs.Looks.{Looked}
 use Rattle.calls.specs.Written.{telling}
 use Rattle.isolation.specs.Copies.{SixteenBytes, SoundCopy, set_apart, Alike, keyed, AllShut, places}
 
 abbrev pub holding_of : ℕ → ℕ → ℕ → ℕ → ℕ → Copy
 holding_of n i r w b =
     record {
-      store = put_record starting_store (record_of 0 2) (with_place (started n (sixteen r) (sixteen w)) i (Present 0 4));
+      store = put_record starting_store (record_of 0 2) (with_place (started n (sixteen r) (sixteen w)) i (present_at 0 4));
       memory = b ∷ b ∷ b ∷ b ∷ replicate (memory - 4) 0;
     }
 

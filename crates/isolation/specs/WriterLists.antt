@@ -29,11 +29,11 @@ use Rattle.std.specs.Prelude.{ℕ, ◌-◌, List, [], ◌∷◌, ◌++◌, get_o
 use Rattle.loops.specs.Tabulate.{tabulate}
 use Rattle.sizes.specs.Sizes.{memory}
 use Rattle.handle.specs.Handles.{Name}
-use Rattle.store.specs.declared.Place.TheVariants.{Present}
+use Rattle.store.specs.Places.{present_at}
 use Rattle.store.specs.declared.Cluster.{Cluster}
 use Rattle.store.specs.declared.Store.{Store}
 use Rattle.store.specs.Records.{starting_store, started, put_record, with_place}
-use Rattle.calls.specs.declared.Looked.{Looked}
+use Rattle.calls.specs.Looks.{Looked}
 use Rattle.calls.specs.Calls.{Copy, Call, making_cluster, deleting_cluster, making_segment, deleting_segment, reading}
 use Rattle.calls.specs.Calls.{writing, weakening_by, reducing, renewing, freezing, joining, validating, looking}
 use Rattle.calls.specs.Steps.{Reply}
@@ -45,10 +45,10 @@ use Rattle.isolation.specs.Witness.{made, shown}
 
 -- records 10 and 2
 abbrev pub tenth : Cluster
-tenth = with_place (started 8 (sixteen 50) (sixteen 51)) 0 (Present 0 2)
+tenth = with_place (started 8 (sixteen 50) (sixteen 51)) 0 (present_at 0 2)
 
 abbrev pub second : ℕ → Cluster
-second r = with_place (with_place (with_place (started 8 (sixteen r) (sixteen 34)) 5 (Present 0 4)) 4 (Present 4 2)) 3 (Present 10 1)
+second r = with_place (with_place (with_place (started 8 (sixteen r) (sixteen 34)) 5 (present_at 0 4)) 4 (present_at 4 2)) 3 (present_at 10 1)
 
 abbrev pub kept : ℕ → Store
 kept r = put_record (put_record starting_store 10 tenth) 2 (second r)

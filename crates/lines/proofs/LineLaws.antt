@@ -1,23 +1,33 @@
--- Laws of lines. Words are put one after another, a space before each; what is told goes by the number and the code; a
--- line is its first word, the words after it and the line feed. A buffer with room takes the line whole.
+-- Laws of lines. Words are put one after another, a space before each; what a call done gives goes by its code; a
+-- line is its first word, the words after it and the line feed. A buffer with room takes the line whole; that of a refused call
+-- stops at its number, whatever that is.
 -- Assumes nothing.
-use Prim.Native.Nat.{ℕ, ◌+◌, ◌*◌, ◌≤◌, ◌<◌}
+use Prim.Native.Nat.{ℕ, ◌+◌, ◌≤◌, ◌<◌}
 use native.Mathlib.Omega.{arith}
-use mathlib.Core.Path.{◌≡◌, refl, sym, ap, ◌∙◌}
-use mathlib.Core.Bool.{true, false, ◌||◌}
+use mathlib.Core.Path.{◌≡◌, refl, sym, ap, ◌∙◌, subst}
+use mathlib.Core.Bool.{and-true}
 use mathlib.Core.List.{List, [], ◌∷◌, ◌++◌, append_assoc, append-nil}
-use lib.Dec.{eqb}
-use lib.ListN.{length, take}
-use lib.Seq.{take_all, length-take-le}
-use borrow.Author.Tests.{eq-eqb, ne_eqb, le-leb, lt-leb}
+use lib.ListN.{length, take, drop}
+use borrow.Author.Tests.{ne_eqb, le-leb}
 use Rattle.sizes.specs.Sizes.{node_memory}
-use Rattle.loops.proofs.BelowLaws.{and_off}
-use Rattle.handle.specs.Widths.{most_bytes}
 use Rattle.handle.specs.Handles.{bytes_in}
+use Rattle.std.specs.Prelude.{Ok, Err}
+use Rattle.numbers.specs.declared.Number.{Number}
+use Rattle.numbers.specs.Codes as numbers
+use Rattle.numbers.proofs.ToldLaws.{code_above}
+use Rattle.handle.specs.declared.HandleBytes.{HandleBytes}
+use Rattle.calls.specs.declared.Given.{Given}
+use Rattle.calls.specs.declared.Code.{Code}
+use Rattle.calls.specs.declared.Code.TheVariants.{NewCluster, Read, Weaken, Reduce, NewPassword, Join}
+use Rattle.calls.specs.Codes.{code}
+use Rattle.calls.specs.Answers as calls
+use Rattle.calls.specs.Answers.{first, second, count}
+use Rattle.lines.specs.declared.Line.{Line}
 use Rattle.lines.specs.Text.{space, line_feed, decimal, hexadecimal}
-use Rattle.lines.specs.Lines.{Answer, spaced, line, gives, told, call_line, word_line}
-use Rattle.lines.specs.Buffers.{byte_digits, longest, longest_with, call_line_within, word_line_within, Begins, Put}
-use Rattle.lines.proofs.PutLaws.{put_none, put_then}
+use Rattle.lines.specs.Lines.{Answer, plain, spaced, line, gives, told, call_line, word_line}
+use Rattle.lines.specs.Buffers.{byte_digits, longest_head, longest, longest_with, call_line_within, stopped_within, StopsWithin, word_line_within, Begins, Adds}
+use Rattle.lines.proofs.PutLaws.{adds_none, adds_then}
+use Rattle.lines.proofs.ExampleLaws.{refused_stops}
 
 -- ---- words
 
@@ -27,125 +37,126 @@ spaced_append [] vs = refl
 spaced_append (w ∷ ws) vs =
     ap (λ (l : List ℕ). (space ∷ w) ++ l) (spaced_append ws vs) ∙ sym (append_assoc (space ∷ w) (spaced ws) (spaced vs))
 
-module _ (m m₁ m₂ : List ℕ) (at r s : ℕ) where
-  pub put_spaced : (w : List ℕ) → Put m m₁ at r (space ∷ []) → Put m₁ m₂ r s w → Put m m₂ at s (spaced (w ∷ []))
+module _ (l m n : Line) where
+  pub adds_spaced : (w : List ℕ) → Adds l m (space ∷ []) → Adds m n w → Adds l n (spaced (w ∷ []))
   unfolding spaced
-  put_spaced w p q = rw (append-nil (space ∷ w)) (put_then m m₁ m₂ at r s (space ∷ []) w p q)
+  adds_spaced w p q = rw (append-nil (space ∷ w)) (adds_then l m n (space ∷ []) w p q)
 
-  put_words : (ws vs : List (List ℕ)) → Put m m₁ at r (spaced ws) → Put m₁ m₂ r s (spaced vs)
-      → Put m m₂ at s (spaced (ws ++ vs))
-  put_words ws vs p q = rw (spaced_append ws vs) (put_then m m₁ m₂ at r s (spaced ws) (spaced vs) p q)
+  pub adds_words : (ws vs : List (List ℕ)) → Adds l m (spaced ws) → Adds m n (spaced vs) → Adds l n (spaced (ws ++ vs))
+  adds_words ws vs p q = rw (spaced_append ws vs) (adds_then l m n (spaced ws) (spaced vs) p q)
 
-pub put_head : (m m₁ m₂ m₃ : List ℕ) (p q r : ℕ) (w v u : List ℕ) → Put m m₁ 0 p w → Put m₁ m₂ p q (spaced (v ∷ []))
-    → Put m₂ m₃ q r (spaced (u ∷ [])) → Put m m₃ 0 r (w ++ spaced (v ∷ u ∷ []))
-put_head m m₁ m₂ m₃ p q r w v u x y z =
-    put_then m m₁ m₃ 0 p r w (spaced (v ∷ u ∷ [])) x (put_words m₁ m₂ m₃ p q r (v ∷ []) (u ∷ []) y z)
+pub adds_head : (l m n o : Line) (w v u : List ℕ) → Adds l m w → Adds m n (spaced (v ∷ [])) → Adds n o (spaced (u ∷ []))
+    → Adds l o (w ++ spaced (v ∷ u ∷ []))
+adds_head l m n o w v u x y z = adds_then l m o w (spaced (v ∷ u ∷ [])) x (adds_words m n o (v ∷ []) (u ∷ []) y z)
 
--- ---- the first bytes of what holds a handle
+-- ---- what a call done gives
 
-module _ (b : List ℕ) (n at : ℕ) (l : length b ≡ most_bytes) where
-  pub first_taken : n ≤ most_bytes → n ≡ length (take n b)
-  first_taken h = sym (length-take-le n b (omega arith))
+module _ (g : Given) (byte : ℕ) (s : List ℕ) where
+  module _ (l m n : Line) (c : Code) (ec : code c ≡ byte) (a : HandleBytes) (ea : a ≡ first g)
+      (x : Adds l m (spaced (hexadecimal (bytes_in a) ∷ []))) where
+    handle_told : Adds l m (spaced (hexadecimal (bytes_in (first g)) ∷ []))
+    handle_told = subst (λ (h : HandleBytes). Adds l m (spaced (hexadecimal (bytes_in h) ∷ []))) ea x
 
-  pub first_room : n ≤ most_bytes → (out : List ℕ) → at + (1 + 2 * most_bytes) ≤ length out
-      → at + (1 + 2 * length (take n b)) ≤ length out
-  first_room h out room = let e = first_taken h in omega arith
+    pub told_handles : c ≡ NewCluster → (b : HandleBytes) → b ≡ second g
+        → Adds m n (spaced (hexadecimal (bytes_in b) ∷ [])) → Adds l n (spaced (gives byte (plain (Ok g)) s))
+    unfolding gives
+    told_handles q b eb y =
+        subst (λ (k : ℕ). Adds l n (spaced (gives k (plain (Ok g)) s))) (ap code (sym q) ∙ ec)
+        (adds_words l m n _ _ handle_told
+        (subst (λ (h : HandleBytes). Adds m n (spaced (hexadecimal (bytes_in h) ∷ []))) eb y))
 
-  pub first_end : n ≤ most_bytes → (r : ℕ) → r ≡ at + (1 + 2 * length (take n b)) → r ≤ at + (1 + 2 * most_bytes)
-  first_end h r f = let e = first_taken h in omega arith
+    pub told_count : c ≡ Weaken → (k : ℕ) → k ≡ count g → Adds m n (spaced (decimal k ∷ []))
+        → Adds l n (spaced (gives byte (plain (Ok g)) s))
+    unfolding gives
+    told_count q k ek y =
+        subst (λ (k : ℕ). Adds l n (spaced (gives k (plain (Ok g)) s))) (ap code (sym q) ∙ ec)
+        (adds_words l m n _ _ handle_told (subst (λ (d : ℕ). Adds m n (spaced (decimal d ∷ []))) ek y))
 
-  pub first_all : most_bytes < n → (m m' : List ℕ) (r : ℕ) → Put m m' at r (spaced (hexadecimal b ∷ []))
-      → Put m m' at r (spaced (hexadecimal (take n b) ∷ []))
-  first_all h m m' r p = rw (take_all n b (omega arith)) p
-
--- ---- what is told after the number
-
-module _ (m m₁ : List ℕ) (at r code : ℕ) (a : Answer) (s : List ℕ) where
-  pub told_refused : (a.number ≡ 0 → ⊥) → Put m m at at (spaced (told code a s))
-  unfolding told spaced
-  told_refused h = rw (ne_eqb a.number 0 h) (put_none m at)
-
-  module _ (done : a.number ≡ 0) where
-    pub told_handles : (m₂ : List ℕ) (q : ℕ) → Put m m₁ at r (spaced (hexadecimal (bytes_in a.first) ∷ []))
-        → Put m₁ m₂ r q (spaced (hexadecimal (bytes_in a.second) ∷ [])) → code ≡ 1 → Put m m₂ at q (spaced (told code a s))
-    unfolding told gives
-    told_handles m₂ q x y e = rw (eq-eqb a.number 0 done, eq-eqb code 1 e) (put_words m m₁ m₂ at r q _ _ x y)
-
-    module _ (n₁ : code ≡ 1 → ⊥) where
-      pub told_handle : Put m m₁ at r (spaced (hexadecimal (bytes_in a.first) ∷ [])) → (eqb code 8 || eqb code 9 || eqb code 11) ≡ true
-          → Put m m₁ at r (spaced (told code a s))
-      unfolding told gives
-      told_handle x e = rw (eq-eqb a.number 0 done, ne_eqb code 1 n₁, e) x
-
-      module _ (n₈ : (eqb code 8 || eqb code 9 || eqb code 11) ≡ false) where
-        pub told_segment : Put m m₁ at r (spaced (hexadecimal s ∷ [])) → code ≡ 5
-            → Put m m₁ at r (spaced (told code a s))
-        unfolding told gives
-        told_segment x e = rw (eq-eqb a.number 0 done, ne_eqb code 1 n₁, n₈, eq-eqb code 5 e) x
-
-        module _ (n₅ : code ≡ 5 → ⊥) where
-          pub told_count : (m₂ : List ℕ) (q : ℕ) → Put m m₁ at r (spaced (hexadecimal (bytes_in a.first) ∷ []))
-              → Put m₁ m₂ r q (spaced (decimal a.count ∷ [])) → code ≡ 7 → Put m m₂ at q (spaced (told code a s))
-          unfolding told gives
-          told_count m₂ q x y e =
-              rw (eq-eqb a.number 0 done, ne_eqb code 1 n₁, n₈, ne_eqb code 5 n₅, eq-eqb code 7 e)
-              (put_words m m₁ m₂ at r q _ _ x y)
-
-          pub told_nothing : (code ≡ 7 → ⊥) → Put m m at at (spaced (told code a s))
-          unfolding told gives spaced
-          told_nothing n₇ =
-              rw (eq-eqb a.number 0 done, ne_eqb code 1 n₁, n₈, ne_eqb code 5 n₅, ne_eqb code 7 n₇) (put_none m at)
+  pub told_unknown : (l : Line) → ((c : Code) → code c ≡ byte → ⊥) → Adds l l (spaced (gives byte (plain (Ok g)) s))
+  unfolding gives spaced
+  told_unknown l f =
+      rw (
+        ne_eqb byte 1 (λ q. f NewCluster (sym q)),
+        ne_eqb byte 8 (λ q. f Reduce (sym q)),
+        ne_eqb byte 9 (λ q. f NewPassword (sym q)),
+        ne_eqb byte 11 (λ q. f Join (sym q)),
+        ne_eqb byte 5 (λ q. f Read (sym q)),
+        ne_eqb byte 7 (λ q. f Weaken (sym q)),
+      )
+      (adds_none l)
 
 -- ---- whole lines
 
-begins_none : (m : List ℕ) → Begins m m 0 []
-begins_none m = record { size = refl; room = omega arith; start = refl; rest = refl }
-
-begins_put : (m m' : List ℕ) (r : ℕ) (text : List ℕ) → Put m m' 0 r text → r ≤ length m → Begins m m' r text
-begins_put m m' r text p h = record { size = omega (arith, p.ends); room = h; start = p.start; rest = p.rest }
-
-pub call_line_fits : (room k code : ℕ) (a : Answer) (s : List ℕ) → longest ≤ room → length s ≤ node_memory
-    → call_line_within room k code a s ≡ call_line k code a s
+pub call_line_fits : (room k c : ℕ) (a : Answer) (s : List ℕ) → longest ≤ room → length s ≤ node_memory
+    → call_line_within room k c a s ≡ call_line k c a s
 unfolding call_line_within
-call_line_fits room k code a s wide short = rw (le-leb longest room wide, le-leb (length s) node_memory short)
+call_line_fits room k c a s wide short = rw (le-leb longest room wide, le-leb (length s) node_memory short)
+
+pub stops_within : StopsWithin
+unfolding call_line_within stopped_within
+stops_within room k c a s n short = rw (le-leb (length s) node_memory short, and-true, refused_stops k c a s n)
+
+-- the line that stops at the number is that of the refused call
+pub refused_begins : (before after : List ℕ) (r k c : ℕ) (a : calls.Answer) (s : List ℕ) (n : Number) → a ≡ Err n
+    → length s ≤ node_memory → (v : ℕ) → v ≡ numbers.code n
+    → Begins before after r (stopped_within (length before) k c v)
+    → Begins before after r (call_line_within (length before) k c (plain a) s)
+refused_begins before after r k c a s n e short v ev b =
+    subst (Begins before after r)
+    (ap (stopped_within (length before) k c) ev
+    ∙ sym (stops_within (length before) k c (plain (Err n)) s (code_above n) short)
+    ∙ ap (λ (w : calls.Answer). call_line_within (length before) k c (plain w) s) (sym e))
+    b
 
 pub word_line_fits : (room : ℕ) (w : List ℕ) (n : ℕ) → longest_with w ≤ room → word_line_within room w n ≡ word_line w n
 unfolding word_line_within
 word_line_fits room w n wide = rw (le-leb (longest_with w) room wide)
 
-module _ (m : List ℕ) (k code : ℕ) (a : Answer) (s : List ℕ) where
-  pub call_narrow : length m < longest → Begins m m 0 (call_line_within (length m) k code a s)
-  unfolding call_line_within
-  call_narrow h = rw (lt-leb longest (length m) h) (begins_none m)
+module _ (before after : List ℕ) (l m n o : Line) (r : ℕ) (held : l.out.now ≡ before) (ends : o.at ≡ r)
+    (same : l.out.ghost_name ≡ o.out.ghost_name → after ≡ o.out.now) (begun : l.at ≡ 0) where
+  -- what the buffer holds when the line is put down is what the line holds, since it is the same buffer
+  begins_adds : (text : List ℕ) → Adds l o text → r ≤ length before → Begins before after r text
+  begins_adds text a h =
+      record {
+        size = omega (arith, a.ends);
+        room = h;
+        start =
+            ap (take r) (same (sym a.same_buffer)) ∙ ap (λ (k : ℕ). take k o.out.now) (sym ends)
+            ∙ a.start ∙ ap (λ (k : ℕ). take k l.out.now ++ text) begun;
+        rest =
+            ap (drop r) (same (sym a.same_buffer)) ∙ ap (λ (k : ℕ). drop k o.out.now) (sym ends)
+            ∙ a.rest ∙ ap (λ (k : ℕ). drop k l.out.now) ends ∙ ap (drop r) held;
+      }
 
-  pub call_long : node_memory < length s → Begins m m 0 (call_line_within (length m) k code a s)
-  unfolding call_line_within
-  call_long h = rw (and_off _ _ (lt-leb (length s) node_memory h)) (begins_none m)
+  module _ (k c : ℕ) (wide : longest ≤ length before) where
+    pub call_whole : (a : calls.Answer) (g : Given) (s : List ℕ) → a ≡ Ok g → length s ≤ node_memory → n.at < longest
+        → Adds l m (decimal k ++ spaced (decimal c ∷ decimal 0 ∷ []))
+        → Adds m n (spaced (gives c (plain (Ok g)) s)) → Adds n o (line_feed ∷ [])
+        → Begins before after r (call_line_within (length before) k c (plain a) s)
+    unfolding call_line told line
+    call_whole a g s e short b x y z =
+        rw (e, call_line_fits (length before) k c (plain (Ok g)) s wide short)
+        (begins_adds _ (adds_then l n o _ _ words z) (let f = z.ends in omega arith))
+      where
+        words : Adds l n (decimal k ++ spaced (decimal c ∷ decimal 0 ∷ gives c (plain (Ok g)) s))
+        words =
+            rw (spaced_append (decimal c ∷ decimal 0 ∷ []) (gives c (plain (Ok g)) s), ← append_assoc)
+            (adds_then l m n _ _ x y)
 
-  pub call_whole : (m₁ m₂ m₃ : List ℕ) (p q r : ℕ) → longest ≤ length m → length s ≤ node_memory → q < longest
-      → Put m m₁ 0 p (decimal k ++ spaced (decimal code ∷ decimal a.number ∷ []))
-      → Put m₁ m₂ p q (spaced (told code a s)) → Put m₂ m₃ q r (line_feed ∷ [])
-      → Begins m m₃ r (call_line_within (length m) k code a s)
-  unfolding call_line line
-  call_whole m₁ m₂ m₃ p q r wide short b x y z =
-      rw (call_line_fits (length m) k code a s wide short)
-      (begins_put m m₃ r _ (put_then m m₂ m₃ 0 q r _ _ words z) (let e = z.ends in omega arith))
-    where
-      words : Put m m₂ 0 q (decimal k ++ spaced (decimal code ∷ decimal a.number ∷ told code a s))
-      words =
-          rw (spaced_append (decimal code ∷ decimal a.number ∷ []) (told code a s), ← append_assoc)
-          (put_then m m₁ m₂ 0 p q _ _ x y)
+    pub stopped_whole : (v : ℕ) → m.at ≤ l.at + longest_head
+        → Adds l m (decimal k ++ spaced (decimal c ∷ decimal v ∷ [])) → Adds m o (line_feed ∷ [])
+        → Begins before after r (stopped_within (length before) k c v)
+    unfolding stopped_within line
+    stopped_whole v b x z =
+        rw (le-leb longest (length before) wide)
+        (begins_adds _ (adds_then l m o _ _ x z) (let f = z.ends in omega arith))
 
-module _ (m w : List ℕ) (n : ℕ) where
-  pub word_narrow : length m < longest_with w → Begins m m 0 (word_line_within (length m) w n)
-  unfolding word_line_within
-  word_narrow h = rw (lt-leb (longest_with w) (length m) h) (begins_none m)
-
-  pub word_whole : (m₁ m₂ m₃ : List ℕ) (p q r : ℕ) → longest_with w ≤ length m → p ≡ length w → q ≤ p + (1 + byte_digits)
-      → Put m m₁ 0 p w → Put m₁ m₂ p q (spaced (decimal n ∷ [])) → Put m₂ m₃ q r (line_feed ∷ [])
-      → Begins m m₃ r (word_line_within (length m) w n)
-  unfolding word_line line
-  word_whole m₁ m₂ m₃ p q r wide e b x y z =
-      rw (word_line_fits (length m) w n wide)
-      (begins_put m m₃ r _ (put_then m m₂ m₃ 0 q r _ _ (put_then m m₁ m₂ 0 p q w _ x y) z)
-      (let f = z.ends in omega arith))
+  module _ (w : List ℕ) (k : ℕ) where
+    pub word_whole : longest_with w ≤ length before → n.at ≤ m.at + (1 + byte_digits)
+        → Adds l m w → Adds m n (spaced (decimal k ∷ [])) → Adds n o (line_feed ∷ [])
+        → Begins before after r (word_line_within (length before) w k)
+    unfolding word_line line
+    word_whole wide b x y z =
+        rw (word_line_fits (length before) w k wide)
+        (begins_adds _ (adds_then l n o _ _ (adds_then l m n w _ x y) z)
+        (let f = z.ends in let g = x.ends in omega arith))

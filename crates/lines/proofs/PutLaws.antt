@@ -1,92 +1,83 @@
--- Laws of text that is put into a buffer: one text after another, bytes, a number. The loops put a word, or bytes in
--- hexadecimal: after i turns the text of the first i bytes is put.
+-- Laws of text that is put into a line: one text after another, bytes, a number. The loop puts bytes in hexadecimal: after i
+-- turns the text of the first i bytes is put.
 -- Assumes nothing.
-use Prim.Native.Nat.{ℕ, suc, ◌+◌, ◌*◌, ◌/◌, ◌%◌, ◌≤◌, ◌<◌}
+use Prim.Native.Nat.{ℕ, ◌+◌, ◌-◌, ◌/◌, ◌%◌, ◌≤◌, ◌<◌}
 use native.Mathlib.Omega.{arith}
-use native.Mathlib.Numerals.{add-one}
 use mathlib.Core.Path.{◌≡◌, refl, sym, ap, ◌∙◌}
 use mathlib.Core.List.{List, [], ◌∷◌, ◌++◌, append_assoc, append-nil}
-use lib.ListN.{length, take, drop, set, get_or, length-append, length-set}
-use lib.Seq.{take-suc, take-suc-set, take_all, drop-drop, drop-set-lt}
+use lib.ListN.{length, take, drop, get_or, length-append, length-take, length-drop}
+use lib.Seq.{take_all, drop-drop}
+use borrow.Rule.Slice.Mut.{set_vals}
+use borrow.Rule.Slice.PartMut.{put_mid, same_len_mid}
+use Rattle.std.proofs.lemmas.Slice.{take-put_mid, drop-put_mid}
+use Rattle.lines.specs.declared.Line.{Line}
 use Rattle.lines.specs.Text.{digit, decimal, hexadecimal}
-use Rattle.lines.specs.Buffers.{byte_digits, Put}
+use Rattle.lines.specs.Buffers.{Room, Adds}
 use Rattle.lines.proofs.TextLaws.{decimal_ones, decimal_tens, decimal_hundreds, hexadecimal_more}
 
-pub put_none : (m : List ℕ) (at : ℕ) → Put m m at at []
-put_none m at = record { ends = omega arith; start = sym (append-nil (take at m)); rest = refl }
-
-pub put_then : (m m₁ m₂ : List ℕ) (at r s : ℕ) (xs ys : List ℕ) → Put m m₁ at r xs → Put m₁ m₂ r s ys
-    → Put m m₂ at s (xs ++ ys)
-put_then m m₁ m₂ at r s xs ys p q =
+pub adds_none : (l : Line) → Adds l l []
+adds_none l =
     record {
+      same_buffer = refl;
+      kept = refl;
+      ends = omega arith;
+      start = sym (append-nil (take l.at l.out.now));
+      rest = refl;
+    }
+
+pub adds_then : (l m n : Line) (xs ys : List ℕ) → Adds l m xs → Adds m n ys → Adds l n (xs ++ ys)
+adds_then l m n xs ys p q =
+    record {
+      same_buffer = q.same_buffer ∙ p.same_buffer;
+      kept = q.kept ∙ p.kept;
       ends = simp length-append (omega (arith, p.ends, q.ends));
-      start = q.start ∙ ap (λ (l : List ℕ). l ++ ys) p.start ∙ append_assoc (take at m) xs ys;
+      start = q.start ∙ ap (λ (b : List ℕ). b ++ ys) p.start ∙ append_assoc (take l.at l.out.now) xs ys;
       rest =
           q.rest
-          ∙ rw (q.ends, ← drop-drop (length ys) r m₁, ← drop-drop (length ys) r m) (ap (drop (length ys)) p.rest);
+          ∙ rw (q.ends, ← drop-drop (length ys) m.at m.out.now, ← drop-drop (length ys) m.at l.out.now)
+          (ap (drop (length ys)) p.rest);
     }
 
 -- ---- bytes
 
-pub put_one : (m : List ℕ) (at r v : ℕ) → at < length m → r ≡ at + 1 → Put m (set m at v) at r (v ∷ [])
-put_one m at r v h e =
-    record {
-      ends = e;
-      start = rw (e, add-one at) (take-suc-set m at v h);
-      rest = drop-set-lt r m at v (omega arith);
-    }
+module _ (l : Line) (text part : List ℕ) (room : Room l (length text)) (e : part ≡ text) where
+  abbrev end : ℕ
+  end = l.at + length text
 
-put_two : (m : List ℕ) (at v w : ℕ) → at + 1 < length m
-    → Put m (set (set m at v) (at + 1) w) at (at + 2) (v ∷ w ∷ [])
-put_two m at v w h =
-    put_then m (set m at v) (set (set m at v) (at + 1) w) at (at + 1) (at + 2) (v ∷ []) (w ∷ [])
-    (put_one m at (at + 1) v (omega arith) refl)
-    (put_one (set m at v) (at + 1) (at + 2) w (simp length-set h) (omega arith))
+  pub adds_part : Adds l (record { out = set_vals (put_mid l.at (end - l.at) l.out.now part) l.out; at = end }) text
+  adds_part =
+      record {
+        same_buffer = refl;
+        kept = same_len_mid l.at (end - l.at) l.out.now part (simp (length-take, length-drop) (omega (arith, ap length e)));
+        ends = refl;
+        start = take-put_mid l.at (end - l.at) l.out.now part end (omega (arith, ap length e)) (omega arith) ∙ ap (λ (b : List ℕ). take l.at l.out.now ++ b) e;
+        rest = drop-put_mid l.at (end - l.at) l.out.now part end (omega arith) (omega arith) (omega (arith, ap length e));
+      }
 
 -- ---- a number
 
-module _ (m : List ℕ) (at n : ℕ) (room : at + byte_digits ≤ length m) where
-  pub put_ones : n < 10 → Put m (set m at (48 + n)) at (at + 1) (decimal n)
-  put_ones h = rw (decimal_ones n h) (put_one m at (at + 1) (48 + n) (omega arith) refl)
+module _ (l m : Line) (n : ℕ) where
+  pub adds_ones : n < 10 → Adds l m ((48 + n) ∷ []) → Adds l m (decimal n)
+  adds_ones h a = rw (decimal_ones n h) a
 
-  pub put_tens : 10 ≤ n → n < 100
-      → Put m (set (set m at (48 + n / 10)) (at + 1) (48 + n % 10)) at (at + 2) (decimal n)
-  put_tens l h = rw (decimal_tens n l h) (put_two m at (48 + n / 10) (48 + n % 10) (omega arith))
+  pub adds_tens : 10 ≤ n → n < 100 → Adds l m ((48 + n / 10) ∷ (48 + n % 10) ∷ []) → Adds l m (decimal n)
+  adds_tens g h a = rw (decimal_tens n g h) a
 
-  pub put_hundreds : 100 ≤ n → n < 256
-      → Put m (set (set (set m at (48 + n / 100)) (at + 1) (48 + n / 10 % 10)) (at + 2) (48 + n % 10)) at (at + 3)
-      (decimal n)
-  put_hundreds l h =
-      rw (decimal_hundreds n l (omega arith))
-      (put_then m (set (set m at (48 + n / 100)) (at + 1) (48 + n / 10 % 10)) _ at (at + 2) (at + 3) _ _
-      (put_two m at (48 + n / 100) (48 + n / 10 % 10) (omega arith))
-      (put_one _ (at + 2) (at + 3) (48 + n % 10) (simp length-set (omega arith)) (omega arith)))
+  pub adds_hundreds : 100 ≤ n → n < 256 → Adds l m ((48 + n / 100) ∷ (48 + n / 10 % 10) ∷ (48 + n % 10) ∷ [])
+      → Adds l m (decimal n)
+  adds_hundreds g h a = rw (decimal_hundreds n g (omega arith)) a
 
 -- ---- bytes in hexadecimal
 
-pub hexadecimal_none : (m bs : List ℕ) (at : ℕ) → Put m m at at (hexadecimal (take 0 bs))
+pub hexadecimal_none : (l : Line) (bs : List ℕ) → Adds l l (hexadecimal (take 0 bs))
 unfolding hexadecimal
-hexadecimal_none m bs at = put_none m at
+hexadecimal_none l bs = adds_none l
 
-module _ (m m' bs : List ℕ) (at p i : ℕ) (so_far : Put m m' at p (hexadecimal (take i bs))) where
-  pub hexadecimal_next : (x y : ℕ) → at + 2 * length bs ≤ length m → length m' ≡ length m → p ≡ at + 2 * i
+module _ (l m : Line) (bs : List ℕ) (i : ℕ) (so_far : Adds l m (hexadecimal (take i bs))) where
+  pub hexadecimal_next : (n : Line) (x y : ℕ) → Adds m n (x ∷ y ∷ [])
       → i < length bs → x ≡ digit (get_or bs i 0 / 16) → y ≡ digit (get_or bs i 0 % 16)
-      → Put m (set (set m' p x) (p + 1) y) at (p + 2) (hexadecimal (take (i + 1) bs))
-  hexadecimal_next x y room l q h e f =
-      rw (hexadecimal_more bs i h, ← e, ← f)
-      (put_then m m' _ at p (p + 2) _ _ so_far (put_two m' p x y (omega arith)))
+      → Adds l n (hexadecimal (take (i + 1) bs))
+  hexadecimal_next n x y a h e f = rw (hexadecimal_more bs i h, ← e, ← f) (adds_then l m n _ _ so_far a)
 
-  pub hexadecimal_all : length bs ≤ i → Put m m' at p (hexadecimal bs)
+  pub hexadecimal_all : length bs ≤ i → Adds l m (hexadecimal bs)
   hexadecimal_all h = rw (take_all i bs h) at so_far
-
--- ---- a word
-
-module _ (m m' w : List ℕ) (i : ℕ) (so_far : Put m m' 0 i (take i w)) where
-  pub word_next : length w ≤ length m → length m' ≡ length m → i < length w
-      → Put m (set m' i (get_or w i 0)) 0 (i + 1) (take (i + 1) w)
-  word_next room l h =
-      rw (add-one i, take-suc w i 0 h)
-      (put_then m m' _ 0 i (suc i) _ _ so_far (put_one m' i (suc i) (get_or w i 0) (omega arith) (omega arith)))
-
-  pub word_all : length w ≤ i → Put m m' 0 i w
-  word_all h = rw (take_all i w h) at so_far

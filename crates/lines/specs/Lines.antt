@@ -1,5 +1,8 @@
 -- Document 01, "The list of calls", with code 11 of document 02, §5: the lines that `benchrun` writes. A call is told by its
 -- code, its answer a, and the bytes s of the segment that a read gave. Of a handle the bytes are told that its length counts.
+--     Answer                 an answer written out: its number, 0 where the call is done, and what it gives
+--     plain a                the answer that the code's a stands for
+--     number_alone n         the answer that gives the number n and nothing else
 --     spaced ws              words, a space before each
 --     line w ws              the line of the word w and the words ws: one space between, a line feed after
 --     gives code a s         what a call done gives: its handles (1, 8, 9, 11), its segment's bytes (5), or its handle and
@@ -15,7 +18,29 @@
 use Rattle.std.specs.Prelude.{◌≡◌, ◌≢◌, ℕ, cond, ◌||◌, List, [], ◌∷◌, ◌++◌, eqb}
 use Rattle.handle.specs.Handles.{bytes_in}
 use Rattle.lines.specs.Text.{ascii, space, line_feed, decimal, hexadecimal}
-pub use Rattle.calls.specs.declared.Answer.{Answer}
+use Rattle.numbers.specs.Codes.{told as number_told}
+use Rattle.handle.specs.declared.HandleBytes.{HandleBytes}
+use Rattle.calls.specs.Answers as calls
+
+pub record Answer : Type 0 where
+  pub number : ℕ
+  pub first : HandleBytes
+  pub second : HandleBytes
+  pub count : ℕ
+  pub length : ℕ
+
+abbrev pub plain : calls.Answer → Answer
+plain a =
+    record {
+      number = number_told a;
+      first = calls.gives calls.first calls.no_handle a;
+      second = calls.gives calls.second calls.no_handle a;
+      count = calls.gives calls.count 0 a;
+      length = calls.gives calls.length 0 a;
+    }
+
+abbrev pub number_alone : ℕ → Answer
+number_alone n = record { number = n; first = calls.no_handle; second = calls.no_handle; count = 0; length = 0 }
 
 unfoldable pub spaced : List (List ℕ) → List ℕ
 spaced [] = []

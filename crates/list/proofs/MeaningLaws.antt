@@ -19,8 +19,8 @@ use Rattle.calls.specs.Calls.{Copy, Kind, new_cluster, delete_cluster, new_segme
 use Rattle.calls.specs.Calls.{reduce, new_password, freeze, join, validate, look, code, is_look, among, Arguments, call, uses, writing}
 use Rattle.calls.specs.Numbers.{bad_length as wrong_length, unsound, no_place}
 use Rattle.calls.specs.Steps.{Outcome}
-use Rattle.calls.specs.Answers.{copy_of, left_alone}
-use Rattle.chain.specs.declared.Walked.{Walked}
+use Rattle.calls.specs.Answers.{copy_of}
+use Rattle.chain.specs.Way.{Walked}
 use Rattle.numbers.specs.Numbers.{link_number, loop_number}
 use Rattle.chain.specs.Way.{done}
 use Rattle.chain.specs.Means.{Whole, Leaves, Again}
@@ -38,7 +38,7 @@ use Rattle.list.specs.Meanings.{NoLook, MisfitInWords}
 use Rattle.calls.proofs.CallLaws.{or_left, or_right}
 use Rattle.list.proofs.FieldLaws.{handle_long}
 use Rattle.list.proofs.CheckLaws.{by_length, check_empty}
-use Rattle.list.proofs.PerformLaws.{write_misfit, perform_write, misfit_unsound, misfit_node, misfit_local}
+use Rattle.list.proofs.PerformLaws.{misfit_refused, misfit_unsound, misfit_node, misfit_local}
 use Rattle.list.proofs.PerformLaws.{misfit_field, differ, among_first}
 
 -- ---- the check
@@ -228,9 +228,7 @@ module _ (r : List ℕ) (b : Bench) (long : length r ≡ record_bytes) where
 
   refused_with_lem : byte r 1 ≡ 6 → 32 < byte r 5 → (n : ℕ) → n ≡ first → performed r b ≡ refused n b
   refused_with_lem e l n en =
-      sym
-      (perform_write r s m b.buffer e m (left_alone s n)
-      (write_misfit r s m (byte r 5) refl l n en (left_alone s n) refl))
+      sym (ap (λ (k : ℕ). refused k b) en ∙ misfit_refused r s m e (byte r 5) refl l b.buffer)
 
   unsound_told : not (sound s (length m)) ≡ true → 1 ≡ first
   unsound_told = misfit_unsound s m h (handle_long r long) (decoded h) refl (sound s (length m)) refl

@@ -12,7 +12,7 @@ use lib.Dec.{leb}
 use lib.ListN.{length, drop, replicate, length-append, length-take, length-drop}
 use lib.Seq.{drop-drop}
 use Rattle.sizes.specs.Sizes.{memory}
-use Rattle.chain.specs.declared.Walked.{Walked}
+use Rattle.chain.specs.Way.{Walked}
 use Rattle.chain.specs.Way.{done}
 use Rattle.lines.specs.Lines.{end_word, end_line, refused_word, refused_line}
 use Rattle.lines.specs.Buffers.{longest_with, word_line_within, Begins}
@@ -27,15 +27,6 @@ use Rattle.list.proofs.RunLaws.{total_few}
 pub output_fits : (n : ℕ) (list : List ℕ) → room_for list ≤ n → output_within n list ≡ output list
 unfolding output_within
 output_fits n list h = ap (λ (t : Bool). cond t (output list) []) (le-leb (room_for list) n h)
-
--- where something is put, it is the text
-pub output_some : (n : ℕ) (list : List ℕ) → (length (output_within n list) ≡ 0 → ⊥) → output_within n list ≡ output list
-unfolding output_within
-output_some n list = go (leb (room_for list) n)
-  where
-    go : (t : Bool) → (length (cond t (output list) []) ≡ 0 → ⊥) → cond t (output list) [] ≡ output list
-    go true h = refl
-    go false h = absurd (h refl)
 
 module _ (list out : List ℕ) (room : ℕ) (needed : room ≡ room_for list) where
   pub run_short : length out < room → Begins out out 0 (output_within (length out) list)
@@ -53,10 +44,10 @@ module _ (list out : List ℕ) (room : ℕ) (needed : room ≡ room_for list) wh
     unfolding output
     by_walk = sym (ap (λ (v : Walked). text_of list v.number v.records) ew)
 
-    pub run_refused : (w.number ≡ 0 → ⊥) → (after : List ℕ) (r : ℕ)
-        → Begins out after r (word_line_within (length out) refused_word w.number)
+    pub run_refused : (w.number ≡ 0 → ⊥) → (v : ℕ) → v ≡ w.number → (after : List ℕ) (r : ℕ)
+        → Begins out after r (word_line_within (length out) refused_word v)
         → Begins out after r (output_within (length out) list)
-    run_refused t after r = subst (Begins out after r) (fits ∙ sym (output_fits (length out) list enough ∙ by_walk ∙ told w.number t))
+    run_refused t v ev after r b = subst (Begins out after r) (ap (word_line_within (length out) refused_word) ev ∙ fits ∙ sym (output_fits (length out) list enough ∙ by_walk ∙ told w.number t)) b
       where
         told : (n : ℕ) → (n ≡ 0 → ⊥) → text_of list n w.records ≡ refused_line n
         told zero t = absurd (t refl)
@@ -66,6 +57,9 @@ module _ (list out : List ℕ) (room : ℕ) (needed : room ≡ room_for list) wh
         fits =
             let r = room_line list (length out) 0 0 enough (ends_none list) (omega arith) in
             word_line_fits (length out) refused_word w.number (omega arith)
+
+    pub line_fits : longest_with refused_word ≤ length out
+    line_fits = let r = room_line list (length out) 0 0 enough (ends_none list) (omega arith) in omega arith
 
     module _ (z : w.number ≡ 0) where
       whole : checked list ≡ done w.records
@@ -92,12 +86,15 @@ module _ (list out : List ℕ) (room : ℕ) (needed : room ≡ room_for list) wh
         pub run_inside : end ≤ length mid
         run_inside = let l = last_fits in omega arith
 
-        pub run_done : (part : List ℕ) (r : ℕ)
-            → Begins (mid_of end (length mid - end) mid) part r
+        pub last_room : longest_with end_word ≤ length (mid_of end (length mid - end) mid)
+        last_room = let f = last_fits in let i = run_inside in simp (length-take, length-drop) (omega arith)
+
+        pub run_done : (part : List ℕ) (o r : ℕ) → o ≡ r
+            → Begins (mid_of end (length mid - end) mid) part o
             (word_line_within (length (mid_of end (length mid - end) mid)) end_word w.records)
             → length part ≡ length (mid_of end (length mid - end) mid)
             → Begins out (put_mid end (length mid - end) mid part) (end + r) (output_within (length out) list)
-        run_done part r b kept =
+        run_done part o r eo b kept =
             record {
               size = (λ j. lines.size j + h.size j) ∙ sym (length-append text (end_line w.records)) ∙ ap length (sym all);
               room = inside;
@@ -120,7 +117,10 @@ module _ (list out : List ℕ) (room : ℕ) (needed : room ≡ room_for list) wh
                 let f = last_fits in
                 let l = part_size in
                 subst (Begins (mid_of end (length mid - end) mid) part r)
-                (word_line_fits (length (mid_of end (length mid - end) mid)) end_word w.records (omega arith)) b
+                (word_line_fits (length (mid_of end (length mid - end) mid)) end_word w.records (omega arith))
+                (subst
+                (λ (n : ℕ). Begins (mid_of end (length mid - end) mid) part n
+                (word_line_within (length (mid_of end (length mid - end) mid)) end_word w.records)) eo b)
 
             inside : end + r ≤ length out
             inside =

@@ -2,7 +2,7 @@
 -- makes agree in the arguments that the kind uses, so their steps are equal.
 -- Assumes nothing.
 use mathlib.Core.Path.{◌≡◌, refl, sym, ap, ap₂, ◌∙◌}
-use Prim.Native.Nat.{ℕ, ◌+◌, ◌-◌, ◌*◌, ◌≤◌, ◌<◌}
+use Prim.Native.Nat.{ℕ, ◌+◌, ◌*◌, ◌≤◌, ◌<◌}
 use native.Mathlib.Omega.{arith}
 use mathlib.Core.Bool.{Bool, true, false, not, ◌||◌, cond, or-false}
 use mathlib.Core.List.{List, [], ◌∷◌, ◌++◌}
@@ -17,23 +17,31 @@ use Rattle.handle.specs.Conversion.{product}
 use Rattle.store.specs.declared.Store.{Store}
 use Rattle.store.specs.Sound.{sound}
 use Rattle.calls.specs.Calls.{Kind, new_cluster, delete_cluster, new_segment, delete_segment, read, write, weaken, reduce}
-use Rattle.calls.specs.Calls.{new_password, freeze, join, code, Arguments, call, uses}
+use Rattle.calls.specs.Calls.{new_password, freeze, join, code, Arguments, call, uses, among}
 use Rattle.calls.specs.Numbers.{bad_length, unsound, no_place}
 use Rattle.calls.specs.Steps.{Outcome, aes_step}
-use Rattle.calls.specs.declared.Answer.{Answer}
-use Rattle.calls.specs.declared.Left.{Left}
-use Rattle.calls.specs.Answers.{copy_of, ended, left_alone}
+use Rattle.std.specs.Prelude.{Result, Ok, Err}
+use Rattle.numbers.specs.declared.Number.{Number}
+use Rattle.numbers.specs.Codes.{code as number}
+use Rattle.calls.specs.declared.Done.{Done}
+use Rattle.calls.specs.declared.Code.{Code}
+use Rattle.calls.specs.declared.Code.TheVariants.{NewCluster, DeleteCluster, NewSegment, DeleteSegment, Read, Write, Weaken}
+use Rattle.calls.specs.declared.Code.TheVariants.{Reduce, NewPassword, Freeze, Join}
+use Rattle.calls.specs.Codes.{code as code_byte}
+use Rattle.calls.specs.Answers as answers
+use Rattle.calls.specs.Answers.{copy_of, ended, finished}
+use Rattle.lines.specs.Lines.{plain}
 use Rattle.calls.specs.Calls.{making_cluster, deleting_cluster, making_segment, deleting_segment, reading, writing}
 use Rattle.calls.specs.Calls.{weakening_by, reducing, renewing, freezing, joining}
 use Rattle.isolation.specs.Checks.{trimmed}
 use Rattle.isolation.proofs.UnusedLaws.{unused_ignored}
 use Rattle.list.specs.Records.{most_data, list_width, handle_bytes, byte, field, code_of, data_length, own_calls}
 use Rattle.list.specs.Records.{other_calls, kind_among, kind_of, arguments_of}
-use Rattle.list.specs.Runs.{bench, ran, Performed, misfits, misfit_rows, refused, after_step, stepped, performed_as}
+use Rattle.list.specs.Runs.{bench, ran, kept, Performed, misfits, misfit_rows, refused, after_step, stepped, performed_as}
 use Rattle.list.specs.Runs.{performed}
 use Rattle.list.proofs.FieldLaws.{width_eight}
 
--- ---- a code that none of some kinds has
+-- ---- a code that no call has
 
 abbrev Differs : List Kind → ℕ → Type 0
 Differs [] c = Unit {0}
@@ -49,6 +57,38 @@ pub among_first : (ks ls : List Kind) (c : ℕ) → Differs ls c → kind_among 
 among_first [] ls c h = differ ls c h
 among_first (k ∷ ks) ls c h =
     ap (λ (o : Option Kind). elim (eqb (code k) c) [ true ↦ some k | false ↦ o ]) (among_first ks ls c h)
+
+no_kind : (n : ℕ) → ((c : Code) → code_byte c ≡ n → ⊥) → kind_of n ≡ none
+unfolding kind_of
+no_kind n f =
+    differ (own_calls ++ other_calls) n (
+      λ q. f NewCluster (sym q),
+      (
+        λ q. f DeleteCluster (sym q),
+        (
+          λ q. f NewSegment (sym q),
+          (
+            λ q. f DeleteSegment (sym q),
+            (
+              λ q. f Freeze (sym q),
+              (
+                λ q. f Read (sym q),
+                (
+                  λ q. f Write (sym q),
+                  (
+                    λ q. f Weaken (sym q),
+                    (
+                      λ q. f Reduce (sym q),
+                      (λ q. f NewPassword (sym q), (λ q. f Join (sym q), tt)),
+                    ),
+                  ),
+                ),
+              ),
+            ),
+          ),
+        ),
+      ),
+    )
 
 -- ---- the calls
 
@@ -76,152 +116,159 @@ module _ (r : List ℕ) (s : Store) (m : List ℕ) where
       (eo ∙ unused_ignored product k g (arguments_of k r b) (copy_of s m) e)
       ∙ sym (ap (chosen k b) t)
 
-  -- ---- calls 1 to 4 and 10
+  -- code that ends so leaves what the step leaves; a read alone has the buffer
+  after_finished : (k : Kind) → among (5 ∷ []) k ≡ false → (n b : List ℕ) (d : Result Done Number) (w : List ℕ)
+      → ran s d n b ≡ after_step k (finished s n w d) (bench s m b)
+  after_finished k t n b (Ok d) w =
+      ap (λ (u : Bool). record {
+        bench = record { copy = copy_of d.store n; buffer = elim u [ true ↦ w | false ↦ b ] };
+        answer = plain (Ok d.given);
+      }) (sym t)
+  after_finished k t n b (Err x) w =
+      ap (λ (u : Bool). record {
+        bench = record { copy = copy_of s n; buffer = elim u [ true ↦ w | false ↦ b ] };
+        answer = plain (Err x);
+      }) (sym t)
 
-  own : ℕ → (b : List ℕ) → Performed
-  own c b = performed_as (kind_among own_calls c) r (bench s m b)
+  finished_kept : (n w : List ℕ) (a : answers.Answer) → finished s n w (kept s a) ≡ ended s n a w
+  finished_kept n w (Ok g) = refl
+  finished_kept n w (Err x) = refl
 
-  pub own_new_cluster : code_of r ≡ 1 → (p : List ℕ) → p ≡ field r 32 password_bytes → (q : List ℕ)
-      → q ≡ field r 48 password_bytes → (v : ℕ) → v ≡ byte r 2 → (l : ℕ) → l ≡ byte r 4 → (d : Left)
-      → ended d.store m d.answer [] ≡ aes_step (making_cluster v l list_width p q) (copy_of s m)
-      → (b : List ℕ) → ran d m b ≡ performed_as (kind_among own_calls (code_of r)) r (bench s m b)
-  unfolding own
-  own_new_cluster e p ep q eq v ev l el d ed b =
-      as_step new_cluster (making_cluster v l list_width p q).args b refl
-      (λ j. (making_cluster (ev j) (el j) list_width (ep j) (eq j)).args) _ ed
-      ∙ sym (ap (λ (c : ℕ). own c b) e)
+  after_read : (n b w : List ℕ) (a : answers.Answer) → ran s (kept s a) n w ≡ after_step read (ended s n a w) (bench s m b)
+  after_read n b w (Ok g) = refl
+  after_read n b w (Err x) = refl
 
-  pub own_delete_cluster : code_of r ≡ 2 → (v : ℕ) → v ≡ byte r 2 → (d : Left)
-      → ended d.store m d.answer [] ≡ aes_step (deleting_cluster v handle) (copy_of s m)
-      → (b : List ℕ) → ran d m b ≡ performed_as (kind_among own_calls (code_of r)) r (bench s m b)
-  unfolding own
-  own_delete_cluster e v ev d ed b =
-      as_step delete_cluster (deleting_cluster v handle).args b refl (λ j. (deleting_cluster (ev j) handle).args) _ ed
-      ∙ sym (ap (λ (c : ℕ). own c b) e)
+  -- a record whose code is that of the call c
+  module _ (c : Code) (v : ℕ) (ec : code_byte c ≡ v) (ev : v ≡ code_of r) where
+    named : (k : Code) → c ≡ k → (kind : Kind) → kind_of (code_byte k) ≡ some kind → kind_of (code_of r) ≡ some kind
+    named k q kind e = ap kind_of (sym ev ∙ sym ec ∙ ap code_byte q) ∙ e
 
-  pub own_new_segment : code_of r ≡ 3 → (z : ℕ) → z ≡ byte r 6 * 256 + byte r 7 → (v : ℕ) → v ≡ byte r 2 → (i : ℕ)
-      → i ≡ byte r 4 → (n : List ℕ) (d : Left)
-      → ended d.store n d.answer [] ≡ aes_step (making_segment v i z handle) (copy_of s m)
-      → (b : List ℕ) → ran d n b ≡ performed_as (kind_among own_calls (code_of r)) r (bench s m b)
-  unfolding own
-  own_new_segment e z ez v ev i ei n d ed b =
-      as_step new_segment (making_segment v i z handle).args b refl (λ j. (making_segment (ev j) (ei j) (ez j) handle).args) _
-      ed
-      ∙ sym (ap (λ (c : ℕ). own c b) e)
+    module _ (k : Code) (q : c ≡ k) (kind : Kind) (ek : kind_of (code_byte k) ≡ some kind) (t : misfits kind r ≡ false)
+        (g : Arguments) (b : List ℕ) (eg : trimmed (uses kind) g ≡ trimmed (uses kind) (arguments_of kind r b)) where
+      by_step : (o : Outcome) → o ≡ aes_step (call kind g) (copy_of s m) → after_step kind o (bench s m b) ≡ performed r (bench s m b)
+      unfolding performed
+      by_step o eo =
+          as_step kind g b t eg o eo ∙ ap (λ (x : Option Kind). performed_as x r (bench s m b)) (sym (named k q kind ek))
 
-  pub own_delete_segment : code_of r ≡ 4 → (v : ℕ) → v ≡ byte r 2 → (i : ℕ) → i ≡ byte r 4 → (d : Left)
-      → ended d.store m d.answer [] ≡ aes_step (deleting_segment v i handle) (copy_of s m)
-      → (b : List ℕ) → ran d m b ≡ performed_as (kind_among own_calls (code_of r)) r (bench s m b)
-  unfolding own
-  own_delete_segment e v ev i ei d ed b =
-      as_step delete_segment (deleting_segment v i handle).args b refl (λ j. (deleting_segment (ev j) (ei j) handle).args) _ ed
-      ∙ sym (ap (λ (c : ℕ). own c b) e)
+      by_finished : among (5 ∷ []) kind ≡ false → (n : List ℕ) (d : Result Done Number) (w : List ℕ)
+          → finished s n w d ≡ aes_step (call kind g) (copy_of s m) → ran s d n b ≡ performed r (bench s m b)
+      by_finished u n d w ed = after_finished kind u n b d w ∙ by_step (finished s n w d) ed
 
-  pub own_freeze : code_of r ≡ 10 → (v : ℕ) → v ≡ byte r 2 → (i : ℕ) → i ≡ byte r 4 → (d : Left)
-      → ended d.store m d.answer [] ≡ aes_step (freezing v i handle) (copy_of s m)
-      → (b : List ℕ) → ran d m b ≡ performed_as (kind_among own_calls (code_of r)) r (bench s m b)
-  unfolding own
-  own_freeze e v ev i ei d ed b =
-      as_step freeze (freezing v i handle).args b refl (λ j. (freezing (ev j) (ei j) handle).args) _ ed
-      ∙ sym (ap (λ (c : ℕ). own c b) e)
+      by_kept : among (5 ∷ []) kind ≡ false → (n : List ℕ) (a : answers.Answer) (w : List ℕ)
+          → ended s n a w ≡ aes_step (call kind g) (copy_of s m) → (d : Result Done Number) → d ≡ kept s a
+          → ran s d n b ≡ performed r (bench s m b)
+      by_kept u n a w ea d ed =
+          ap (λ (x : Result Done Number). ran s x n b) ed ∙ by_finished u n (kept s a) w (finished_kept n w a ∙ ea)
 
-  pub own_none : (code_of r ≡ 1 → ⊥) → (code_of r ≡ 2 → ⊥) → (code_of r ≡ 3 → ⊥) → (code_of r ≡ 4 → ⊥) → (code_of r ≡ 10 → ⊥) → (d : Left)
-      → d ≡ left_alone s 3 → (b : List ℕ) → ran d m b ≡ performed_as (kind_among own_calls (code_of r)) r (bench s m b)
-  own_none t1 t2 t3 t4 t10 d ed b =
-      ap (λ (k : Left). ran k m b) ed
-      ∙ sym
-      (ap (λ (k : Option Kind). performed_as k r (bench s m b)) (differ own_calls (code_of r) (t1, (t2, (t3, (t4, (t10, tt)))))))
+    module _ (b : List ℕ) where
+      pub perform_new_cluster : c ≡ NewCluster → (p q : List ℕ) (v l : ℕ) (d : Result Done Number)
+          → finished s m [] d ≡ aes_step (making_cluster v l list_width p q) (copy_of s m) → p ≡ field r 32 password_bytes
+          → q ≡ field r 48 password_bytes → v ≡ byte r 2 → l ≡ byte r 4 → ran s d m b ≡ performed r (bench s m b)
+      unfolding kind_of
+      perform_new_cluster e p q v l d ed ep eq ev el =
+          by_finished NewCluster e new_cluster refl refl (making_cluster v l list_width p q).args b
+          (λ j. (making_cluster (ev j) (el j) list_width (ep j) (eq j)).args) refl m d [] ed
 
-  -- ---- call 6
+      pub perform_new_password : c ≡ NewPassword → (w : ℕ) (h p : List ℕ) (d : Result Done Number)
+          → finished s m [] d ≡ aes_step (renewing w h p) (copy_of s m) → w ≡ byte r 3 → h ≡ handle
+          → p ≡ field r 32 password_bytes → ran s d m b ≡ performed r (bench s m b)
+      unfolding kind_of
+      perform_new_password e w h p d ed ew eh ep =
+          by_finished NewPassword e new_password refl refl (renewing w h p).args b
+          (λ j. (renewing (ew j) (eh j) (ep j)).args) refl m d [] ed
 
-  module _ (z : ℕ) (ez : z ≡ data_length r) where
-    pub write_misfit : most_data < z → (n : ℕ)
-        → n ≡ first_of (misfit_rows (writing 0 handle []) (copy_of s m)) → (d : Left) → d ≡ left_alone s n
-        → (b : List ℕ) → ran d m b ≡ performed_as (some write) r (bench s m b)
-    unfolding bad_length unsound no_place chosen
-    write_misfit l n en d ed b =
-        ap (λ (k : Left). ran k m b) ed ∙ ap (λ (k : ℕ). ran (left_alone s k) m b) en
-        ∙ sym (ap (chosen write b) (ap (ltb most_data) (sym ez) ∙ lt-ltb most_data z l))
+      module _ (h : List ℕ) (eh : h ≡ handle) where
+        pub perform_delete_cluster : c ≡ DeleteCluster → (v : ℕ) (d : Result Done Number)
+            → finished s m [] d ≡ aes_step (deleting_cluster v h) (copy_of s m) → v ≡ byte r 2
+            → ran s d m b ≡ performed r (bench s m b)
+        unfolding kind_of
+        perform_delete_cluster e v d ed ev =
+            by_finished DeleteCluster e delete_cluster refl refl (deleting_cluster v h).args b
+            (λ j. (deleting_cluster (ev j) (eh j)).args) refl m d [] ed
 
-    pub write_fits : z ≤ most_data → (i : ℕ) → i ≡ byte r 4 → (n : List ℕ) (a : Answer)
-        → let w = field r 32 (32 + z - 32) in
-        ended s n a w ≡ aes_step (writing i handle w) (copy_of s m)
-        → (b : List ℕ) → ran (record { store = s; answer = a }) n b ≡ performed_as (some write) r (bench s m b)
-    write_fits l i ei n a ea b =
-        as_step write (writing i handle (field r 32 (32 + z - 32))).args b
-        (ap (ltb most_data) (sym ez) ∙ le-ltb most_data z l)
-        (λ j. (writing (ei j) handle (field r 32 ((back ∙ ez) j))).args) _ ea
-      where
-        back : 32 + z - 32 ≡ z
-        back = omega arith
+        pub perform_new_segment : c ≡ NewSegment → (n : List ℕ) (v i z : ℕ) (d : Result Done Number)
+            → finished s n [] d ≡ aes_step (making_segment v i z h) (copy_of s m) → v ≡ byte r 2 → i ≡ byte r 4
+            → z ≡ byte r 6 * 256 + byte r 7 → ran s d n b ≡ performed r (bench s m b)
+        unfolding kind_of
+        perform_new_segment e n v i z d ed ev ei ez =
+            by_finished NewSegment e new_segment refl refl (making_segment v i z h).args b
+            (λ j. (making_segment (ev j) (ei j) (ez j) (eh j)).args) refl n d [] ed
 
-  -- ---- calls 5 to 9 and 11
+        pub perform_delete_segment : c ≡ DeleteSegment → (v i : ℕ) (d : Result Done Number)
+            → finished s m [] d ≡ aes_step (deleting_segment v i h) (copy_of s m) → v ≡ byte r 2 → i ≡ byte r 4
+            → ran s d m b ≡ performed r (bench s m b)
+        unfolding kind_of
+        perform_delete_segment e v i d ed ev ei =
+            by_finished DeleteSegment e delete_segment refl refl (deleting_segment v i h).args b
+            (λ j. (deleting_segment (ev j) (ei j) (eh j)).args) refl m d [] ed
 
-  module _ (b : List ℕ) where
-    by_code : ℕ → Performed
-    by_code c = performed_as (kind_of c) r (bench s m b)
+        pub perform_freeze : c ≡ Freeze → (v i : ℕ) (d : Result Done Number)
+            → finished s m [] d ≡ aes_step (freezing v i h) (copy_of s m) → v ≡ byte r 2 → i ≡ byte r 4
+            → ran s d m b ≡ performed r (bench s m b)
+        unfolding kind_of
+        perform_freeze e v i d ed ev ei =
+            by_finished Freeze e freeze refl refl (freezing v i h).args b
+            (λ j. (freezing (ev j) (ei j) (eh j)).args) refl m d [] ed
 
-    pub perform_write : code_of r ≡ 6 → (n : List ℕ) (d : Left)
-        → ((l : List ℕ) → ran d n l ≡ performed_as (some write) r (bench s m l))
-        → ran d n b ≡ performed r (bench s m b)
-    unfolding by_code kind_of performed
-    perform_write e n d f = f b ∙ sym (ap by_code e)
+        module _ (a : answers.Answer) (d : Result Done Number) (ed : d ≡ kept s a) where
+          pub perform_read : c ≡ Read → (i : ℕ) (w : List ℕ) → ended s m a w ≡ aes_step (reading i h b) (copy_of s m)
+              → i ≡ byte r 4 → ran s d m w ≡ performed r (bench s m b)
+          unfolding kind_of
+          perform_read e i w ea ei =
+              ap (λ (x : Result Done Number). ran s x m w) ed ∙ after_read m b w a
+              ∙ by_step Read e read refl refl (reading i h b).args b (λ j. (reading (ei j) (eh j) b).args) _ ea
 
-    pub perform_new_password : code_of r ≡ 9 → (p : List ℕ) → p ≡ field r 32 password_bytes → (w : ℕ) → w ≡ byte r 3 → (d : Left)
-        → ended d.store m d.answer [] ≡ aes_step (renewing w handle p) (copy_of s m)
-        → ran d m b ≡ performed r (bench s m b)
-    unfolding by_code kind_of performed
-    perform_new_password e p ep w ew d ed =
-        as_step new_password (renewing w handle p).args b refl (λ j. (renewing (ew j) handle (ep j)).args) _ ed
-        ∙ sym (ap by_code e)
+          pub perform_write : c ≡ Write → (z : ℕ) → z ≡ data_length r → z ≤ most_data → (n w : List ℕ) (i : ℕ)
+              → ended s n a w ≡ aes_step (writing i h w) (copy_of s m) → w ≡ field r 32 (data_length r) → i ≡ byte r 4
+              → ran s d n b ≡ performed r (bench s m b)
+          unfolding kind_of
+          perform_write e z ez lz n w i ea ew ei =
+              by_kept Write e write refl (ap (ltb most_data) (sym ez) ∙ le-ltb most_data z lz) (writing i h w).args b
+              (λ j. (writing (ei j) (eh j) (ew j)).args) refl n a w ea d ed
 
-    pub perform_own : (code_of r ≡ 5 → ⊥) → (code_of r ≡ 6 → ⊥) → (code_of r ≡ 7 → ⊥) → (code_of r ≡ 8 → ⊥)
-        → (code_of r ≡ 9 → ⊥) → (code_of r ≡ 11 → ⊥) → (n : List ℕ) (d : Left)
-        → ((l : List ℕ) → ran d n l ≡ performed_as (kind_among own_calls (code_of r)) r (bench s m l))
-        → ran d n b ≡ performed r (bench s m b)
-    unfolding kind_of performed
-    perform_own t5 t6 t7 t8 t9 t11 n d f =
-        f b
-        ∙ sym
-        (ap (λ (k : Option Kind). performed_as k r (bench s m b))
-        (among_first own_calls other_calls (code_of r) (t5, (t6, (t7, (t8, (t9, (t11, tt))))))))
+          pub perform_weaken : c ≡ Weaken → (k : ℕ)
+              → ((t : Store) (n : List ℕ) → ended t n a [] ≡ aes_step (weakening_by k h) (copy_of t n)) → k ≡ byte r 4
+              → ran s d m b ≡ performed r (bench s m b)
+          unfolding kind_of
+          perform_weaken e k f ek =
+              by_kept Weaken e weaken refl refl (weakening_by k h).args b (λ j. (weakening_by (ek j) (eh j)).args) refl m a []
+              (f s m) d ed
 
-    module _ (a : Answer) where
-      abbrev answered : Left
-      answered = record { store = s; answer = a }
+          pub perform_reduce : c ≡ Reduce → (w : ℕ) → ended s m a [] ≡ aes_step (reducing w h) (copy_of s m) → w ≡ byte r 3
+              → ran s d m b ≡ performed r (bench s m b)
+          unfolding kind_of
+          perform_reduce e w ea ew =
+              by_kept Reduce e reduce refl refl (reducing w h).args b (λ j. (reducing (ew j) (eh j)).args) refl m a [] ea d ed
 
-      pub perform_read : code_of r ≡ 5 → (i : ℕ) → i ≡ byte r 4 → (l : List ℕ)
-          → ended s m a l ≡ aes_step (reading i handle b) (copy_of s m)
-          → ran answered m l ≡ performed r (bench s m b)
-      unfolding by_code kind_of performed
-      perform_read e i ei l el =
-          as_step read (reading i handle b).args b refl (λ j. (reading (ei j) handle b).args) _ el
-          ∙ sym (ap by_code e)
+          pub perform_join : c ≡ Join → (w : ℕ) (o : List ℕ) → ended s m a [] ≡ aes_step (joining w h o) (copy_of s m)
+              → w ≡ byte r 3 → o ≡ other → ran s d m b ≡ performed r (bench s m b)
+          unfolding kind_of
+          perform_join e w o ea ew eo =
+              by_kept Join e join refl refl (joining w h o).args b (λ j. (joining (ew j) (eh j) (eo j)).args) refl m a [] ea d ed
 
-      pub perform_weaken : code_of r ≡ 7 → (k : ℕ) → k ≡ byte r 4
-          → ((t : Store) (n : List ℕ) → ended t n a [] ≡ aes_step (weakening_by k handle) (copy_of t n))
-          → ran answered m b ≡ performed r (bench s m b)
-      unfolding by_code kind_of performed
-      perform_weaken e k ek f =
-          as_step weaken (weakening_by k handle).args b refl (λ j. (weakening_by (ek j) handle).args) _ (f s m)
-          ∙ sym (ap by_code e)
+  -- ---- no call, and a write that misfits
 
-      pub perform_reduce : code_of r ≡ 8 → (w : ℕ) → w ≡ byte r 3
-          → ended s m a [] ≡ aes_step (reducing w handle) (copy_of s m)
-          → ran answered m b ≡ performed r (bench s m b)
-      unfolding by_code kind_of performed
-      perform_reduce e w ew ea =
-          as_step reduce (reducing w handle).args b refl (λ j. (reducing (ew j) handle).args) _ ea
-          ∙ sym (ap by_code e)
+  pub perform_unknown : (v : ℕ) → v ≡ code_of r → ((c : Code) → code_byte c ≡ v → ⊥) → (b : List ℕ)
+      → refused 3 (bench s m b) ≡ performed r (bench s m b)
+  unfolding performed
+  perform_unknown v ev f b =
+      ap (λ (k : Option Kind). performed_as k r (bench s m b)) (sym (no_kind v f) ∙ ap kind_of ev)
 
-      pub perform_join : code_of r ≡ 11 → (w : ℕ) → w ≡ byte r 3
-          → ended s m a [] ≡ aes_step (joining w handle other) (copy_of s m)
-          → ran answered m b ≡ performed r (bench s m b)
-      unfolding by_code kind_of performed
-      perform_join e w ew ea =
-          as_step join (joining w handle other).args b refl
-          (λ j. (joining (ew j) handle other).args) _ ea
-          ∙ sym (ap by_code e)
+  pub misfit_refused : code_of r ≡ 6 → (z : ℕ) → z ≡ data_length r → most_data < z → (b : List ℕ)
+      → refused (first_of (misfit_rows (writing 0 handle []) (copy_of s m))) (bench s m b) ≡ performed r (bench s m b)
+  unfolding performed kind_of bad_length unsound no_place chosen
+  misfit_refused e z ez l b =
+      sym (ap (chosen write b) (ap (ltb most_data) (sym ez) ∙ lt-ltb most_data z l))
+      ∙ sym (ap (λ (k : ℕ). performed_as (kind_of k) r (bench s m b)) e)
+
+  pub perform_misfit : (c : Code) (v : ℕ) → code_byte c ≡ v → v ≡ code_of r → c ≡ Write → (z : ℕ) → z ≡ data_length r
+      → most_data < z → (h : List ℕ) → h ≡ handle → (x : Number)
+      → number x ≡ first_of (misfit_rows (writing 0 h []) (copy_of s m)) → (b : List ℕ)
+      → ran s (Err x) m b ≡ performed r (bench s m b)
+  perform_misfit c v ec ev q z ez l h eh x ex b =
+      ap (λ (k : ℕ). refused k (bench s m b))
+      (ex ∙ ap (λ (w : List ℕ). first_of (misfit_rows (writing 0 w []) (copy_of s m))) eh)
+      ∙ misfit_refused (sym ev ∙ sym ec ∙ ap code_byte q) z ez l b
 
 -- ---- the number of a misfit
 

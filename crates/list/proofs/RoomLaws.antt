@@ -4,13 +4,16 @@
 use mathlib.Core.Path.{◌≡◌, refl, sym, ap, ◌∙◌}
 use Prim.Native.Nat.{ℕ, zero, suc, ◌+◌, ◌-◌, ◌*◌, ◌≤◌, ◌<◌}
 use native.Mathlib.Omega.{arith}
-use mathlib.Core.Bool.{Bool, true, false, not, cond, false≢true}
+use mathlib.Core.Bool.{Bool, true, false, not, ◌&&◌, cond, false≢true}
 use mathlib.Core.List.{List}
 use borrow.Author.Tests.{eq-eqb}
 use lib.Dec.{eqb}
-use lib.ListN.{get_or, take, drop}
-use lib.Seq.{get_or-take, get_or-drop}
-use Rattle.loops.proofs.BelowLaws.{every_at}
+use lib.ListN.{take, drop}
+use lib.Seq.{drop-drop}
+use Rattle.loops.specs.Below.{every}
+use Rattle.loops.proofs.BelowLaws.{and_left, and_right, and_both, every_at, every_in, every_same, tests_equal}
+use Rattle.std.specs.List.{list_all}
+use Rattle.std.specs.Simd.{first_chunks}
 use Rattle.chain.specs.Bytes.{count}
 use Rattle.lines.specs.Lines.{end_word}
 use Rattle.lines.specs.Buffers.{longest, brief, longest_with}
@@ -18,20 +21,47 @@ use Rattle.list.specs.Records.{record_bytes, record_in, code_of}
 use Rattle.list.specs.Texts.{most_text, brief_text, is_read, quiet, room_for}
 use Rattle.list.specs.inner.Loops.{Ends}
 
+-- ---- the records of a list, one after the other
+
+first_and : (n : ℕ) (q : ℕ → Bool) → q 0 && every n (λ i. q (suc i)) ≡ every (suc n) q
+first_and n q =
+    tests_equal (q 0 && every n (λ i. q (suc i))) (every (suc n) q)
+    (λ e. every_in (suc n) q (λ k h. at k h (and_left (q 0) _ e) (every_at n (λ i. q (suc i)) (and_right (q 0) _ e))))
+    (λ e.
+    and_both (q 0) (every n (λ i. q (suc i))) (every_at (suc n) q e 0 (omega arith))
+    (every_in n (λ i. q (suc i)) (λ k h. every_at (suc n) q e (suc k) (omega arith))))
+  where
+    at : (k : ℕ) → k < suc n → q 0 ≡ true → ((i : ℕ) → i < n → q (suc i) ≡ true) → q k ≡ true
+    at zero h a f = a
+    at (suc k) h a f = f k (omega arith)
+
+chunks_every : (p : List ℕ → Bool) (n : ℕ) (xs : List ℕ)
+    → list_all p (first_chunks record_bytes n xs) ≡ every n (λ i. p (take record_bytes (drop (i * record_bytes) xs)))
+unfolding every
+chunks_every p zero xs = refl
+chunks_every p (suc n) xs =
+    ap (λ (t : Bool). p (take record_bytes xs) && t)
+    (chunks_every p n (drop record_bytes xs)
+    ∙ every_same n _ _ (λ i h. ap (λ (l : List ℕ). p (take record_bytes l))
+    (drop-drop (i * record_bytes) record_bytes xs ∙ ap (λ (j : ℕ). drop j xs) (later i))))
+    ∙ first_and n (λ i. p (take record_bytes (drop (i * record_bytes) xs)))
+  where
+    later : (i : ℕ) → record_bytes + i * record_bytes ≡ suc i * record_bytes
+    later i = omega arith
+
 module _ (list : List ℕ) where
   -- ---- a quiet list
 
-  pub read_at : (i : ℕ) → not (eqb (get_or list (i * record_bytes + 1) 0) 5) ≡ not (is_read list (suc i))
-  read_at i = ap (λ (c : ℕ). not (eqb c 5)) (sym code)
+  pub chunks_quiet : (t : Bool)
+      → t ≡ list_all (λ (r : List ℕ). not (eqb (code_of r) 5)) (first_chunks record_bytes (count list record_bytes) list)
+      → t ≡ quiet list
+  unfolding quiet
+  chunks_quiet t e =
+      e ∙ chunks_every (λ (r : List ℕ). not (eqb (code_of r) 5)) (count list record_bytes) list
+      ∙ every_same (count list record_bytes) _ _ (λ i h. ap (λ (j : ℕ). not (eqb (code_of (take record_bytes (drop (j * record_bytes) list))) 5)) (back i))
     where
-      back : suc i - 1 ≡ i
-      back = omega arith
-
-      code : code_of (record_in list (suc i)) ≡ get_or list (i * record_bytes + 1) 0
-      code =
-          ap (λ (j : ℕ). code_of (take record_bytes (drop (j * record_bytes) list))) back
-          ∙ get_or-take record_bytes (drop (i * record_bytes) list) 1 0 (omega arith)
-          ∙ get_or-drop (i * record_bytes) list 1 0
+      back : (i : ℕ) → i ≡ suc i - 1
+      back i = omega arith
 
   pub quiet_at : quiet list ≡ true → (k : ℕ) → 1 ≤ k → k ≤ count list record_bytes → code_of (record_in list k) ≡ 5 → ⊥
   unfolding quiet

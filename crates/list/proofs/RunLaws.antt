@@ -14,7 +14,7 @@ use lib.Seq.{length-take-le, drop-drop}
 use Rattle.store.specs.declared.Store.{Store}
 use Rattle.store.specs.Records.{starting_store}
 use Rattle.calls.proofs.CallLaws.{or_left, or_right}
-use Rattle.chain.specs.declared.Walked.{Walked}
+use Rattle.chain.specs.Way.{Walked}
 use Rattle.chain.specs.Way.{reached, done, refusal, records}
 use Rattle.chain.specs.Means.{IsRecord, Whole}
 use Rattle.chain.specs.Bytes.{count, next_in, way_in}

@@ -1,7 +1,9 @@
 -- Document 01, "The list of calls": what the call of a record does.
 --     Bench                   what the calls of a list work on: a copy, and a buffer
 --     bench s m b             the bench of these records, this memory and this buffer
---     ran d m b               what is left and answered by code that ends so
+--     left s a m b            the records s, the memory m, the buffer b and the answer a
+--     ran s r m b             what is left and answered by code that begins with the records s and ends so
+--     kept s a                the call that leaves the records s and answers a
 --     buffer_bytes             the bytes of the buffer that reads get
 --     starting                the starting store, and a buffer of zeros
 --     Performed               the bench that a record leaves, and its answer
@@ -14,7 +16,7 @@
 --     performed r b           what the record r does: a code outside 1 to 11 is 3, and nothing else is looked at; a
 --                             misfit is 3, after 1 and 2; else the step of the call that it encodes
 -- Assumes nothing.
-use Rattle.std.specs.Prelude.{ℕ, Bool, true, false, ◌&&◌, List, [], ◌∷◌, ◌++◌, eqb, ltb, length, replicate}
+use Rattle.std.specs.Prelude.{ℕ, Bool, true, false, ◌&&◌, List, [], ◌∷◌, ◌++◌, eqb, ltb, length, replicate, Result, Ok, Err}
 use Rattle.std.proofs.Math.Option.{Option, none, some}
 use Rattle.handle.specs.Handles.{Row, first_of}
 use Rattle.handle.specs.Conversion.{product}
@@ -22,12 +24,14 @@ use Rattle.store.specs.declared.Store.{Store}
 use Rattle.calls.specs.Calls.{Copy, start, Kind, Call, call, among}
 use Rattle.calls.specs.Numbers.{at, rows}
 use Rattle.calls.specs.Steps.{Reply, Outcome, aes_step}
-use Rattle.calls.specs.declared.Answer.{Answer}
-use Rattle.calls.specs.declared.Left.{Left}
-use Rattle.calls.specs.Answers.{copy_of, number_alone}
+use Rattle.calls.specs.declared.Done.{Done}
+use Rattle.calls.specs.Answers as answers
+use Rattle.calls.specs.Answers.{copy_of}
+use Rattle.lines.specs.Lines.{Answer, plain, number_alone}
 use Rattle.refusals.specs.Rows.{row}
 use Rattle.list.specs.Records.{most_data, code_of, data_length, kind_of, arguments_of}
 use Rattle.numbers.specs.Numbers.{field_number}
+use Rattle.numbers.specs.declared.Number.{Number}
 
 pub record Bench : Type 0 where
   pub copy : Copy
@@ -46,8 +50,16 @@ pub record Performed : Type 0 where
   pub bench : Bench
   pub answer : Answer
 
-abbrev pub ran : Left → List ℕ → List ℕ → Performed
-ran d m b = record { bench = bench d.store m b; answer = d.answer }
+abbrev pub left : Store → answers.Answer → List ℕ → List ℕ → Performed
+left s a m b = record { bench = bench s m b; answer = plain a }
+
+abbrev pub ran : Store → Result Done Number → List ℕ → List ℕ → Performed
+ran s (Ok d) m b = left d.store (Ok d.given) m b
+ran s (Err n) m b = left s (Err n) m b
+
+abbrev pub kept : Store → answers.Answer → Result Done Number
+kept s (Ok g) = Ok (record { store = s; given = g })
+kept s (Err n) = Err n
 
 -- ---- a call refused by the list's own rules
 

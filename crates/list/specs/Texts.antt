@@ -17,7 +17,7 @@
 -- Assumes nothing.
 use Rattle.std.specs.Prelude.{ℕ, zero, suc, ◌+◌, ◌*◌, ◌/◌, ◌%◌, Bool, not, ◌||◌, cond, List, [], ◌∷◌, ◌++◌, eqb, leb, ltb, length, take}
 use Rattle.loops.specs.Below.{every}
-use Rattle.chain.specs.declared.Walked.{Walked}
+use Rattle.chain.specs.Way.{Walked}
 use Rattle.chain.specs.Way.{done, refusal, records}
 use Rattle.chain.specs.Bytes.{count, next_in, way_in}
 use Rattle.lines.specs.Lines.{call_line, end_word, end_line, refused_line}

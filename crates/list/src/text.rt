@@ -1,18 +1,18 @@
 // The chain of a list, the line of each record, and the text of the whole run.
-ghost use Rattle.std.specs.Prelude.{◌≡◌, ◌≤◌, length, replicate};
-ghost use Rattle.sizes.specs.Sizes.{memory};
+ghost use Rattle.std.specs.Prelude.{◌≡◌, ◌≤◌, ◌↔◌, IsSome, length, eqb, not};
+ghost use Rattle.std.specs.List.{list_all};
+ghost use Rattle.chain.specs.Way.{walked};
 ghost use Rattle.lines.specs.Buffers as buffers;
 ghost use Rattle.list.specs.Records as records;
 ghost use Rattle.list.specs.Runs as runs;
 ghost use Rattle.list.specs.Texts as texts;
 ghost use Rattle.list.specs.inner.Loops as loops;
 
-use crate::fields::{CODE, RECORD, wide};
-use crate::perform::perform;
-use calls::READ;
-use chain::Walked;
+use crate::fields::{CODE, RECORD, record_in};
+use crate::perform::{left_by, perform};
+use calls::Code;
 use lines::{BRIEF, LONGEST};
-use numbers::LIST_LENGTH;
+use numbers::Number;
 use sizes::MEMORY;
 use store::Store;
 
@@ -29,28 +29,19 @@ pub const MOST_TEXT: usize = 2092283;
 // since a line is put only where the longest one fits.
 pub const BRIEF_TEXT: usize = MOST_BYTES / RECORD * BRIEF + LONGEST;
 
-// The chain of a list from record 1: its number, and how many records it has. An empty list has none.
-pub fn check(list: &[u8]) -> Walked
-    ensures { result ≡ texts.checked list.now }
+// How many records the chain of a list has, from record 1. An empty list has none.
+pub fn check(list: &[u8]) -> Result<usize, Number>
+    ensures { walked result ≡ texts.checked list.now }
 {
     let size = list.len();
     if size % RECORD != 0 {
-        return Walked {
-            number: LIST_LENGTH,
-            records: 0,
-        };
+        return Err(Number::ListLength);
     }
     if MOST_BYTES < size {
-        return Walked {
-            number: LIST_LENGTH,
-            records: 0,
-        };
+        return Err(Number::ListLength);
     }
     if size == 0 {
-        return Walked {
-            number: 0,
-            records: 0,
-        };
+        return Ok(0);
     }
     chain::way(list, RECORD, 1)
 }
@@ -81,32 +72,15 @@ fn one(
     ensures written_le_brief { (records.code_of (records.record_in list.now k) ≡ 5 → ⊥)
         → result.written ≤ buffers.brief }
 {
-    let from = (k - 1) * RECORD;
-    let record = &list[from..from + RECORD];
-    let done = perform(store, memory, buffer, record);
-    let answer = done.answer;
-    let n = answer.length;
-    let written = lines::call_line(out, k as u8, record[CODE], answer, &buffer[..n]);
-    let left = done.store;
+    let called = record_in(list, k);
+    let (left, answer) = left_by(store, perform(store, memory, buffer, called));
+    let n = answer.map_or(0, |given| given.length());
+    let written = lines::call_line(out, k as u8, called.code(), answer, &buffer[..n]).unwrap();
     Ran {
         store: left,
-        next: wide(list[from]),
+        next: called.next(),
         written,
     }
-}
-
-// A memory of zeros.
-fn blank_memory() -> [u8; 16384]
-    ensures { result ≡ replicate memory 0 }
-{
-    [0; MEMORY]
-}
-
-// A buffer of zeros.
-fn blank_buffer() -> [u8; 4096]
-    ensures { result ≡ replicate runs.buffer_bytes 0 }
-{
-    [0; BUFFER]
 }
 
 // Does the calls of a chain of `total` records on a memory and a buffer that are new, and puts their lines into `out`.
@@ -122,16 +96,13 @@ fn run_calls(
     ensures ends { loops.Ends list.now total result }
 {
     let mut store = store::starting();
-    let mut at: usize = 1;
-    let mut i: usize = 0;
-    let mut end: usize = 0;
-    while i < total {
+    let mut at = 1;
+    let mut end = 0;
+    'calls: for _ in 0..total {
         let ran = one(list, at, store, memory, buffer, &mut out[end..]);
-        let left = ran.store;
-        store = left;
+        store = ran.store;
         at = ran.next;
         end += ran.written;
-        i += 1;
     }
     end
 }
@@ -140,15 +111,14 @@ fn run_calls(
 fn quiet(list: &[u8]) -> bool
     ensures { result ≡ texts.quiet list.now }
 {
-    let n = list.len() / RECORD;
-    let mut ok = true;
-    let mut i: usize = 0;
-    while i < n {
-        let code = list[i * RECORD + CODE];
-        ok = (code != READ) & ok;
-        i += 1;
-    }
-    ok
+    none_read(list.as_chunks::<RECORD>().0)
+}
+
+// Whether none of some records is a read.
+fn none_read(some: &[[u8; RECORD]]) -> bool
+    ensures { result ≡ list_all (λ r. not (eqb (records.code_of r) 5)) some.now }
+{
+    some.iter().all(|record| record[CODE] != Code::Read as u8)
 }
 
 // How many bytes are enough for the text of a list.
@@ -158,24 +128,22 @@ fn room_for(list: &[u8]) -> usize
     if quiet(list) { BRIEF_TEXT } else { MOST_TEXT }
 }
 
-// Puts the text of the run of a list at the start of `out` and tells how many bytes it has; 0 where `out` has less than
+// Puts the text of the run of a list at the start of `out` and tells how many bytes it has; nothing where `out` has less than
 // the list's room, and then no call is done.
-pub fn run(list: &[u8], out: &mut [u8]) -> usize
-    ensures { buffers.Begins out.old out.new result (texts.output_within (length out.old) list.now) }
+pub fn run(list: &[u8], out: &mut [u8]) -> Option<usize>
+    ensures begins { buffers.Begins out.old out.new (buffers.filled result) (texts.output_within (length out.old) list.now) }
+    ensures there { IsSome result ↔ (texts.room_for list.now ≤ length out.old) }
 {
-    let room = room_for(list);
-    if out.len() < room {
-        return 0;
+    if out.len() < room_for(list) {
+        return None;
     }
-    let walked = check(list);
-    let number = walked.number;
-    if number != 0 {
-        return lines::refused_line(out, number);
-    }
-    let total = walked.records;
-    let mut memory = blank_memory();
-    let mut buffer = blank_buffer();
+    let total = match check(list) {
+        Ok(total) => total,
+        Err(number) => return lines::refused_line(out, number.code()),
+    };
+    let mut memory = [0; MEMORY];
+    let mut buffer = [0; BUFFER];
     let end = run_calls(list, total, &mut memory, &mut buffer, out);
-    let last = lines::end_line(&mut out[end..], total as u8);
-    end + last
+    let last = lines::end_line(&mut out[end..], total as u8).unwrap();
+    Some(end + last)
 }

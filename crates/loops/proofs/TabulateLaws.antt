@@ -66,3 +66,22 @@ module _ {A : Type 0} where
 
     pub filled_all : n ≤ i → l ≡ tabulate n f
     filled_all h = tabulate_is n f d l w.size (λ k b. w.at k (omega arith))
+
+  -- the first i elements of an array of n are f's, and the others still those of s
+  pub record Replaced (n : ℕ) (f : ℕ → A) (d : A) (s : List A) (i : ℕ) (l : List A) : Type 0 where
+    pub done : Filled n f d i l
+    pub rest : (k : ℕ) → i ≤ k → get_or l k d ≡ get_or s k d
+
+  pub replaced_none : (n : ℕ) (f : ℕ → A) (d : A) (s : List A) → length s ≡ n → Replaced n f d s 0 s
+  replaced_none n f d s e = record { done = filled_none n f d s e; rest = λ k h. refl }
+
+  module _ (n : ℕ) (f : ℕ → A) (d : A) (s : List A) (i : ℕ) (l : List A) (w : Replaced n f d s i l) where
+    pub replaced_more : i < n → (v : A) → v ≡ f i → Replaced n f d s (i + 1) (set l i v)
+    replaced_more h v e =
+        record {
+          done = filled_more n f d i l w.done h v e;
+          rest = λ k b. get_or-set_other l i k v d (other k b) ∙ w.rest k (omega arith);
+        }
+      where
+        other : (k : ℕ) → i + 1 ≤ k → k ≡ i → ⊥
+        other k b q = omega arith

@@ -1,25 +1,19 @@
--- What is done to a handle that was decoded is done to its bytes.
+-- No handle is written where a weakening is refused.
 -- Assumes nothing.
-use mathlib.Core.Path.{◌≡◌, ap, ◌∙◌}
-use mathlib.Core.Bool.{Bool}
+use mathlib.Core.Path.{◌≡◌, refl, ap, ◌∙◌}
 use mathlib.Core.List.{List}
 use Prim.Native.Nat.{ℕ}
+use lib.ListN.{replicate}
 use Rattle.handle.specs.declared.Handle.{Handle}
-use Rattle.handle.specs.declared.HandleBytes.{HandleBytes}
-use Rattle.handle.specs.declared.Weakened.{Weakened}
-use Rattle.handle.specs.Handles.{decoded, written}
-use Rattle.measured.specs.Handles.{handed, validated_by, weakened_by, validated, weakened}
+use Rattle.handle.specs.Handles.{Weakened, no_handle, decoded, encoded, written, refusal}
+use Rattle.handle.specs.Widths.{most_bytes}
+use Rattle.measured.specs.Handles.{handed, weakened_by, weakened}
 
-module _ (b : List ℕ) (h : Handle) (e : h ≡ decoded b) where
-  pub validates_so : (p : List ℕ) (r : Bool) → r ≡ validated_by p h → r ≡ validated p b
-  validates_so p r d = d ∙ ap (validated_by p) e
+none_written : handed (replicate most_bytes 0) 0 ≡ written no_handle
+unfolding written encoded
+none_written = refl
 
-  module _ (mask : ℕ) (w : Weakened) (d : w ≡ weakened_by h mask) where
-    here : w ≡ weakened b mask
-    here = d ∙ ap (λ (k : Handle). weakened_by k mask) e
-
-    pub weakened_number : w.number ≡ (weakened b mask).number
-    weakened_number = ap (λ (v : Weakened). v.number) here
-
-    pub weakened_bytes : (g : HandleBytes) → g ≡ written w.handle → handed g.bytes g.length ≡ written (weakened b mask).handle
-    weakened_bytes g f = f ∙ ap (λ (v : Weakened). written v.handle) here
+pub refused_bytes : (b : List ℕ) (h : Handle) → h ≡ decoded b → (mask n : ℕ) → refusal n ≡ weakened_by h mask
+    → handed (replicate most_bytes 0) 0 ≡ written (weakened b mask).handle
+refused_bytes b h e mask n d =
+    none_written ∙ ap (λ (w : Weakened). written w.handle) (d ∙ ap (λ (k : Handle). weakened_by k mask) e)

@@ -1,3 +1,2 @@
-pub mod HandleLaws
 pub mod StoreLaws
-pub mod EntryLaws
+pub mod HandleLaws

@@ -8,19 +8,18 @@ use borrow.Author.Tests.{eq-eqb, ne_eqb}
 use lib.ListN.{replicate}
 use Rattle.loops.specs.Tabulate.{tabulate}
 use Rattle.sizes.specs.Sizes.{segments, password_bytes}
-use Rattle.store.specs.declared.Place.{Place}
-use Rattle.store.specs.declared.Place.TheVariants.{Absent, Present}
+use Rattle.store.specs.Places.{Place, None, present_at}
 use Rattle.store.specs.declared.Segment.{Segment}
 use Rattle.measured.specs.Stores.{place_from, segment_from, cluster_from}
 
 abbrev chosen : ℕ → ℕ → Bool → Place
-chosen base length b = elim b [ true ↦ Absent | false ↦ Present base length ]
+chosen base length b = elim b [ true ↦ None | false ↦ present_at base length ]
 
-pub place_absent : (base length : ℕ) → length ≡ 0 → Absent ≡ place_from base length
+pub place_absent : (base length : ℕ) → length ≡ 0 → None ≡ place_from base length
 unfolding place_from
 place_absent base length e = sym (ap (chosen base length) (eq-eqb length 0 e))
 
-pub place_present : (base length : ℕ) → (length ≡ 0 → ⊥) → Present base length ≡ place_from base length
+pub place_present : (base length : ℕ) → (length ≡ 0 → ⊥) → present_at base length ≡ place_from base length
 unfolding place_from
 place_present base length h = sym (ap (chosen base length) (ne_eqb length 0 h))
 

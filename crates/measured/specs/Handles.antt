@@ -6,7 +6,7 @@
 use Rattle.std.specs.Prelude.{ℕ, Bool, List}
 use Rattle.handle.specs.declared.Handle.{Handle}
 use Rattle.handle.specs.declared.HandleBytes.{HandleBytes}
-use Rattle.handle.specs.declared.Weakened.{Weakened}
+use Rattle.handle.specs.Handles.{Weakened}
 use Rattle.handle.specs.Handles.{decoded, name_of, width_of, validates, weakening}
 use Rattle.handle.specs.Conversion.{product}
 

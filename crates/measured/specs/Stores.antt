@@ -4,15 +4,14 @@
 use Rattle.std.specs.Prelude.{ℕ, ◌+◌, ◌*◌, true, false, List, eqb, get_or, replicate}
 use Rattle.loops.specs.Tabulate.{tabulate}
 use Rattle.sizes.specs.Sizes.{records, segments, password_bytes}
-use Rattle.store.specs.declared.Place.{Place}
-use Rattle.store.specs.declared.Place.TheVariants.{Absent, Present}
+use Rattle.store.specs.Places.{Place, None, present_at}
 use Rattle.store.specs.declared.Segment.{Segment}
 use Rattle.store.specs.declared.Cluster.{Cluster}
 use Rattle.store.specs.declared.Store.{Store}
 use Rattle.store.specs.Records.{segment_at}
 
 unfoldable pub place_from : ℕ → ℕ → Place
-place_from base length = elim (eqb length 0) [ true ↦ Absent | false ↦ Present base length ]
+place_from base length = elim (eqb length 0) [ true ↦ None | false ↦ present_at base length ]
 
 abbrev pub segment_from : List ℕ → List ℕ → ℕ → ℕ → Segment
 segment_from bases lengths n i =

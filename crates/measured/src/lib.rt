@@ -15,7 +15,7 @@ ghost use Rattle.calls.specs.Answers.{copy_of};
 
 use handle::{HANDLE_BYTES, Handle};
 use sizes::{PASSWORD_BYTES, Password, RECORDS, SEGMENTS};
-use store::{Cluster, Place, Segment, Store};
+use store::{Cluster, Segment, Span, Store};
 
 // Clusters of sixteen segments, and an entry for each segment of the store.
 const WIDTH: u8 = 16;
@@ -27,10 +27,7 @@ const ENTRIES: usize = 512;
 pub extern "C" fn measured_encrypt(key: &[u8; 16], block: &[u8; 16], out: &mut [u8; 16])
     ensures { out.new ≡ cipher key.now block.now }
 {
-    let k = *key;
-    let b = *block;
-    let r = aes::encrypt(k, b);
-    *out = r;
+    *out = aes::encrypt(*key, *block);
 }
 
 // Whether the handle that bytes hold validates from a primary password.
@@ -38,9 +35,8 @@ pub extern "C" fn measured_encrypt(key: &[u8; 16], block: &[u8; 16], out: &mut [
 pub extern "C" fn measured_validate(handle: &[u8], primary: &Password) -> bool
     ensures { result ≡ validated primary.now handle.now }
 {
-    let p = *primary;
-    let tables = aes::tables();
-    Handle::decode(handle).validates_with(&tables, p)
+    let tables = aes::Tables::new();
+    Handle::decode(handle).validates_with(&tables, *primary)
 }
 
 // The handle that bytes hold, weakened by a mask; its bytes and its length go out, its number is returned.
@@ -54,22 +50,29 @@ pub extern "C" fn measured_weaken(
     ensures value { result ≡ (weakened handle.now mask).number }
     ensures out_length_after { handed out.new out_length.new ≡ written (weakened handle.now mask).handle }
 {
-    let reply = Handle::decode(handle).weaken(mask);
-    let weaker = reply.handle;
-    let given = weaker.encode();
-    let bytes = given.bytes;
-    *out = bytes;
-    *out_length = given.length;
-    reply.number
+    match Handle::decode(handle).weaken(mask) {
+        Ok(weaker) => {
+            let given = weaker.handle.encode();
+            let bytes = given.bytes;
+            *out = bytes;
+            *out_length = given.length;
+            0
+        }
+        Err(number) => {
+            *out = [0; HANDLE_BYTES];
+            *out_length = 0;
+            number.code()
+        }
+    }
 }
 
-fn place_from(base: u16, length: u16) -> Place
+fn place_from(base: u16, length: u16) -> Option<Span>
     ensures { result ≡ place_from base length }
 {
     if length == 0 {
-        return Place::Absent;
+        return None;
     }
-    Place::Present { base, length }
+    Some(Span { base, length })
 }
 
 // The segments of record n.
@@ -78,13 +81,13 @@ fn segments_from(bases: &[u16; ENTRIES], lengths: &[u16; ENTRIES], n: usize) -> 
     ensures { result ≡ tabulate segments (segment_from bases.now lengths.now n) }
 {
     let absent = Segment {
-        place: Place::Absent,
+        place: None,
         frozen: false,
     };
     let mut r = [absent; SEGMENTS];
-    for i in 0..SEGMENTS {
+    for (i, segment) in r.iter_mut().enumerate() {
         let at = n * SEGMENTS + i;
-        r[i] = Segment {
+        *segment = Segment {
             place: place_from(bases[at], lengths[at]),
             frozen: false,
         };
@@ -96,9 +99,9 @@ fn store_from(bases: &[u16; ENTRIES], lengths: &[u16; ENTRIES]) -> Store
     ensures { result ≡ store_from bases.now lengths.now }
 {
     let mut clusters = [store::inactive_cluster(); RECORDS];
-    for n in 0..RECORDS {
+    for (n, cluster) in clusters.iter_mut().enumerate() {
         let segments = segments_from(bases, lengths, n);
-        clusters[n] = Cluster {
+        *cluster = Cluster {
             active: true,
             width: WIDTH,
             read: [0; PASSWORD_BYTES],
@@ -137,8 +140,10 @@ pub extern "C" fn measured_read(
         (copy_of (store_from bases.now lengths.now) memory.now)).reply.buffer }
 {
     let store = store_from(bases, lengths);
-    let answer = guard::read(store, memory, buffer, segment, handle);
-    answer.length
+    match guard::read(store, memory, buffer, segment, handle) {
+        Ok(given) => given.length(),
+        Err(_) => 0,
+    }
 }
 
 // A look on such a store: how many bytes it shows.
@@ -155,6 +160,5 @@ pub extern "C" fn measured_look(
         (copy_of (store_from bases.now lengths.now) memory.now)).reply.shown }
 {
     let store = store_from(bases, lengths);
-    let shown = guard::look(store, memory, current, segment, handle);
-    shown.len()
+    guard::look(store, memory, current, segment, handle).len()
 }

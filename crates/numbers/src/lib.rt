@@ -1,62 +1,11 @@
-// The numbers of document 01's table and of document 02 by their words, named once for all code; `specs/` has those that
-// definitions name.
+// The numbers of document 01's table and of document 02 by their words, named once for all code; `specs/` has the number of
+// each, and those that definitions name.
 #![tactic(auto)]
 
 ghost use Rattle.std.specs.Prelude.{◌≡◌};
 ghost use Rattle.numbers.specs.Codes.{code, told};
 
-pub const UNSOUND: u8 = 1;
-
-pub const NO_SUCH_PLACE: u8 = 2;
-
-pub const FIELD: u8 = 3;
-
-pub const GAPPED: u8 = 4;
-
-pub const ELSEWHERE: u8 = 5;
-
-pub const IN_USE: u8 = 6;
-
-pub const TWINS: u8 = 7;
-
-pub const INACTIVE: u8 = 8;
-
-pub const VIOLATED: u8 = 9;
-
-pub const NOT_PRIMARY: u8 = 10;
-
-pub const NOT_REFERENCED: u8 = 11;
-
-pub const OLD_PASSWORD: u8 = 12;
-
-pub const PRESENT: u8 = 13;
-
-pub const ABSENT: u8 = 14;
-
-pub const SHORT: u8 = 15;
-
-pub const NO_ROOM: u8 = 16;
-
-pub const SPENT: u8 = 17;
-
-pub const LIST_LENGTH: u8 = 18;
-
-pub const LINK: u8 = 19;
-
-pub const LOOP: u8 = 20;
-
-pub const EMPTY: u8 = 21;
-
-pub const FROZEN: u8 = 22;
-
-pub const WHOLE: u8 = 23;
-
-pub const APART: u8 = 24;
-
-pub const LENGTH: u8 = 25;
-
-// The same numbers as a type: what a call is refused with. In code a call that is done is `Ok`, and one that is refused is `Err` of
-// its number.
+// What a call is refused with. A call that is done is `Ok`, and one that is refused is `Err` of its number.
 #[derive(Clone, Copy, Debug, PartialEq, Eq)]
 pub enum Number {
     Unsound = 1,
@@ -95,12 +44,12 @@ impl Number {
     }
 }
 
-// The number that a caller in C is told: 0 where the call is done.
-pub fn told(done: Result<(), Number>) -> u8
-    ensures { result ≡ told done }
+// The number that is told of a call, whatever it gives: 0 where it is done.
+pub fn told<T>(answer: &Result<T, Number>) -> u8
+    ensures { result ≡ told answer.now }
 {
-    match done {
-        Ok(()) => 0,
+    match answer {
+        Ok(_) => 0,
         Err(number) => number.code(),
     }
 }

@@ -1,5 +1,3 @@
 pub mod AfterLaws
-pub mod RowLaws
-pub mod OwnerLaws
 pub mod GivenLaws
-pub mod PairLaws
+pub mod OwnerLaws

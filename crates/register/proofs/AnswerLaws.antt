@@ -18,7 +18,7 @@ use Rattle.handle.specs.Handles.{Name, name_of, decoded, encoded, Holdable}
 use Rattle.handle.specs.Conversion.{SixteenBytes}
 use Rattle.handle.proofs.HeldLaws.{holdable_decoded, holdable_weakened}
 use Rattle.handle.proofs.TripLaws.{decode_encode}
-use Rattle.register.specs.declared.Told.{Told}
+use Rattle.register.specs.Registers.{Told}
 use Rattle.register.specs.Registers.{entries, way_of, masks_of, given, made, lowest, told, whole_number, told_first, one_if}
 use Rattle.register.specs.Registers.{opened_as, handles_told, bytes_up_to, handles_left, opens, openers_up_to}
 use Rattle.register.specs.Registers.{openers_entry, openers_told, openers_left}
@@ -217,7 +217,7 @@ module _ (f : Name → List ℕ → ℕ → List ℕ) where
 
   module _ (b e : List ℕ) (room : ℕ) where
     whole_clear : whole_number b false (length e) room 23 ≡ 0 → Clear b (length e) room 23
-    whole_clear z = (going b false (length e) room 23 0 (sym z) refl).0
+    whole_clear z = (going b false (length e) room 23 (sym z)).0
 
     pub handles_done : HandlesDone f b e room
     unfolding handles_told
@@ -358,7 +358,7 @@ module _ (f : Name → List ℕ → ℕ → List ℕ) where
     here = Clear b (length e) room 1 × (s ≤ 7)
 
     here_out : whole_number b (ltb 7 s) (length e) room 1 ≡ 0 → here
-    here_out z = let c = going b (ltb 7 s) (length e) room 1 0 (sym z) refl in (c.0, ltb-false 7 s c.1)
+    here_out z = let c = going b (ltb 7 s) (length e) room 1 (sym z) in (c.0, ltb-false 7 s c.1)
 
     here_in : here → whole_number b (ltb 7 s) (length e) room 1 ≡ 0
     here_in (c, l) = clear_in b (ltb 7 s) (length e) room 1 c (le-ltb 7 s l)

@@ -10,12 +10,12 @@ use borrow.Author.Tests.{eq-eqb, ne_eqb}
 use Rattle.loops.proofs.SearchLaws.{least_none, least_is}
 use Rattle.chain.specs.Way.{reached, records, done, refusal}
 use Rattle.chain.specs.Means.{IsRecord, OnRecords}
-use Rattle.chain.specs.declared.Walked.{Walked}
+use Rattle.chain.specs.Way.{Walked}
 use Rattle.chain.proofs.WayLaws.{reached_none, way_zero}
 use Rattle.chain.proofs.MeansLaws.{few}
 use Rattle.chain.proofs.RecordLaws.{reached_next}
 use Rattle.handle.specs.declared.Handle.{Handle}
-use Rattle.handle.specs.declared.Weakened.{Weakened}
+use Rattle.handle.specs.Handles.{Weakened}
 use Rattle.handle.specs.Handles.{Name, name_of, width_of, weakening}
 use Rattle.register.specs.Registers.{entries, parent_of, mask_of, way_of, masks_of}
 use Rattle.register.specs.Registers.{Made, given, failed, settled, stepped, steps, ended, made, fails, tells, lowest}

@@ -11,20 +11,23 @@ use mathlib.Core.List.{List, [], ◌∷◌}
 use lib.Bits.{bit_and}
 use lib.Dec.{eqb, leb}
 use lib.Pow.{pow-lt}
-use lib.ListN.{length, set, length-set}
+use lib.ListN.{length, get_or, set, length-set}
+use lib.Seq.{get_or-set_same, get_or-set_other}
+use Rattle.std.specs.Prelude.{Option, Some, None, Ok}
+use Rattle.std.specs.Option.{is_some, unwrap_or}
 use borrow.Author.Tests.{ne_eqb}
 use mir.Val.{Fits}
 use mir.Syntax.{w16}
 use Rattle.bits.specs.Sets.{has, full}
 use Rattle.bits.proofs.SetLaws.{set_of_same}
 use Rattle.bits.proofs.OperationLaws.{and_has, mask_test}
-use Rattle.loops.proofs.BelowLaws.{and_left, and_right, and_both}
+use Rattle.loops.proofs.BelowLaws.{and_left}
 use Rattle.numbers.specs.Numbers.{empty_number, spent_number, wrong_length_number, place_number, gapped_number}
+use Rattle.numbers.specs.declared.Number.TheVariants.{Empty, Spent}
 use Rattle.sizes.specs.Sizes.{nodes, clusters}
 use Rattle.handle.specs.declared.Handle.{Handle}
-use Rattle.handle.specs.declared.Weakened.{Weakened}
+use Rattle.handle.specs.Handles.{Weakened}
 use Rattle.handle.specs.Sizes.{subselectors}
-use Rattle.handle.specs.Conversion.{product}
 use Rattle.handle.specs.Selectors.{references, flat, all_flat, gapped, first_flat, common, referenced}
 use Rattle.handle.specs.Handles.{Name, name_of, width_of, Row, first_of, own_rows, refusal, reply, cut, weakened, weakening}
 use Rattle.handle.proofs.SelectorLaws.{first_here, first_past, rest_flat, rest_ungapped}
@@ -33,7 +36,7 @@ use Rattle.handle.proofs.EmptyLaws.{handle_done, number_done}
 use Rattle.handle.proofs.WeakenLaws.{refused_empty, refused_spent, weaken_unchanged, weaken_changed, excluded_le}
 use Rattle.handle.proofs.WidthLaws.{bits_le}
 use Rattle.register.specs.declared.Seen.{Seen}
-use Rattle.register.specs.inner.Work.{Standing, Sees, Narrows, Weaker}
+use Rattle.register.specs.inner.Work.{blank, Standing, Sees, Refuses, Keeps, Cuts, Narrows, Weaker, StepsTo}
 
 -- ---- the first flat subselector after a cut
 
@@ -130,23 +133,20 @@ module _ (s : Seen) (mask : ℕ) where
   abbrev x : ℕ
   x = s.set
 
-  pub narrow_empty : bit_and s.set mask ≡ 0 → Narrows s mask (record { number = empty_number; cut = false; seen = s })
+  pub narrow_empty : bit_and s.set mask ≡ 0 → Refuses s mask Empty
   narrow_empty t =
       record {
         number = λ h v f.
             number_of (refusal empty_number) (weakening (width_of h) f h mask)
             (refused_empty (width_of h) f h mask 0 (own_none h v.standing) refl x v.set t (refusal empty_number) refl);
-        seen = λ z. absurd (omega arith);
-        same = λ z. absurd (omega arith);
       }
 
   module _ (m : Fits w16 mask) (some : bit_and s.set mask ≡ 0 → ⊥) where
-    pub narrow_same : bit_and s.set (full 16 - mask) ≡ 0 → Narrows s mask (record { number = 0; cut = false; seen = s })
+    pub narrow_same : bit_and s.set (full 16 - mask) ≡ 0 → Keeps s mask
     narrow_same t =
         record {
           number = λ h v f. number_of _ (weakening (width_of h) f h mask) (same h v f);
-          seen = λ z h v f. subst (λ (w : Weakened). Sees w.handle s) (same h v f) v;
-          same = λ z q h v f. ap (λ (w : Weakened). w.handle) (sym (same h v f));
+          same = λ h v f. ap (λ (w : Weakened). w.handle) (sym (same h v f));
         }
       where
         same : (h : Handle) → Sees h s → (f : List ℕ → ℕ → List ℕ)
@@ -156,26 +156,22 @@ module _ (s : Seen) (mask : ℕ) where
             (reply 0 h (referenced (width_of h) h.selector)) refl
 
     module _ (t : bit_and s.set (full 16 - mask) ≡ 0 → ⊥) where
-      pub narrow_spent : subselectors ≤ s.flat → Narrows s mask (record { number = spent_number; cut = false; seen = s })
+      pub narrow_spent : subselectors ≤ s.flat → Refuses s mask Spent
       narrow_spent l =
           record {
             number = λ h v f.
                 number_of (refusal spent_number) (weakening (width_of h) f h mask)
                 (refused_spent (width_of h) f h mask 0 (own_none h v.standing) refl (bits_le h.width) m x v.set some t
                 v.four s.flat v.flat l (refusal spent_number) refl);
-            seen = λ z. absurd (omega arith);
-            same = λ z. absurd (omega arith);
           }
 
-      pub narrow_cut : s.flat < subselectors
-          → Narrows s mask (record { number = 0; cut = true; seen = record { set = bit_and s.set mask; flat = s.flat + 1 } })
+      pub narrow_cut : s.flat < subselectors → Cuts s mask (record { set = bit_and s.set mask; flat = s.flat + 1 })
       narrow_cut l =
           record {
-            number = λ h v f. done h v f;
-            seen = λ z h v f.
+            number = done;
+            seen = λ h v f.
                 seen_weakened f h mask s _ v (done h v f) (common_weakened f h mask x v.set (done h v f))
                 (flats h v f);
-            same = λ z q. absurd (true≢false q);
           }
         where
           q : ℕ → ℕ
@@ -207,31 +203,47 @@ module _ (s : Seen) (mask : ℕ) where
               ∙ ap (λ (w : Weakened). first_flat (width_of h) w.handle.selector) (is h v f)
               ∙ ap (λ (g : Handle). first_flat (width_of h) g.selector) (handle_done (width_of h) f h mask (done h v f))
 
--- ---- what is seen of a handle, and the handle itself
+-- ---- a step
 
-pub first_fits : (h : Handle) (k : ℕ) → k ≡ first_flat (width_of h) h.selector → length h.selector ≡ subselectors → Fits w16 k
-first_fits h k q l = let a = first_low (width_of h) h.selector in record { fits = omega arith }
+module _ (s : Seen) (mask : ℕ) where
+  -- what is seen after the weakening: of the weaker handle, or of the same
+  pub cut_of : (o : Option Seen) → Narrows s mask (Ok o) → (r : Seen) → r ≡ unwrap_or o s → Cuts s mask r
+  cut_of None n r q =
+      subst (Cuts s mask) (sym q)
+      (record { number = n.number; seen = λ h v f. subst (λ (g : Handle). Sees g s) (sym (n.same h v f)) v })
+  cut_of (Some v) n r q = subst (Cuts s mask) (sym q) n
 
-pub sees_of : (h : Handle) → Standing h → length h.selector ≡ subselectors → (x k : ℕ)
-    → x ≡ common (width_of h) h.selector → k ≡ first_flat (width_of h) h.selector
-    → Sees h (record { set = x; flat = k })
-sees_of h s l x k q r = record { standing = s; four = l; set = q; flat = r }
+  module _ (f : Name → List ℕ → ℕ → List ℕ) where
+    weaker_is : (o : Option Seen) → Narrows s mask (Ok o) → (b : Bool) → b ≡ is_some o → (h g : Handle) → Weaker f b h mask g
+        → Sees h s → g ≡ (weakening (width_of h) (f (name_of h)) h mask).handle
+    weaker_is None n b q h g w v = w.kept q ∙ sym (n.same h v (f (name_of h)))
+    weaker_is (Some c) n b q h g w v = w.made q (n.number h v (f (name_of h)))
 
-module _ (wanted cut : Bool) (parent : Handle) (mask : ℕ) where
-  pub weaker_cut : (wanted && cut) ≡ true → (w : Weakened) → w ≡ weakening (width_of parent) (product (name_of parent)) parent mask
-      → Weaker wanted cut parent mask w.handle
-  weaker_cut t w q =
-      record {
-        made = λ u v. ap (λ (w : Weakened). w.handle) q;
-        kept = λ u v. absurd (true≢false (sym (and_right wanted cut t) ∙ v));
-      }
+    module _ (o : Option Seen) (n : Narrows s mask (Ok o)) (r : Seen) (u : r ≡ unwrap_or o s) (hs : List Handle)
+        (above k : ℕ) where
+      pub step_wanted : (wanted : Bool) → (hs' : List Handle) (b : Bool) → b ≡ is_some o → (g : Handle)
+          → Weaker f b (get_or hs above blank) mask g → hs' ≡ set hs k g → length hs' ≡ 256 → k ≤ 255
+          → StepsTo f wanted s hs above k mask hs' r
+      step_wanted wanted hs' b q g w e long low =
+          subst (λ (l : List Handle). StepsTo f wanted s hs above k mask l r) (sym e)
+          (record {
+            entry =
+                record {
+                  seen = cut_of o n r u;
+                  handle = λ t v.
+                      get_or-set_same hs k g blank (let l = ap length e in let m = length-set hs k g in omega arith)
+                      ∙ weaker_is o n b q (get_or hs above blank) g w v;
+                };
+            others = λ i z. get_or-set_other hs k i g blank z;
+          })
 
-  pub weaker_kept : (wanted && cut) ≡ false → Weaker wanted cut parent mask parent
-  weaker_kept t =
-      record {
-        made = λ u v. absurd (true≢false (sym (and_both wanted cut u v) ∙ t));
-        kept = λ u v. refl;
-      }
+      pub step_unwanted : (wanted : Bool) → wanted ≡ false → (hs' : List Handle) → hs' ≡ hs → StepsTo f wanted s hs above k mask hs' r
+      step_unwanted wanted z hs' e =
+          subst (λ (l : List Handle). StepsTo f wanted s hs above k mask l r) (sym e)
+          (record {
+            entry = record { seen = cut_of o n r u; handle = λ t. absurd (true≢false (sym t ∙ z)) };
+            others = λ i z. refl;
+          })
 
 pub code_has : (x i : ℕ) → i ≤ 7 → not (eqb (bit_and x (1 * 2 ^ i % 65536)) 0) ≡ has i x
 code_has x i h =

@@ -3,6 +3,7 @@
 use mathlib.Core.Path.{◌≡◌, refl, sym, ap, ◌∙◌, subst}
 use mathlib.Core.Bool.{Bool, true, false}
 use mathlib.Core.List.{List, [], ◌∷◌, ◌++◌, append_assoc, append-nil}
+use Rattle.std.specs.Prelude.{Option, None}
 use Prim.Native.Nat.{ℕ, ◌+◌, ◌*◌, ◌≤◌, ◌<◌}
 use native.Mathlib.Numerals.{add-one}
 use native.Mathlib.Omega.{arith}
@@ -10,11 +11,10 @@ use lib.ListN.{length, get_or, set, take, drop, length-append, length-set, take-
 use lib.Seq.{take-suc, take-suc-set, drop-drop, drop-set-lt, length-take-le}
 use Rattle.handle.specs.declared.Handle.{Handle}
 use Rattle.handle.specs.declared.HandleBytes.{HandleBytes}
-use Rattle.bits.specs.Sets.{has}
 use Rattle.handle.specs.Handles.{written}
 use Rattle.register.specs.declared.Seen.{Seen}
 use Rattle.register.specs.Registers.{one_if}
-use Rattle.register.specs.inner.Work.{Put, PutHandle, openers_in, laid_in, blank, unseen, Fitting, Room}
+use Rattle.register.specs.inner.Work.{segment_in, Put, PutHandle, openers_in, laid_in, blank, Fitting, Room}
 
 pub put_none : (m : List ℕ) (at : ℕ) → Put m m at []
 put_none m at =
@@ -76,47 +76,47 @@ put_start m m' text p =
 
 -- ---- the loop that lists numbers
 
-openers_more : (ss : List Seen) (s n : ℕ) (b : Bool) → has s (get_or ss (n + 1) unseen).set ≡ b
-    → openers_in ss s (n + 1) ≡ openers_in ss s n ++ one_if b (n + 1)
+openers_more : (es : List (Option Seen)) (s n : ℕ) (b : Bool) → segment_in s (get_or es (n + 1) None) ≡ b
+    → openers_in es s (n + 1) ≡ openers_in es s n ++ one_if b (n + 1)
 unfolding openers_in
-openers_more ss s n b q =
-    ap (openers_in ss s) (add-one n)
-    ∙ ap (λ (k : ℕ). openers_in ss s n ++ one_if (has s (get_or ss k unseen).set) k) (sym (add-one n))
-    ∙ ap (λ (b : Bool). openers_in ss s n ++ one_if b (n + 1)) q
+openers_more es s n b q =
+    ap (openers_in es s) (add-one n)
+    ∙ ap (λ (k : ℕ). openers_in es s n ++ one_if (segment_in s (get_or es k None)) k) (sym (add-one n))
+    ∙ ap (λ (b : Bool). openers_in es s n ++ one_if b (n + 1)) q
 
-openers_none : (ss : List Seen) (s : ℕ) → openers_in ss s 0 ≡ []
+openers_none : (es : List (Option Seen)) (s : ℕ) → openers_in es s 0 ≡ []
 unfolding openers_in
-openers_none ss s = refl
+openers_none es s = refl
 
-pub record Listing (ss : List Seen) (n s : ℕ) (m m' : List ℕ) (count k : ℕ) : Type 0 where
+pub record Listing (es : List (Option Seen)) (n s : ℕ) (m m' : List ℕ) (count k : ℕ) : Type 0 where
   pub few : n ≤ 255
   pub room : n ≤ length m
   pub low : k ≤ n
   pub size : length m' ≡ length m
   pub least : count ≤ k
-  pub told : count ≡ length (openers_in ss s k)
-  pub so_far : Put m m' 0 (openers_in ss s k)
+  pub told : count ≡ length (openers_in es s k)
+  pub so_far : Put m m' 0 (openers_in es s k)
 
-pub listing_none : (ss : List Seen) (n s : ℕ) (m : List ℕ) → n ≤ 255 → n ≤ length m → Listing ss n s m m 0 0
-listing_none ss n s m a b =
+pub listing_none : (es : List (Option Seen)) (n s : ℕ) (m : List ℕ) → n ≤ 255 → n ≤ length m → Listing es n s m m 0 0
+listing_none es n s m a b =
     record {
       few = a;
       room = b;
       low = omega arith;
       size = refl;
       least = omega arith;
-      told = sym (ap length (openers_none ss s));
-      so_far = subst (Put m m 0) (sym (openers_none ss s)) (put_none m 0);
+      told = sym (ap length (openers_none es s));
+      so_far = subst (Put m m 0) (sym (openers_none es s)) (put_none m 0);
     }
 
-module _ (ss : List Seen) (n s : ℕ) (m m' : List ℕ) (count k : ℕ) (l : Listing ss n s m m' count k) where
+module _ (es : List (Option Seen)) (n s : ℕ) (m m' : List ℕ) (count k : ℕ) (l : Listing es n s m m' count k) where
   pub listing_inside : k < n → count < length m'
   listing_inside h = let a = l.room in let b = l.size in let c = l.least in omega arith
 
-  module _ (h : k < n) (b : Bool) (q : b ≡ has s (get_or ss (k + 1) unseen).set) where
-    pub listing_opens : b ≡ true → Listing ss n s m (set m' count (k + 1)) (count + 1) (k + 1)
+  module _ (h : k < n) (b : Bool) (q : b ≡ segment_in s (get_or es (k + 1) None)) where
+    pub listing_opens : b ≡ true → Listing es n s m (set m' count (k + 1)) (count + 1) (k + 1)
     listing_opens t =
-        let more : openers_in ss s (k + 1) ≡ openers_in ss s k ++ ((k + 1) ∷ []) = openers_more ss s k true (sym q ∙ t) in
+        let more : openers_in es s (k + 1) ≡ openers_in es s k ++ ((k + 1) ∷ []) = openers_more es s k true (sym q ∙ t) in
         record {
           few = l.few;
           room = l.room;
@@ -125,25 +125,25 @@ module _ (ss : List Seen) (n s : ℕ) (m m' : List ℕ) (count k : ℕ) (l : Lis
           least = let c = l.least in omega arith;
           told =
               let c = l.told in
-              let u = length-append (openers_in ss s k) ((k + 1) ∷ []) in
+              let u = length-append (openers_in es s k) ((k + 1) ∷ []) in
               let v = ap length more in
               omega arith;
           so_far =
               subst (Put m (set m' count (k + 1)) 0) (sym more)
-              (put_then m m' (set m' count (k + 1)) 0 count (openers_in ss s k) ((k + 1) ∷ [])
+              (put_then m m' (set m' count (k + 1)) 0 count (openers_in es s k) ((k + 1) ∷ [])
               (let c = l.told in omega arith) l.so_far
               (put_one m' count (k + 1) (listing_inside h)));
         }
 
     pub listing_opens_as : b ≡ true → (m'' : List ℕ) (count'' : ℕ) → m'' ≡ set m' count (k + 1) → count'' ≡ count + 1
-        → Listing ss n s m m'' count'' (k + 1)
+        → Listing es n s m m'' count'' (k + 1)
     listing_opens_as t m'' count'' u v =
-        subst (λ (x : List ℕ). Listing ss n s m x count'' (k + 1)) (sym u)
-        (subst (λ (x : ℕ). Listing ss n s m (set m' count (k + 1)) x (k + 1)) (sym v) (listing_opens t))
+        subst (λ (x : List ℕ). Listing es n s m x count'' (k + 1)) (sym u)
+        (subst (λ (x : ℕ). Listing es n s m (set m' count (k + 1)) x (k + 1)) (sym v) (listing_opens t))
 
-    pub listing_not : b ≡ false → Listing ss n s m m' count (k + 1)
+    pub listing_not : b ≡ false → Listing es n s m m' count (k + 1)
     listing_not t =
-        let more : openers_in ss s (k + 1) ≡ openers_in ss s k = openers_more ss s k false (sym q ∙ t) ∙ append-nil (openers_in ss s k) in
+        let more : openers_in es s (k + 1) ≡ openers_in es s k = openers_more es s k false (sym q ∙ t) ∙ append-nil (openers_in es s k) in
         record {
           few = l.few;
           room = l.room;
@@ -154,21 +154,21 @@ module _ (ss : List Seen) (n s : ℕ) (m m' : List ℕ) (count k : ℕ) (l : Lis
           so_far = subst (Put m m' 0) (sym more) l.so_far;
         }
 
-  pub listing_not_as : k < n → (b : Bool) → b ≡ has s (get_or ss (k + 1) unseen).set → b ≡ false
-      → (m'' : List ℕ) (count'' : ℕ) → m'' ≡ m' → count'' ≡ count → Listing ss n s m m'' count'' (k + 1)
+  pub listing_not_as : k < n → (b : Bool) → b ≡ segment_in s (get_or es (k + 1) None) → b ≡ false
+      → (m'' : List ℕ) (count'' : ℕ) → m'' ≡ m' → count'' ≡ count → Listing es n s m m'' count'' (k + 1)
   listing_not_as h b q t m'' count'' u v =
-      subst (λ (x : List ℕ). Listing ss n s m x count'' (k + 1)) (sym u)
-      (subst (λ (x : ℕ). Listing ss n s m m' x (k + 1)) (sym v) (listing_not h b q t))
+      subst (λ (x : List ℕ). Listing es n s m x count'' (k + 1)) (sym u)
+      (subst (λ (x : ℕ). Listing es n s m m' x (k + 1)) (sym v) (listing_not h b q t))
 
   module _ (h : n ≤ k) where
     all : k ≡ n
     all = let c = l.low in omega arith
 
-    pub listed_count : count ≡ length (openers_in ss s n)
-    listed_count = l.told ∙ ap (λ (k : ℕ). length (openers_in ss s k)) all
+    pub listed_count : count ≡ length (openers_in es s n)
+    listed_count = l.told ∙ ap (λ (k : ℕ). length (openers_in es s k)) all
 
-    pub listed_put : Put m m' 0 (openers_in ss s n)
-    listed_put = subst (λ (k : ℕ). Put m m' 0 (openers_in ss s k)) all l.so_far
+    pub listed_put : Put m m' 0 (openers_in es s n)
+    listed_put = subst (λ (k : ℕ). Put m m' 0 (openers_in es s k)) all l.so_far
 
 -- ---- the loop that puts a handle's bytes
 
@@ -252,9 +252,6 @@ module _ (hs : List Handle) (n : ℕ) (m m' : List ℕ) (k : ℕ) (l : Laying hs
         let b = l.room.ends in
         let c = l.room.few in
         record { ends = omega arith; low = omega arith }
-
-    pub laying_few : k < 255
-    laying_few = let c = l.room.few in omega arith
 
     pub laying_more : (m'' : List ℕ) → PutHandle m' m'' (k * 23) (written (get_or hs (k + 1) blank)).bytes
         → Laying hs n m m'' (k + 1)

@@ -209,24 +209,23 @@ module _ (b : List ℕ) (beyond : Bool) (size room each : ℕ) where
         le-ltb room (size / 2 * each) c.long,
       )
 
-  pub going : (number : ℕ) → number ≡ whole_number b beyond size room each → number ≡ 0
-      → Clear b size room each × (beyond ≡ false)
-  going number q z = clear_out (sym q ∙ z)
+  module _ (z : 0 ≡ whole_number b beyond size room each) where
+    pub going : Clear b size room each × (beyond ≡ false)
+    going = clear_out (sym z)
 
-  -- the handle supplied stands
-  pub going_stands : (number : ℕ) → number ≡ whole_number b beyond size room each → number ≡ 0 → (h : Handle) → h ≡ decoded b
-      → Standing h
-  going_stands number q z h eh =
-      let c = (going number q z).0 in
-      subst Standing (sym eh)
-      (record {
-        wide = ne_eqb (width_of (decoded b)) 0 (let v = wide b c.bytes in λ y. omega arith);
-        here =
-            or_off (leb nodes (node_of (decoded b))) (leb clusters (decoded b).local)
-            (lt-leb nodes (node_of (decoded b)) (let l = c.node in omega arith))
-            (lt-leb clusters (decoded b).local (let l = c.local in omega arith));
-        ungapped = ap (λ (w : ℕ). gapped w (decoded b).selector) (wide b c.bytes) ∙ c.ungapped;
-      })
+    -- the handle supplied stands
+    pub going_stands : (h : Handle) → h ≡ decoded b → Standing h
+    going_stands h eh =
+        let c = going.0 in
+        subst Standing (sym eh)
+        (record {
+          wide = ne_eqb (width_of (decoded b)) 0 (let v = wide b c.bytes in λ y. omega arith);
+          here =
+              or_off (leb nodes (node_of (decoded b))) (leb clusters (decoded b).local)
+              (lt-leb nodes (node_of (decoded b)) (let l = c.node in omega arith))
+              (lt-leb clusters (decoded b).local (let l = c.local in omega arith));
+          ungapped = ap (λ (w : ℕ). gapped w (decoded b).selector) (wide b c.bytes) ∙ c.ungapped;
+        })
 
 -- ---- the numbers for the whole in words
 

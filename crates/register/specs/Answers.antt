@@ -27,7 +27,7 @@ use Rattle.handle.specs.declared.Handle.{Handle}
 use Rattle.handle.specs.Selectors.{references, gapped}
 use Rattle.handle.specs.Handles.{Name, node_of, decoded, encoded}
 use Rattle.handle.specs.Conversion.{SixteenBytes}
-use Rattle.register.specs.declared.Told.{Told}
+use Rattle.register.specs.Registers.{Told}
 use Rattle.register.specs.Registers.{entries, given, made, told, whole_number, handles_told, handles_left, openers_told, openers_left}
 use Rattle.register.specs.Words.{LowestFails}
 

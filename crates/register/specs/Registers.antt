@@ -1,5 +1,8 @@
 -- Document 02, §9: a register of handles given out, as bytes e of two an entry, numbered from 1.
+--     Told, Opened       the answer of a question: 0, or the number of the refusal and the lowest entry that fails, 0 for the call as
+--                        a whole; of the second question also how many entries open the segment
 --     told n k, opened n k c      an answer: the number n, the entry k, how many c
+--     told_of r, opened_of r      the answer that a result of the code tells
 --     entries e          how many entries there are
 --     parent_of e k       the entry that entry k was weakened from; zero stands for the handle supplied
 --     mask_of e k         the mask used
@@ -18,12 +21,12 @@
 --     opens, openers_up_to          entry k references segment s; those of the first n entries that do, in rising order
 --     openers_told, openers_left    the second question: number, entry and how many; the buffer after it
 -- Assumes nothing.
-use Rattle.std.specs.Prelude.{ℕ, zero, suc, ◌+◌, ◌-◌, ◌*◌, ◌/◌, ◌%◌, Bool, true, false, not, ◌||◌, List, [], ◌∷◌, ◌++◌, map, eqb, ltb, length, get_or, drop}
+use Rattle.std.specs.Prelude.{ℕ, zero, suc, ◌+◌, ◌-◌, ◌*◌, ◌/◌, ◌%◌, Bool, true, false, not, ◌||◌, List, [], ◌∷◌, ◌++◌, map, eqb, ltb, length, get_or, drop, Result, Ok, Err}
 use Rattle.std.proofs.Math.Option.{Option, none, some}
 use Rattle.loops.specs.Search.{least}
 use Rattle.chain.specs.Way.{records}
 use Rattle.chain.specs.Bytes.{count, next_in, way_in}
-use Rattle.chain.specs.declared.Walked.{Walked}
+use Rattle.chain.specs.Way.{Walked}
 use Rattle.handle.specs.declared.Handle.{Handle}
 use Rattle.handle.specs.declared.Width.TheVariants.{Eight}
 use Rattle.handle.specs.Widths.{length_of}
@@ -31,14 +34,31 @@ use Rattle.handle.specs.Selectors.{references, gapped}
 use Rattle.handle.specs.Handles.{Name, name_of, width_of, no_handle, encoded, decoded, weakening}
 use Rattle.handle.specs.Handles.{Row, first_of, no_such_place}
 use Rattle.numbers.specs.Numbers.{wrong_length_number, place_number, field_number, gapped_number, short_number, length_number}
-use Rattle.register.specs.declared.Told.{Told}
-use Rattle.register.specs.declared.Opened.{Opened}
+use Rattle.numbers.specs.Codes.{code}
+use Rattle.register.specs.declared.Fault.{Fault}
+
+pub record Told : Type 0 where
+  pub number : ℕ
+  pub entry : ℕ
+
+pub record Opened : Type 0 where
+  pub number : ℕ
+  pub entry : ℕ
+  pub count : ℕ
 
 abbrev pub told : ℕ → ℕ → Told
 told n k = record { number = n; entry = k }
 
 abbrev pub opened : ℕ → ℕ → ℕ → Opened
 opened n k c = record { number = n; entry = k; count = c }
+
+abbrev pub told_of : {T : Type 0} → Result T Fault → Told
+told_of (Ok x) = told 0 0
+told_of (Err fault) = told (code fault.number) fault.entry
+
+abbrev pub opened_of : Result ℕ Fault → Opened
+opened_of (Ok c) = opened 0 0 c
+opened_of (Err fault) = opened (code fault.number) fault.entry 0
 
 abbrev pub entry_bytes : ℕ
 entry_bytes = 2

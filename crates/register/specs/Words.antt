@@ -26,7 +26,7 @@ use Rattle.handle.specs.declared.Handle.{Handle}
 use Rattle.handle.specs.Selectors.{references, gapped}
 use Rattle.handle.specs.Handles.{Name, name_of, width_of, no_width, no_such_place}
 use Rattle.handle.specs.Opens.{Opens}
-use Rattle.register.specs.declared.Told.{Told}
+use Rattle.register.specs.Registers.{Told}
 use Rattle.register.specs.Registers.{entries, parent_of, mask_of, given, stepped, made, lowest, openers_up_to}
 
 abbrev pub Kept : List ℕ → ℕ → ℕ → ℕ → Type 0

@@ -1,31 +1,23 @@
 // The entries of a register worked out: up the way from an entry to what is known, and down again, each step from the entry
 // that it was weakened from.
-ghost use Rattle.std.specs.Prelude.{◌≡◌, ◌/◌, ◌≤◌, length};
-ghost use Rattle.aes.specs.Tables.{IsTables};
+ghost use Rattle.std.specs.Prelude.{◌≡◌, ◌/◌, ◌≤◌, [], ◌∷◌, length, replicate, None};
 ghost use Rattle.handle.specs.Conversion.{product};
 ghost use Rattle.register.specs.Registers as spec;
 ghost use Rattle.register.specs.inner.Work as work;
 
-use crate::{ENTRY, ROOM, Seen, Told, Worked};
+use crate::{ENTRY, Fault, ROOM, Seen};
 use aes::Tables;
 use handle::Handle;
-use numbers::{EMPTY, LINK, LOOP, SPENT};
+use numbers::Number;
 
 // The subselectors of a handle: so many cuts it can take.
 const CUTS: u16 = 4;
 
-// Where a climb ends: 0 and how many entries it met before one whose handle is known; or the number of the way.
+// Where a climb ends: so many entries met, and above them one that is known, with what is seen of its handle.
 #[derive(Clone, Copy)]
 struct Climbed {
-    number: u8,
     met: usize,
-}
-
-// What a mask makes of it: 0, whether the handle is cut, and what is left; or the number of the refusal.
-#[derive(Clone, Copy)]
-struct Narrowed {
-    number: u8,
-    cut: bool,
+    above: usize,
     seen: Seen,
 }
 
@@ -34,160 +26,148 @@ fn seen_of(handle: Handle) -> Seen
     requires { work.Standing handle }
     ensures { work.Sees handle result }
 {
-    let flat = handle.first_flat();
+    let flat = match handle.first_flat() {
+        Some(place) => place as u16,
+        None => CUTS,
+    };
     Seen {
         set: handle.common(),
-        flat: flat as u16,
+        flat,
     }
 }
 
-// Up the way from an entry until one whose handle is known, keeping the entries met.
-fn climb(entries: &[u8], known: &[u8], path: &mut [u8], from: usize) -> Climbed
+// An entry's two bytes: the entry that it was weakened from, and the mask used.
+fn pair(entries: &[u8], entry: usize) -> [u8; ENTRY]
+    requires { work.IsEntry entries.now entry }
+    ensures { result ≡ spec.parent_of entries.now entry ∷ spec.mask_of entries.now entry ∷ [] }
+{
+    let (pairs, _) = entries.as_chunks::<ENTRY>();
+    pairs[entry - 1]
+}
+
+// Up the way from an entry until one that is known, keeping the entries met; or the number of the way.
+fn climb(
+    entries: &[u8],
+    known: &[Option<Seen>; ROOM],
+    path: &mut [u8; ROOM],
+    from: usize,
+) -> Result<Climbed, Number>
     requires { work.Small entries.now known.now path.old from }
-    ensures { work.Climbs entries.now known.now from result.number result.met path.new }
+    ensures { work.Climbs entries.now known.now path.new from result }
 {
     let n = entries.len() / ENTRY;
     let mut at = from;
-    let mut met: usize = 0;
-    while known[at] == 0 {
-        if n < at {
-            return Climbed {
-                number: LINK,
-                met: 0,
-            };
+    for met in 0..=n {
+        if let Some(seen) = known[at] {
+            return Ok(Climbed {
+                met,
+                above: at,
+                seen,
+            });
         }
-        if met == n {
-            return Climbed {
-                number: LOOP,
-                met: 0,
-            };
+        if n < at {
+            return Err(Number::Link);
         }
         path[met] = at as u8;
-        at = entries[(at - 1) * ENTRY] as usize;
-        met += 1;
+        let [from, _] = pair(entries, at);
+        at = usize::from(from);
     }
-    Climbed { number: 0, met }
+    Err(Number::Loop)
 }
 
-// What a mask makes of what was seen of a handle: the number of the weakening, and what is seen of the weaker handle.
-fn narrow(seen: Seen, mask: u16) -> Narrowed
+// What a mask leaves of what was seen of a handle, or nothing where it cuts nothing; or the number of the weakening.
+fn narrow(seen: Seen, mask: u16) -> Result<Option<Seen>, Number>
     ensures { work.Narrows seen mask result }
 {
-    let set = seen.set;
-    let flat = seen.flat;
-    let kept = set & mask;
+    let kept = seen.set & mask;
     if kept == 0 {
-        return Narrowed {
-            number: EMPTY,
-            cut: false,
-            seen,
-        };
+        return Err(Number::Empty);
     }
-    let excluded = set & !mask;
-    if excluded == 0 {
-        return Narrowed {
-            number: 0,
-            cut: false,
-            seen,
-        };
+    if seen.set & !mask == 0 {
+        return Ok(None);
     }
-    if CUTS <= flat {
-        return Narrowed {
-            number: SPENT,
-            cut: false,
-            seen,
-        };
+    if CUTS <= seen.flat {
+        return Err(Number::Spent);
     }
-    Narrowed {
-        number: 0,
-        cut: true,
-        seen: Seen {
-            set: kept,
-            flat: flat + 1,
-        },
-    }
+    Ok(Some(Seen {
+        set: kept,
+        flat: seen.flat + 1,
+    }))
 }
 
-// The mask of an entry.
-fn mask_of(entries: &[u8], entry: usize) -> u16
-    requires { work.Entry entries.now entry }
-    ensures { result ≡ spec.mask_of entries.now entry }
+// The handle that a weakening leaves: a weaker one where it cuts, else the same.
+fn weaker(tables: &Tables, cut: bool, parent: Handle, mask: u16) -> Handle
+    ensures { work.Weaker product cut parent mask result }
 {
-    entries[(entry - 1) * ENTRY + 1] as u16
-}
-
-// The handle of an entry from that of the entry it was weakened from, where it is wanted and is cut; else the same.
-fn weaker(tables: &Tables, wanted: bool, cut: bool, parent: Handle, mask: u16) -> Handle
-    requires { IsTables tables.now }
-    ensures { work.Weaker wanted cut parent mask result }
-{
-    if wanted & cut {
-        let w = parent.weaken_with(tables, mask);
-        return w.handle;
+    if !cut {
+        return parent;
     }
     parent
+        .weaken_with(tables, mask)
+        .map_or(parent, |weaker| weaker.handle)
 }
 
-// Works the entries out, each from the one it was weakened from, once: what is seen of their handles, and the handles where
-// they are wanted; or the lowest entry that fails.
-pub fn work_out(tables: &Tables, wanted: bool, handle: Handle, entries: &[u8]) -> Worked
-    requires tables { IsTables tables.now }
+// An entry from the one above it, that it was weakened from: what is seen of its handle, and in its place the handle, where handles
+// are wanted; or the number of the weakening.
+// Stays: `wanted` is no closure and no `Option` of the array: the one would hold what the next step reads, the other be taken
+// apart and lent again at each step.
+fn step(
+    tables: &Tables,
+    wanted: bool,
+    seen: Seen,
+    handles: &mut [Handle; ROOM],
+    above: usize,
+    entry: usize,
+    mask: u16,
+) -> Result<Seen, Number>
+    requires above_bound { above ≤ 255 }
+    requires entry_bound { entry ≤ 255 }
+    ensures { work.Steps product wanted seen handles.old above entry mask handles.new result }
+{
+    let cut = narrow(seen, mask)?;
+    if wanted {
+        handles[entry] = weaker(tables, cut.is_some(), handles[above], mask);
+    }
+    Ok(cut.unwrap_or(seen))
+}
+
+// Works the entries out in order, each once and from the one that it was weakened from; or the lowest entry that fails. By the
+// entries' numbers, with the handle supplied at 0: what is seen of their handles, and these, where they are wanted.
+// Stays: two arrays. One of entries that have both took 5.9 us for 255 entries where no handle is wanted, and two took 2.7.
+pub fn work_out(
+    tables: &Tables,
+    wanted: bool,
+    handle: Handle,
+    entries: &[u8],
+    seen: &mut [Option<Seen>; ROOM],
+    handles: &mut [Handle; ROOM],
+) -> Result<(), Fault>
     requires entries_len_bound { length entries.now / 2 ≤ 255 }
+    requires none { seen.old ≡ replicate 256 None }
     requires standing { work.Standing handle }
-    ensures { work.Works product handle entries.now wanted result.told result.seen result.handles }
+    ensures { work.Works product handle entries.now wanted seen.new handles.new result }
 {
     let n = entries.len() / ENTRY;
-    let supplied = seen_of(handle);
-    let mut seen = [supplied; ROOM];
-    let mut handles = [handle; ROOM];
-    let mut known = [0u8; ROOM];
-    known[0] = 1;
+    seen[0] = Some(seen_of(handle));
+    handles[0] = handle;
     let mut path = [0u8; ROOM];
-    let mut k: usize = 1;
-    while k <= n {
-        let c = climb(entries, &known, &mut path, k);
-        let number = c.number;
-        if number != 0 {
-            return Worked {
-                told: Told { number, entry: k },
-                seen,
-                handles,
-            };
+    for k in 1..n + 1 {
+        let climbed = climb(entries, seen, &mut path, k).map_err(|number| Fault {
+            number,
+            entry: k,
+        })?;
+        let mut above = climbed.above;
+        let mut sight = climbed.seen;
+        // Stays: down by places, of which the loop's invariant speaks; the iterator's name for what it has left is no plainer.
+        for i in (0..climbed.met).rev() {
+            let j = path[i] as usize;
+            let [_, mask] = pair(entries, j);
+            sight = step(tables, wanted, sight, handles, above, j, u16::from(mask)).map_err(
+                |number| Fault { number, entry: k },
+            )?;
+            seen[j] = Some(sight);
+            above = j;
         }
-        let mut met = c.met;
-        while met != 0 {
-            met -= 1;
-            let j = path[met] as usize;
-            let p = entries[(j - 1) * ENTRY] as usize;
-            let mask = mask_of(entries, j);
-            let before = seen[p];
-            let w = narrow(before, mask);
-            let refused = w.number;
-            if refused != 0 {
-                return Worked {
-                    told: Told {
-                        number: refused,
-                        entry: k,
-                    },
-                    seen,
-                    handles,
-                };
-            }
-            let after = w.seen;
-            seen[j] = after;
-            let parent = handles[p];
-            let made = weaker(tables, wanted, w.cut, parent, mask);
-            handles[j] = made;
-            known[j] = 1;
-        }
-        k += 1;
     }
-    Worked {
-        told: Told {
-            number: 0,
-            entry: 0,
-        },
-        seen,
-        handles,
-    }
+    Ok(())
 }

@@ -4,18 +4,22 @@
 use mathlib.Core.Path.{◌≡◌, refl, sym, ap, ◌∙◌, subst}
 use mathlib.Core.Logic.{◌⊎◌, inl, inr}
 use mathlib.Core.Bool.{Bool, true, false, ◌&&◌, true≢false}
-use mathlib.Core.List.{List}
+use mathlib.Core.List.{List, ◌++◌}
 use Prim.Native.Nat.{ℕ, suc, ◌+◌, ◌-◌, ◌*◌, ◌/◌, ◌%◌, ◌≤◌, ◌<◌}
 use native.Mathlib.Omega.{arith}
 use lib.Dec.{eqb, leb, ltb}
 use lib.Bits.{bit_and, bit_or, and_le_r}
-use lib.ListN.{length, get_or, set}
+use lib.ListN.{length, length-drop, get_or, get_or-append, set, take, drop}
+use lib.Seq.{length-take-le}
+use borrow.Rule.Slice.PartMut.{post_of, put_mid, same_len_mid}
 use borrow.Author.Tests.{lt-ltb, le-ltb, le-leb, lt-leb}
 use Rattle.bits.specs.Sets.{has, full}
 use Rattle.bits.proofs.SetLaws.{has_beyond}
 use Rattle.bits.proofs.OperationLaws.{has_and, has_full, full_lt}
 use Rattle.loops.proofs.BelowLaws.{and_both, and_off}
-use Rattle.spans.specs.Spans.{word_bits, all, within, Stamped, Marked}
+use Rattle.std.proofs.Math.Bool.{and_comm}
+use Rattle.std.proofs.lemmas.List.{get_or-take, get_or-drop, get_or-append_right}
+use Rattle.spans.specs.Spans.{word_bits, all, marks, within, Stamped, Marked}
 use Rattle.spans.proofs.WordLaws.{full_below, above_on, above_off}
 use Rattle.spans.proofs.SpanLaws.{Covers, stamped_next, stamped_touch}
 
@@ -118,35 +122,106 @@ stamped_none a map =
       kept = λ x h. refl;
     }
 
--- the words from `first` up to word i are marked, out of those up to `last`
-pub record Filling (first last : ℕ) (before : List ℕ) (i : ℕ) (fresh : Bool) (map : List ℕ) : Type 0 where
-  pub low : first ≤ i
-  pub high : i ≤ last
-  pub done : Stamped (first * word_bits) (i * word_bits) before fresh map
+-- the first i words are marked
+pub record Filling (before : List ℕ) (i : ℕ) (fresh : Bool) (words : List ℕ) : Type 0 where
+  pub high : i ≤ length before
+  pub done : Stamped 0 (i * word_bits) before fresh words
 
-pub filling_none : (first last : ℕ) (map : List ℕ) → first ≤ last → Filling first last map first true map
-filling_none first last map h = record { low = omega arith; high = h; done = stamped_none (first * word_bits) map }
+pub filling_none : (words : List ℕ) → Filling words 0 true words
+filling_none words = record { high = omega arith; done = stamped_none 0 words }
 
-module _ (first last : ℕ) (before : List ℕ) (i : ℕ) (fresh : Bool) (map : List ℕ) (w : Filling first last before i fresh map) where
-  pub filling_more : (r : Bool) (after : List ℕ) → last ≤ length before → i < last
-      → (r ≡ eqb (bit_and (get_or map i 0) all) 0) × (after ≡ set map i (bit_or (get_or map i 0) all))
-      → Filling first last before (i + 1) (r && fresh) after
-  filling_more r after fits h e =
-      let below = w.low in
-      let size = w.done.size in
+pub filling_more : (before : List ℕ) (i : ℕ) (fresh : Bool) (words : List ℕ) → Filling before i fresh words
+    → (r : Bool) (now : ℕ) → i < length before
+    → (r ≡ eqb (bit_and (get_or words i 0) all) 0) × (now ≡ bit_or (get_or words i 0) all)
+    → Filling before (i + 1) (fresh && r) (set words i now)
+filling_more before i fresh words w r now h e =
+    let size = w.done.size in
+    record {
+      high = omega arith;
+      done =
+          subst (λ (b : Bool). Stamped 0 ((i + 1) * word_bits) before b (set words i now)) (and_comm r fresh)
+          (stamped_next 0 (i * word_bits) ((i + 1) * word_bits) before words (set words i now) fresh r (omega arith) (omega arith)
+          w.done (stamped_touch i (i * word_bits) ((i + 1) * word_bits) all words (covers_all i) (omega arith) r (set words i now)
+          (e.0, ap (set words i) e.1)));
+    }
+
+-- words of a map stamped apart and put back
+module _ (map words : List ℕ) (a e : ℕ) (order : a ≤ e) (fits : e ≤ length map) (fresh : Bool)
+    (i : ℕ) (f : Filling (take (e - a) (drop a map)) i fresh words) (ended : length (take (e - a) (drop a map)) ≤ i) where
+  abbrev part : List ℕ
+  part = take (e - a) (drop a map)
+
+  abbrev back : List ℕ
+  back = put_mid a (e - a) map words
+
+  part_long : length part ≡ e - a
+  part_long = length-take-le (e - a) (drop a map) (rw length-drop (omega arith))
+
+  whole : Stamped 0 ((e - a) * word_bits) part fresh words
+  whole =
+      let high = f.high in
+      let q : i ≡ e - a = omega (arith, part_long) in
+      subst (λ (k : ℕ). Stamped 0 (k * word_bits) part fresh words) q f.done
+
+  long : length words ≡ e - a
+  long = whole.size ∙ part_long
+
+  front : length (take a map) ≡ a
+  front = length-take-le a map (omega arith)
+
+  in_part : (x : ℕ) → a * word_bits ≤ x → x < e * word_bits → marks part (x - a * word_bits) ≡ marks map x
+  unfolding marks
+  in_part x h k =
+      let bit : (x - a * word_bits) % word_bits ≡ x % word_bits = omega arith in
+      let word : a + (x - a * word_bits) / word_bits ≡ x / word_bits = omega arith in
+      (λ j. has (bit j) (get_or part ((x - a * word_bits) / word_bits) 0))
+      ∙ ap (has (x % word_bits))
+      (get_or-take (e - a) (drop a map) ((x - a * word_bits) / word_bits) 0 (omega arith)
+      ∙ get_or-drop a map ((x - a * word_bits) / word_bits) 0
+      ∙ ap (λ (k : ℕ). get_or map k 0) word)
+
+  in_words : (x : ℕ) → a * word_bits ≤ x → x < e * word_bits → marks back x ≡ marks words (x - a * word_bits)
+  unfolding marks
+  in_words x h k =
+      let bit : x % word_bits ≡ (x - a * word_bits) % word_bits = omega arith in
+      let word : x / word_bits - a ≡ (x - a * word_bits) / word_bits = omega arith in
+      (λ j. has (bit j) (get_or back (x / word_bits) 0))
+      ∙ ap (has ((x - a * word_bits) % word_bits))
+      (get_or-append_right (take a map) (words ++ post_of a (e - a) map) a (x / word_bits) 0 front (omega arith)
+      ∙ get_or-append words (post_of a (e - a) map) 0 (x / word_bits - a) (omega (arith, long))
+      ∙ ap (λ (k : ℕ). get_or words k 0) word)
+
+  outside : (x : ℕ) → (x < a * word_bits) ⊎ (e * word_bits ≤ x) → marks back x ≡ marks map x
+  unfolding marks
+  outside x (inl h) =
+      ap (has (x % word_bits))
+      (get_or-append (take a map) (words ++ post_of a (e - a) map) 0 (x / word_bits) (omega (arith, front))
+      ∙ get_or-take a map (x / word_bits) 0 (omega arith))
+  outside x (inr h) =
+      let word : a + ((e - a) + (x / word_bits - a - (e - a))) ≡ x / word_bits = omega arith in
+      ap (has (x % word_bits))
+      (get_or-append_right (take a map) (words ++ post_of a (e - a) map) a (x / word_bits) 0 front (omega arith)
+      ∙ get_or-append_right words (post_of a (e - a) map) (e - a) (x / word_bits - a) 0 long (omega arith)
+      ∙ get_or-drop (e - a) (drop a map) (x / word_bits - a - (e - a)) 0
+      ∙ get_or-drop a map ((e - a) + (x / word_bits - a - (e - a))) 0
+      ∙ ap (λ (k : ℕ). get_or map k 0) word)
+
+  pub filling_all : Stamped (a * word_bits) (e * word_bits) map fresh back
+  filling_all =
       record {
-        low = omega arith;
-        high = omega arith;
-        done =
-            stamped_next (first * word_bits) (i * word_bits) ((i + 1) * word_bits) before map after fresh r (omega arith) (omega arith)
-            w.done (stamped_touch i (i * word_bits) ((i + 1) * word_bits) all map (covers_all i) (omega arith) r after e);
+        size = same_len_mid a (e - a) map words whole.size;
+        told = λ t x h k. sym (in_part x h k) ∙ whole.told t (x - a * word_bits) (omega arith) (omega arith);
+        tells = λ g. whole.tells (λ x h k. clear g x k);
+        set = λ x h k. in_words x h k ∙ whole.set (x - a * word_bits) (omega arith) (omega arith);
+        kept = outside;
       }
-
-  pub filling_all : last ≤ i → Stamped (first * word_bits) (last * word_bits) before fresh map
-  filling_all h =
-      let above = w.high in
-      let q : i ≡ last = omega arith in
-      subst (λ (k : ℕ). Stamped (first * word_bits) (k * word_bits) before fresh map) q w.done
+    where
+      clear : ((x : ℕ) → a * word_bits ≤ x → x < e * word_bits → marks map x ≡ false) → (x : ℕ) → x < (e - a) * word_bits
+          → marks part x ≡ false
+      clear g x k =
+          let q : x + a * word_bits - a * word_bits ≡ x = omega arith in
+          ap (marks part) (sym q)
+          ∙ in_part (x + a * word_bits) (omega arith) (omega arith) ∙ g (x + a * word_bits) (omega arith) (omega arith)
 
 -- ---- one word, or more
 

@@ -2,50 +2,43 @@
 // looked for word by word, the first in a word by the zeros below it.
 #![tactic(auto)]
 
-ghost use Rattle.std.specs.Prelude.{◌≡◌, suc, ◌-◌, ◌*◌, ◌^◌, ◌≤◌, ◌<◌, eqb, length, get_or, set};
+ghost use Rattle.std.specs.Prelude.{◌≡◌, suc, ◌-◌, ◌*◌, ◌%◌, ◌^◌, ◌≤◌, ◌<◌, eqb, length, IfSome, IfNone};
 ghost use Rattle.std.specs.Int.Bits.{bit_and, bit_or};
 ghost use Rattle.bits.specs.Sets.{full};
 ghost use Rattle.spans.specs.Spans as spans;
 
-// Bits of a word, and the word that has all of them.
+// Bits of a word.
 pub const WORD: usize = 64;
 
-const ALL: u64 = 0xffffffffffffffff;
-
-// Bit i of a word.
+// The bit of its word that bit i of a map is.
 fn bit(i: usize) -> u64
-    requires { i < spans.word_bits }
-    ensures { (result ≡ 2 ^ i) × ((1 ≤ result) × (result ≤ 2 ^ 63)) }
+    ensures { (result ≡ 2 ^ (i % spans.word_bits)) × ((1 ≤ result) × (result ≤ 2 ^ 63)) }
 {
-    1 << i
+    1 << (i % WORD)
 }
 
-// The bits of a word from `first` on.
+// The bits of a word from that of bit `first` on.
 fn from_on(first: usize) -> u64
-    requires { first < spans.word_bits }
-    ensures { result ≡ spans.all - full first }
+    ensures { result ≡ spans.all - full (first % spans.word_bits) }
 {
     !(bit(first) - 1)
 }
 
-// The bits of a word up to `last`, and that one too.
+// The bits of a word up to that of bit `last`, and that one too.
 fn up_to(last: usize) -> u64
-    requires { last < spans.word_bits }
-    ensures { result ≡ full (suc last) }
+    ensures { result ≡ full (suc (last % spans.word_bits)) }
 {
     let b = bit(last);
     (b - 1) + b
 }
 
-// Sets the bits of a mask in one word, and tells whether none of them was set.
-fn touch(map: &mut [u64], at: usize, mask: u64) -> bool
-    requires { at < length map.old }
-    ensures { (result ≡ eqb (bit_and (get_or map.old at 0) mask) 0)
-        × (map.new ≡ set map.old at (bit_or (get_or map.old at 0) mask)) }
+// Sets the bits of a mask in a word, and tells whether none of them was set.
+fn touch(word: &mut u64, mask: u64) -> bool
+    ensures { (result ≡ eqb (bit_and word.old mask) 0) × (word.new ≡ bit_or word.old mask) }
 {
-    let old = map[at];
-    map[at] = old | mask;
-    (old & mask) == 0
+    let fresh = (*word & mask) == 0;
+    *word |= mask;
+    fresh
 }
 
 // Sets every bit of the words from `first` up to `last`, and tells whether none was set. No early exit: a loop without one
@@ -55,10 +48,8 @@ fn whole(map: &mut [u64], first: usize, last: usize) -> bool
     ensures { spans.Stamped (first * spans.word_bits) (last * spans.word_bits) map.old result map.new }
 {
     let mut fresh = true;
-    let mut i = first;
-    while i < last {
-        fresh = touch(map, i, ALL) & fresh;
-        i += 1;
+    for word in &mut map[first..last] {
+        fresh &= touch(word, u64::MAX);
     }
     fresh
 }
@@ -77,69 +68,69 @@ pub fn mark(map: &mut [u64], from: usize, to: usize) -> bool
     if map.len() <= last {
         return false;
     }
-    let low = from_on(from % WORD);
-    let high = up_to(end % WORD);
+    let low = from_on(from);
+    let high = up_to(end);
     if first == last {
-        return touch(map, first, low & high);
+        return touch(&mut map[first], low & high);
     }
-    let a = touch(map, first, low);
+    let a = touch(&mut map[first], low);
     let inner = whole(map, first + 1, last);
-    let z = touch(map, last, high);
+    let z = touch(&mut map[last], high);
     z & (inner & a)
 }
 
-// A word of the map, or where `set` is false, the word of the bits that it lacks.
-fn looked(map: &[u64], at: usize, set: bool) -> u64
-    requires { at < length map.now }
-    ensures { spans.Looked set map.now at result }
-{
-    let w = map[at];
-    if set {
-        return w;
-    }
-    !w
+// Which bits are looked for.
+#[derive(Clone, Copy)]
+enum Sought {
+    Set,
+    Clear,
 }
 
-// The first bit from `from` on that is set, or where `set` is false, is not; where none lies before `to`, one at or after it.
-fn next(map: &[u64], from: usize, to: usize, set: bool) -> usize
-    requires inside { (from < to) × (to ≤ length map.now * spans.word_bits) }
-    requires short { length map.now * spans.word_bits < 2 ^ 32 }
-    ensures { spans.Next set map.now from to result }
-{
-    let mut at = from / WORD;
-    let mut w = looked(map, at, set) & from_on(from % WORD);
-    while w == 0 {
-        at += 1;
-        let first = at * WORD;
-        if to <= first {
-            return first;
+impl Sought {
+    // The bits of a word that are sought.
+    fn of(self, word: u64) -> u64
+        ensures { spans.Picked self word result }
+    {
+        match self {
+            Sought::Set => word,
+            Sought::Clear => !word,
         }
-        w = looked(map, at, set);
     }
-    let place = u64::trailing_zeros(w);
-    at * WORD + place as usize
 }
 
-// The least start of `size` clear bits in a row; the end of the map where there is none. A run that is too short ends at a bit
-// that is set, and no start up to that bit has room.
-pub fn room(map: &[u64], size: usize) -> usize
+// The first bit from `from` on and before `to` that is sought, if there is one.
+fn next(map: &[u64], from: usize, to: usize, sought: Sought) -> Option<usize>
+    requires { to ≤ length map.now * spans.word_bits }
+    ensures found { IfSome result (spans.First sought map.now from to) }
+    ensures none { IfNone result (spans.Without sought map.now from to) }
+{
+    let mut mask = from_on(from);
+    for at in from / WORD..to.div_ceil(WORD) {
+        let w = sought.of(map[at]) & mask;
+        if w != 0 {
+            let place = at * WORD + w.trailing_zeros() as usize;
+            return (place < to).then_some(place);
+        }
+        mask = u64::MAX;
+    }
+    None
+}
+
+// The least start of `size` clear bits in a row, if there is one. A run that is too short ends at a bit that is set, and no
+// start up to that bit has room.
+pub fn room(map: &[u64], size: usize) -> Option<usize>
     requires some { (1 ≤ size) × (size ≤ length map.now * spans.word_bits) }
     requires short { length map.now * spans.word_bits < 2 ^ 32 }
-    ensures { spans.Room size map.now result }
+    ensures inside { IfSome result (λ r. r < length map.now * spans.word_bits) }
+    ensures least { spans.Room size map.now (spans.or_end map.now result) }
 {
-    let all = map.len() * WORD;
-    let last = all - size;
-    let mut base: usize = 0;
-    while base <= last {
-        let start = next(map, base, all, false);
-        if last < start {
-            return all;
-        }
-        let end = next(map, start, start + size, true);
-        if size <= end - start {
-            return start;
-        }
+    let starts = map.len() * WORD - size + 1;
+    let mut base = 0;
+    while let Some(start) = next(map, base, starts, Sought::Clear) {
+        let Some(end) = next(map, start, start + size, Sought::Set) else {
+            return Some(start);
+        };
         base = end;
     }
-    all
+    None
 }

@@ -13,8 +13,7 @@ use Rattle.loops.proofs.BelowLaws.{and_left, and_both, every_in}
 use native.Mathlib.Decide.{ℕ_discrete, dec_lt}
 use lib.ListN.{length, get_or, set, replicate, get_or-replicate}
 use lib.Seq.{get_or-set_same, get_or-set_other, set_out}
-use Rattle.store.specs.declared.Place.{Place}
-use Rattle.store.specs.declared.Place.TheVariants.{Absent, Present}
+use Rattle.store.specs.Places.{Place, None, present_at}
 use Rattle.store.specs.declared.Segment.{Segment}
 use Rattle.store.specs.declared.Cluster.{Cluster}
 use Rattle.store.specs.declared.Store.{Store}
@@ -84,9 +83,9 @@ data Fate (s : Store) (node n new i : ℕ) (g : Segment) : Type 0 where
       → ((m j : ℕ) → m < clusters → j < segments → apart g.place (place_on (table_at s) node m j) ≡ true)
       → Fate s node n new i g
 
-absent_apart : (p : Place) → apart p Absent ≡ true
+absent_apart : (p : Place) → apart p None ≡ true
 unfolding apart
-absent_apart p = apart_sym p Absent
+absent_apart p = apart_sym p None
 
 module _ (s : Store) (size : ℕ) (r : Sound s size) (node local new : ℕ) (hv : node < nodes) (hl : local < clusters) where
   abbrev n : ℕ
@@ -252,17 +251,17 @@ module _ (s : Store) (size : ℕ) (e : sound s size ≡ true) (node local : ℕ)
 
     -- a segment below the width, made at the base that placement gives: call 3
     pub sound_made : ltb i c.width ≡ true → (base length : ℕ) → new_base (table_at s) node length ≡ some base
-        → sound (put_record s (record_of node local) (with_place (cluster_at s (record_of node local)) i (Present base length)))
+        → sound (put_record s (record_of node local) (with_place (cluster_at s (record_of node local)) i (present_at base length)))
         size ≡ true
     sound_made z base length q =
         let f = new_base_fits (table_at s) node length base q in
-        one (segment_at (Present base length)) (λ h. allowed_below (Present base length) i c.width z)
-        (fresh refl (segment_present_lem (segment_at (Present base length)) base length refl ∙ f.within) f.free)
+        one (segment_at (present_at base length)) (λ h. allowed_below (present_at base length) i c.width z)
+        (fresh refl (segment_present_lem (segment_at (present_at base length)) base length refl ∙ f.within) f.free)
 
     -- a segment deleted: call 4
-    pub sound_removed : sound (put_record s (record_of node local) (with_place (cluster_at s (record_of node local)) i Absent))
+    pub sound_removed : sound (put_record s (record_of node local) (with_place (cluster_at s (record_of node local)) i None))
         size ≡ true
-    sound_removed = one absent_segment (λ h. allowed_absent Absent i c.width refl) (gone refl)
+    sound_removed = one absent_segment (λ h. allowed_absent None i c.width refl) (gone refl)
 
     -- a present segment frozen: call 10
     pub sound_frozen : is_absent (place_of (table_of c) i) ≡ false

@@ -13,7 +13,7 @@ use Rattle.loops.specs.Below.{every}
 use Rattle.loops.proofs.BelowLaws.{and_left, and_right, and_both, tests_equal}
 use Rattle.loops.proofs.BelowLaws.{every_in, every_at, every_pair_in, every_pair_at}
 use Rattle.loops.proofs.RunningLaws.{Running, running_all}
-use Rattle.store.specs.declared.Place.{Place}
+use Rattle.store.specs.Places.{Place}
 use Rattle.store.specs.declared.Segment.{Segment}
 use Rattle.store.specs.declared.Store.{Store}
 use Rattle.sizes.specs.Sizes.{nodes, clusters, segments, memory}

@@ -1,3 +1,4 @@
+pub mod ChunkLaws
 pub mod PlaceLaws
 pub mod MarkLaws
 pub mod MapLaws

@@ -11,8 +11,7 @@ use Rattle.loops.specs.Below.{every}
 use Rattle.loops.specs.Turns.{turns}
 use Rattle.loops.proofs.BelowLaws.{and_left, and_right, and_both, and_off, test_off}
 use Rattle.loops.proofs.BelowLaws.{every_in, every_at, every_pair_in, every_pair_at}
-use Rattle.store.specs.declared.Place.{Place}
-use Rattle.store.specs.declared.Place.TheVariants.{Absent, Present}
+use Rattle.store.specs.Places.{Place, None, Some}
 use Rattle.sizes.specs.Sizes.{segments}
 use Rattle.store.specs.Records.{Tables, place_on}
 use Rattle.store.specs.Sound.{inside, apart}
@@ -117,19 +116,19 @@ module _ (ts : Tables) (node : ℕ) where
 
 pub free_out : (p : Place) (map : Map) (x : ℕ) → free p map ≡ true → holds x p ≡ true → unmarked x map ≡ true
 unfolding free
-free_out Absent map x f h = absurd (true≢false (sym h))
-free_out (Present base size) map x f h =
-    let o = holds_out x base size h in
-    let back : base + (x - base) ≡ x = omega arith in
+free_out None map x f h = absurd (true≢false (sym h))
+free_out (Some span) map x f h =
+    let o = holds_out x span.base span.length h in
+    let back : span.base + (x - span.base) ≡ x = omega arith in
     subst (λ (y : ℕ). unmarked y map ≡ true) back
-    (every_at size (λ i. unmarked (base + i) map) f (x - base) (omega arith))
+    (every_at span.length (λ i. unmarked (span.base + i) map) f (x - span.base) (omega arith))
 
 pub free_in : (p : Place) (map : Map) → ((x : ℕ) → holds x p ≡ true → unmarked x map ≡ true) → free p map ≡ true
 unfolding free
-free_in Absent map f = refl
-free_in (Present base size) map f =
-    every_in size (λ i. unmarked (base + i) map)
-    (λ i h. f (base + i) (holds_in (base + i) base size (omega arith) (omega arith)))
+free_in None map f = refl
+free_in (Some span) map f =
+    every_in span.length (λ i. unmarked (span.base + i) map)
+    (λ i h. f (span.base + i) (holds_in (span.base + i) span.base span.length (omega arith) (omega arith)))
 
 -- a place that is free in a map whose unmarked bytes q's turn has left
 pub free_apart : (p q : Place) (map : Map) → inside p ≡ true → inside q ≡ true → free p map ≡ true

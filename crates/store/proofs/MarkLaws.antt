@@ -17,8 +17,7 @@ use Rattle.loops.proofs.RunningLaws.{Running, running_none, running_more, runnin
 use Rattle.loops.proofs.TurnLaws.{Turning, turning_none, turning_more, turning_all}
 use Rattle.spans.specs.Spans.{word_bits, marks, within, Stamped, Marked}
 use Rattle.spans.proofs.SpanLaws.{marks_none}
-use Rattle.store.specs.declared.Place.{Place}
-use Rattle.store.specs.declared.Place.TheVariants.{Absent, Present}
+use Rattle.store.specs.Places.{Place, None, present_at}
 use Rattle.store.specs.declared.Segment.{Segment}
 use Rattle.store.specs.declared.Cluster.{Cluster}
 use Rattle.store.specs.declared.Store.{Store}
@@ -33,13 +32,13 @@ use Rattle.store.proofs.SoundLaws.{segment_present_lem}
 
 -- ---- one place
 
-pub claim_absent : (g : Segment) (map : Map) → g.place ≡ Absent → Claimed g map (not g.frozen) map
+pub claim_absent : (g : Segment) (map : Map) → g.place ≡ None → Claimed g map (not g.frozen) map
 unfolding claimable sound_segment sound_mark stamped inside in_ranges ends_inside free
 claim_absent g map e = rw e (record { told = sym (and-true (not g.frozen)); left = refl })
 
 module _ (base size : ℕ) (ws : List ℕ) (r : Bool) (after : List ℕ) where
   abbrev here : Place
-  here = Present base size
+  here = present_at base size
 
   within_inside : within base (base + size) map_words ≡ inside here
   unfolding within
@@ -68,7 +67,7 @@ module _ (base size : ℕ) (ws : List ℕ) (r : Bool) (after : List ℕ) where
     marked x true p false q = s.kept x (inr (ltb-false x (base + size) q))
     marked x false p u q = s.kept x (inl (leb-false base x p))
 
-  pub claim_mark : (g : Segment) → g.place ≡ Present base size → length ws ≡ map_words → Marked base (base + size) ws r after
+  pub claim_mark : (g : Segment) → g.place ≡ present_at base size → length ws ≡ map_words → Marked base (base + size) ws r after
       → Claimed g (marks ws) r (marks after)
   unfolding claimable stamped
   claim_mark g e long m =

@@ -10,7 +10,7 @@ use lib.Dec.{ltb}
 use borrow.Author.Tests.{ltb-true, lt-ltb}
 use Rattle.loops.proofs.BelowLaws.{and_left, and_right, and_both, test_off, every_pair_at, every_pair_in}
 use Rattle.loops.proofs.SearchLaws.{least_none, least_is, least_holds, least_below, least_missing}
-use Rattle.store.specs.declared.Place.TheVariants.{Present}
+use Rattle.store.specs.Places.{present_at}
 use Rattle.sizes.specs.Sizes.{nodes, clusters, segments, node_memory}
 use Rattle.store.specs.Records.{Tables, place_on}
 use Rattle.store.specs.Sound.{inside, apart}
@@ -21,28 +21,28 @@ module _ (ts : Tables) (node size : ℕ) where
   -- what `fits` says
   pub record Fits (base : ℕ) : Type 0 where
     pub known : node < nodes
-    pub within : inside (Present base size) ≡ true
-    pub free : (l i : ℕ) → l < clusters → i < segments → apart (Present base size) (place_on ts node l i) ≡ true
+    pub within : inside (present_at base size) ≡ true
+    pub free : (l i : ℕ) → l < clusters → i < segments → apart (present_at base size) (place_on ts node l i) ≡ true
 
   pub fits_out : (base : ℕ) → fits ts node size base ≡ true → Fits base
   unfolding fits clear
   fits_out base e =
-      let front = ltb node nodes && inside (Present base size) in
-      let f = and_left front (clear ts node (Present base size)) e in
+      let front = ltb node nodes && inside (present_at base size) in
+      let f = and_left front (clear ts node (present_at base size)) e in
       record {
-        known = ltb-true node nodes (and_left (ltb node nodes) (inside (Present base size)) f);
-        within = and_right (ltb node nodes) (inside (Present base size)) f;
+        known = ltb-true node nodes (and_left (ltb node nodes) (inside (present_at base size)) f);
+        within = and_right (ltb node nodes) (inside (present_at base size)) f;
         free =
-            every_pair_at clusters segments (λ l i. apart (Present base size) (place_on ts node l i))
-            (and_right front (clear ts node (Present base size)) e);
+            every_pair_at clusters segments (λ l i. apart (present_at base size) (place_on ts node l i))
+            (and_right front (clear ts node (present_at base size)) e);
       }
 
   fits_in : (base : ℕ) → Fits base → fits ts node size base ≡ true
   unfolding fits clear
   fits_in base f =
-      and_both (ltb node nodes && inside (Present base size)) (clear ts node (Present base size))
-      (and_both (ltb node nodes) (inside (Present base size)) (lt-ltb node nodes f.known) f.within)
-      (every_pair_in clusters segments (λ l i. apart (Present base size) (place_on ts node l i)) f.free)
+      and_both (ltb node nodes && inside (present_at base size)) (clear ts node (present_at base size))
+      (and_both (ltb node nodes) (inside (present_at base size)) (lt-ltb node nodes f.known) f.within)
+      (every_pair_in clusters segments (λ l i. apart (present_at base size) (place_on ts node l i)) f.free)
 
   -- what placement gives fits
   pub new_base_fits : (base : ℕ) → new_base ts node size ≡ some base → Fits base

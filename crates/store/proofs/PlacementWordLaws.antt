@@ -10,7 +10,7 @@ use lib.Dec.{ltb}
 use borrow.Author.Tests.{lt-ltb}
 use Rattle.loops.proofs.BelowLaws.{and_both, test_off, every_pair_in}
 use Rattle.loops.proofs.SearchLaws.{least_none, least_is}
-use Rattle.store.specs.declared.Place.TheVariants.{Present}
+use Rattle.store.specs.Places.{present_at}
 use Rattle.store.specs.declared.Store.{Store}
 use Rattle.sizes.specs.Sizes.{nodes, clusters, segments, node_memory}
 use Rattle.store.specs.Records.{table_at, place_on}
@@ -30,20 +30,20 @@ module _ (s : Store) (slice : ℕ) (w : SoundInWords s slice) (v size : ℕ) (hv
         low = omega arith;
         ends = b.ends;
         free = λ l i k hl hi from below q.
-            apart_words (Present base size) (place_on (table_at s) v l i) (r.free l i hl hi) k (from, below) q;
+            apart_words (present_at base size) (place_on (table_at s) v l i) (r.free l i hl hi) k (from, below) q;
       }
 
   fits_of : (base : ℕ) → Room s v size base → fits (table_at s) v size base ≡ true
   unfolding fits clear
   fits_of base r =
-      and_both (ltb v nodes && inside (Present base size)) (clear (table_at s) v (Present base size))
-      (and_both (ltb v nodes) (inside (Present base size)) (lt-ltb v nodes hv) within)
-      (every_pair_in clusters segments (λ l i. apart (Present base size) (place_on (table_at s) v l i)) (λ l i hl hi.
-      words_apart (Present base size) (place_on (table_at s) v l i) within
+      and_both (ltb v nodes && inside (present_at base size)) (clear (table_at s) v (present_at base size))
+      (and_both (ltb v nodes) (inside (present_at base size)) (lt-ltb v nodes hv) within)
+      (every_pair_in clusters segments (λ l i. apart (present_at base size) (place_on (table_at s) v l i)) (λ l i hl hi.
+      words_apart (present_at base size) (place_on (table_at s) v l i) within
       (inside_words s slice w (v * 8 + l) i (omega arith) hi)
       (λ k q. r.free l i k hl hi q.0 q.1)))
     where
-      within : inside (Present base size) ≡ true
+      within : inside (present_at base size) ≡ true
       within = inside_in base size (record { some = hs; ends = r.ends })
 
   no_fit : (k : ℕ) → (Room s v size k → ⊥) → fits (table_at s) v size k ≡ false

@@ -7,8 +7,7 @@ use Prim.Native.Nat.{ℕ}
 use lib.Dec.{eqb}
 use Rattle.loops.specs.Below.{every}
 use Rattle.loops.proofs.BelowLaws.{every_in, every_same}
-use Rattle.store.specs.declared.Place.{Place}
-use Rattle.store.specs.declared.Place.TheVariants.{Absent, Present}
+use Rattle.store.specs.Places.{Place, None, Some, present_at}
 use Rattle.store.specs.declared.Store.{Store}
 use Rattle.sizes.specs.Sizes.{nodes, clusters, segments, records, memory}
 use Rattle.store.specs.Records.{Tables, cluster_at, table_at, segment_of, place_on}
@@ -21,15 +20,15 @@ module _ (ts : Tables) (node l i : ℕ) where
   alone p = every clusters (λ m. every segments (λ j. eqb l m && eqb i j || apart p (place_on ts node m j)))
 
   unfoldable pub passed : Place → Bool
-  passed Absent = true
-  passed (Present base length) = alone (Present base length)
+  passed None = true
+  passed (Some span) = alone (present_at span.base span.length)
 
   alone_passed : (p : Place) → alone p ≡ passed p
   unfolding alone passed apart
-  alone_passed Absent =
+  alone_passed None =
       every_in clusters (λ m. every segments (λ j. eqb l m && eqb i j || true)) (λ m hm.
       every_in segments (λ j. eqb l m && eqb i j || true) (λ j hj. or-true (eqb l m && eqb i j)))
-  alone_passed (Present base length) = refl
+  alone_passed (Some span) = refl
 
 unfoldable pub quick_apart : Tables → ℕ → Bool
 quick_apart ts node = every clusters (λ l. every segments (λ i. passed ts node l i (place_on ts node l i)))

@@ -1,18 +1,21 @@
 -- The parts of a record as the code reads and replaces them: by the bounds, by the place, by the mode.
 -- Assumes nothing.
-use mathlib.Core.Path.{◌≡◌, refl, sym, ap, ◌∙◌}
-use mathlib.Core.Bool.{Bool, true, false}
+use mathlib.Core.Path.{◌≡◌, refl, sym, ap, ◌∙◌, subst}
+use mathlib.Core.Logic.{◌↔◌}
+use mathlib.Core.Bool.{Bool, true, false, not}
 use mathlib.Core.List.{List, [], ◌∷◌, map}
 use Prim.Native.Nat.{ℕ, zero, suc, ◌+◌, ◌*◌, ◌≤◌, ◌<◌}
 use lib.ListN.{length, get_or, set, length-map, get_or-eq_default}
 use lib.Seq.{set_out}
-use borrow.Author.Tests.{le-leb, lt-leb, eq-eqb, ne_eqb}
+use borrow.Author.Tests.{le-leb, lt-leb, eq-eqb, ne_eqb, not-true}
+use Rattle.std.specs.Prelude.{EachIndex, slice_index_or}
+use Rattle.loops.specs.Below.{every}
+use Rattle.loops.proofs.BelowLaws.{tests_equal, every_in, every_at}
 use Rattle.sizes.specs.Sizes.{nodes, clusters, segments}
-use Rattle.store.specs.declared.Place.{Place}
-use Rattle.store.specs.declared.Place.TheVariants.{Absent}
+use Rattle.store.specs.Places.{Place, None}
 use Rattle.store.specs.declared.Segment.{Segment}
 use Rattle.store.specs.declared.Cluster.{Cluster}
-use Rattle.store.specs.Records.{segment_at, absent_segment, table_of, place_of, frozen_of, with_segment, with_place, with_mark, record_at, read_mode, primary_of}
+use Rattle.store.specs.Records.{segment_at, absent_segment, table_of, place_of, frozen_of, none_frozen, with_segment, with_place, with_mark, record_at, read_mode, primary_of}
 use Rattle.store.specs.declared.Store.{Store}
 use Rattle.store.specs.Records.{no_cluster, cluster_at, put_record, with_password}
 
@@ -34,7 +37,7 @@ pub length_mapped : {A B : Type 0} (f : A → B) (l : List A) (n : ℕ) → leng
 length_mapped f l n e = sym (length-map l f) ∙ e
 
 module _ (c : Cluster) (i : ℕ) (e : length c.segments ≡ segments) (h : segments ≤ i) where
-  pub place_beyond : Absent ≡ place_of (table_of c) i
+  pub place_beyond : None ≡ place_of (table_of c) i
   place_beyond = sym (ap (λ (g : Segment). g.place) (get_or-eq_default c.segments absent_segment (rw e h)))
 
   pub beyond : (g : Segment) → c ≡ with_segment c i g
@@ -49,6 +52,15 @@ module _ (c : Cluster) (i : ℕ) (e : length c.segments ≡ segments) (h : segme
 
   pub mark_beyond : c ≡ with_mark c i
   mark_beyond = beyond _
+
+-- none is frozen, told of each index
+pub frozen_told : (c : Cluster) (r : Bool) → length c.segments ≡ segments
+    → ((r ≡ true) ↔ EachIndex c.segments (λ k. (slice_index_or c.segments k absent_segment).frozen ≡ false)) → r ≡ none_frozen (table_of c)
+unfolding none_frozen
+frozen_told c r e w =
+    tests_equal r (every segments (λ k. not (frozen_of (table_of c) k)))
+    (λ t. every_in segments _ (λ k h. ap not (w.0 t k (subst (λ (n : ℕ). k < n) (sym e) h))))
+    (λ t. w.1 (λ k h. not-true (frozen_of (table_of c) k) (every_at segments _ t k (subst (λ (n : ℕ). k < n) e h))))
 
 -- ---- the primary password of a mode
 

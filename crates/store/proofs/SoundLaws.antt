@@ -12,8 +12,7 @@ use lib.ListN.{get_or-replicate}
 use borrow.Author.Tests.{eqb-true, eq-eqb}
 use Rattle.loops.specs.Below.{every}
 use Rattle.loops.proofs.BelowLaws.{and_left, and_right, and_both, every_in, every_at, every_pair_in, every_pair_at}
-use Rattle.store.specs.declared.Place.{Place}
-use Rattle.store.specs.declared.Place.TheVariants.{Absent, Present}
+use Rattle.store.specs.Places.{Place, None, present_at}
 use Rattle.store.specs.declared.Segment.{Segment}
 use Rattle.store.specs.declared.Cluster.{Cluster}
 use Rattle.store.specs.declared.Store.{Store}
@@ -46,11 +45,11 @@ pub present_mark : (g : Segment) → is_absent g.place ≡ false → sound_mark 
 unfolding sound_mark
 present_mark g e = ap (λ (t : Bool). not (t && g.frozen)) e
 
-pub segment_present_lem : (g : Segment) (base length : ℕ) → g.place ≡ Present base length
-    → sound_segment g ≡ inside (Present base length)
+pub segment_present_lem : (g : Segment) (base length : ℕ) → g.place ≡ present_at base length
+    → sound_segment g ≡ inside (present_at base length)
 unfolding sound_segment
 segment_present_lem g base length e =
-    ap₂ (λ (p : Place) (t : Bool). inside p && t) e (present_mark g (ap is_absent e)) ∙ and-true (inside (Present base length))
+    ap₂ (λ (p : Place) (t : Bool). inside p && t) e (present_mark g (ap is_absent e)) ∙ and-true (inside (present_at base length))
 
 -- the width that the code's test of the active byte asks for
 pub sound_width_lem : (active b : Bool) (w : ℕ) → active ≡ b → sound_width b w ≡ sound_width active w
@@ -85,7 +84,7 @@ sized_at c z i h =
 
 -- what the width allows: an absent segment anywhere, any below it
 module _ (p : Place) (i w : ℕ) where
-  pub allowed_absent : p ≡ Absent → allowed p i w ≡ true
+  pub allowed_absent : p ≡ None → allowed p i w ≡ true
   allowed_absent e = ap (λ (q : Place). allowed q i w) e ∙ or-true (ltb i w)
 
   pub allowed_below : ltb i w ≡ true → allowed p i w ≡ true

@@ -13,8 +13,7 @@ use lib.ListN.{get_or}
 use borrow.Author.Tests.{eqb-true, eq-eqb, not-true, ltb-false, le-ltb}
 use Rattle.loops.specs.Below.{every}
 use Rattle.loops.proofs.BelowLaws.{and_left, and_right, and_both, every_in, every_at}
-use Rattle.store.specs.declared.Place.{Place}
-use Rattle.store.specs.declared.Place.TheVariants.{Absent, Present}
+use Rattle.store.specs.Places.{Place, None, Some, present_at}
 use Rattle.store.specs.declared.Segment.{Segment}
 use Rattle.store.specs.declared.Cluster.{Cluster}
 use Rattle.store.specs.declared.Store.{Store}
@@ -32,12 +31,12 @@ use Rattle.store.proofs.SoundLaws.{settled_idle, settled_width, sized_settled, s
 -- ---- places
 
 byte_holds : (k : ℕ) (p : Place) → ByteOf k p → holds k p ≡ true
-byte_holds k Absent h = absurd h
-byte_holds k (Present base length) h = holds_in k base length h.0 h.1
+byte_holds k None h = absurd h
+byte_holds k (Some span) h = holds_in k span.base span.length h.0 h.1
 
 holds_byte : (k : ℕ) (p : Place) → holds k p ≡ true → ByteOf k p
-holds_byte k Absent e = absurd (false≢true e)
-holds_byte k (Present base length) e = let h = holds_out k base length e in (h.from, h.below)
+holds_byte k None e = absurd (false≢true e)
+holds_byte k (Some span) e = let h = holds_out k span.base span.length e in (h.from, h.below)
 
 pub apart_words : (p q : Place) → apart p q ≡ true → (k : ℕ) → ByteOf k p → ByteOf k q → ⊥
 apart_words p q e k a b =
@@ -53,28 +52,28 @@ words_apart p q s t h = go (apart p q) refl
         let m : Shared p q = not_apart_shares p q s t e in
         absurd (h m.at (holds_byte m.at p m.one) (holds_byte m.at q m.two))
 
-words_inside : (p : Place) → ((base length : ℕ) → p ≡ Present base length → (1 ≤ length) × (base + length ≤ 4096))
+words_inside : (p : Place) → ((base length : ℕ) → p ≡ present_at base length → (1 ≤ length) × (base + length ≤ 4096))
     → inside p ≡ true
 unfolding inside in_ranges ends_inside
-words_inside Absent h = refl
-words_inside (Present base length) h =
-    let r = h base length refl in inside_in base length (record { some = r.0; ends = r.1 })
+words_inside None h = refl
+words_inside (Some span) h =
+    let r = h span.base span.length refl in inside_in span.base span.length (record { some = r.0; ends = r.1 })
 
-absent_words : (p : Place) → is_absent p ≡ true → p ≡ Absent
-absent_words Absent e = refl
-absent_words (Present base length) e = absurd (false≢true e)
+absent_words : (p : Place) → is_absent p ≡ true → p ≡ None
+absent_words None e = refl
+absent_words (Some span) e = absurd (false≢true e)
 
-mark_words : (g : Segment) → sound_mark g ≡ true → g.place ≡ Absent → g.frozen ≡ false
+mark_words : (g : Segment) → sound_mark g ≡ true → g.place ≡ None → g.frozen ≡ false
 unfolding sound_mark
 mark_words g e q = not-true g.frozen (ap (λ (p : Place). not (is_absent p && g.frozen)) (sym q) ∙ e)
 
-words_mark : (g : Segment) → (g.place ≡ Absent → g.frozen ≡ false) → sound_mark g ≡ true
+words_mark : (g : Segment) → (g.place ≡ None → g.frozen ≡ false) → sound_mark g ≡ true
 unfolding sound_mark
 words_mark g h = go g.place refl
   where
     go : (p : Place) → g.place ≡ p → not (is_absent p && g.frozen) ≡ true
-    go Absent q = ap not (h q)
-    go (Present base length) q = refl
+    go None q = ap not (h q)
+    go (Some span) q = refl
 
 -- ---- the width
 
@@ -102,10 +101,10 @@ words_width w (inr (inl e)) = ap is_width e
 words_width w (inr (inr e)) = ap is_width e
 
 module _ (p : Place) (i w : ℕ) where
-  allowed_words : allowed p i w ≡ true → w ≤ i → p ≡ Absent
+  allowed_words : allowed p i w ≡ true → w ≤ i → p ≡ None
   allowed_words e h = absent_words p (ap (λ (t : Bool). t || is_absent p) (sym (le-ltb i w h)) ∙ e)
 
-  words_allowed : (w ≤ i → p ≡ Absent) → allowed p i w ≡ true
+  words_allowed : (w ≤ i → p ≡ None) → allowed p i w ≡ true
   words_allowed h = go (ltb i w) refl
     where
       go : (b : Bool) → ltb i w ≡ b → (b || is_absent p) ≡ true
@@ -137,18 +136,18 @@ module _ (c : Cluster) where
     write_words : ZeroPassword c.write
     write_words = zero_words c.write (and_right (zero_bytes c.read) (zero_bytes c.write) passwords)
 
-    segment_words : (i : ℕ) → i < 16 → place_of (table_of c) i ≡ Absent
+    segment_words : (i : ℕ) → i < 16 → place_of (table_of c) i ≡ None
     unfolding idle vacant
     segment_words i h =
         absent_words (place_of (table_of c) i)
         (every_at segments (λ i. is_absent (place_of (table_of c) i))
         (and_right (zero_bytes c.read && zero_bytes c.write) vacant (settled_idle c e q)) i h)
 
-  above_words : settled c ≡ true → (i : ℕ) → i < 16 → c.width ≤ i → place_of (table_of c) i ≡ Absent
+  above_words : settled c ≡ true → (i : ℕ) → i < 16 → c.width ≤ i → place_of (table_of c) i ≡ None
   above_words e i h = allowed_words (place_of (table_of c) i) i c.width (sized_at c (sized_settled c e) i h)
 
   words_sized : (c.active ≡ true → OneOfThree c.width) → (c.active ≡ false → c.width ≡ 0)
-      → ((i : ℕ) → i < 16 → c.width ≤ i → place_of (table_of c) i ≡ Absent) → sized c ≡ true
+      → ((i : ℕ) → i < 16 → c.width ≤ i → place_of (table_of c) i ≡ None) → sized c ≡ true
   unfolding sized below
   words_sized t z a =
       and_both (sound_width c.active c.width) (below c) (go c.active refl)
@@ -160,7 +159,7 @@ module _ (c : Cluster) where
       go false q = eq-eqb c.width 0 (z q)
 
   words_settled : (c.active ≡ false → ZeroPassword c.read) → (c.active ≡ false → ZeroPassword c.write)
-      → ((i : ℕ) → i < 16 → c.active ≡ false → place_of (table_of c) i ≡ Absent) → sized c ≡ true → settled c ≡ true
+      → ((i : ℕ) → i < 16 → c.active ≡ false → place_of (table_of c) i ≡ None) → sized c ≡ true → settled c ≡ true
   unfolding settled idle vacant
   words_settled r w a z = and_both (c.active || idle c) (sized c) (go c.active refl) z
     where
@@ -193,7 +192,7 @@ module _ (s : Store) (size : ℕ) where
         none_above = λ n i h hi q. above_words (cluster_at s n) (r.settling n h) i hi q;
       }
     where
-      bounds : (n i base length : ℕ) → n < 32 → i < 16 → place_at (table_at s) n i ≡ Present base length
+      bounds : (n i base length : ℕ) → n < 32 → i < 16 → place_at (table_at s) n i ≡ present_at base length
           → Inside base length
       bounds n i base length hn hi e =
           inside_out base length (ap inside (sym e) ∙ segment_inside (segment_of (table_at s n) i) (r.ranged n i hn hi))

@@ -6,8 +6,7 @@
 --     examples       P10, P11, P12 and P13 on that store, P14 on one that is empty
 -- Assumes nothing.
 use Rattle.std.specs.Prelude.{ℕ, List, [], ◌∷◌, replicate}
-use Rattle.store.specs.declared.Place.{Place}
-use Rattle.store.specs.declared.Place.TheVariants.{Present}
+use Rattle.store.specs.Places.{Place, present_at}
 use Rattle.store.specs.declared.Cluster.{Cluster}
 use Rattle.store.specs.declared.Store.{Store}
 use Rattle.sizes.specs.Sizes.{password_bytes}
@@ -27,8 +26,8 @@ holding i p = with_place (started 8 (replicate password_bytes 0) (replicate pass
 
 unfoldable pub two_segments : Store
 two_segments =
-    put_record (put_record starting_store (record_of 0 2) (holding 5 (Present 0 100)))
-    (record_of 0 7) (holding 0 (Present 150 10))
+    put_record (put_record starting_store (record_of 0 2) (holding 5 (present_at 0 100)))
+    (record_of 0 7) (holding 0 (present_at 150 10))
 
 unfoldable pub examples : List Example
 examples =

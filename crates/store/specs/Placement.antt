@@ -15,11 +15,8 @@ use Rattle.std.specs.Prelude.{ℕ, ◌≡◌, Bool, true, ◌&&◌, ltb}
 use Rattle.std.proofs.Math.Option.{Option, none, some}
 use Rattle.loops.specs.Below.{every}
 use Rattle.loops.specs.Search.{least}
-use Rattle.store.specs.declared.Place.{Place}
-use Rattle.store.specs.declared.Place.TheVariants.{Present}
+use Rattle.store.specs.Places.{Place, Found, None, Some, present_at}
 use Rattle.store.specs.declared.Store.{Store}
-use Rattle.store.specs.declared.Found.{Found}
-use Rattle.store.specs.declared.Found.TheVariants.{At, Nowhere}
 use Rattle.sizes.specs.Sizes.{nodes, clusters, segments, node_memory, memory}
 use Rattle.store.specs.Records.{Tables, table_at, place_on}
 use Rattle.store.specs.Sound.{inside, apart, sound}
@@ -29,7 +26,7 @@ unfoldable pub clear : Tables → ℕ → Place → Bool
 clear ts node p = every clusters (λ l. every segments (λ i. apart p (place_on ts node l i)))
 
 unfoldable pub fits : Tables → ℕ → ℕ → ℕ → Bool
-fits ts node size base = ltb node nodes && inside (Present base size) && clear ts node (Present base size)
+fits ts node size base = ltb node nodes && inside (present_at base size) && clear ts node (present_at base size)
 
 unfoldable pub new_base : Tables → ℕ → ℕ → Option ℕ
 new_base ts node size = least node_memory (fits ts node size)
@@ -52,8 +49,8 @@ unfoldable pub placement : Tables → ℕ → ℕ → Placed
 placement ts node size = placed_at (new_base ts node size)
 
 abbrev pub placed_by : Found → Placed
-placed_by (At base) = room_at base
-placed_by Nowhere = no_room
+placed_by (Some base) = room_at base
+placed_by None = no_room
 
 pub record PlacedIn (s : Store) (node size : ℕ) (r : Found) : Type 0 where
   pub told : sound s memory ≡ true → placed_by r ≡ placement (table_at s) node size

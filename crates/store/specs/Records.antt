@@ -26,8 +26,7 @@
 use Rattle.std.specs.Prelude.{ℕ, ◌+◌, ◌*◌, Bool, true, false, not, ◌||◌, cond, List, [], eqb, leb, get_or, set, replicate}
 use Rattle.loops.specs.Below.{every}
 use Rattle.sizes.specs.Sizes.{nodes, clusters, records, segments, node_memory, password_bytes}
-use Rattle.store.specs.declared.Place.{Place}
-use Rattle.store.specs.declared.Place.TheVariants.{Absent, Present}
+use Rattle.store.specs.Places.{Place, None, Some}
 use Rattle.store.specs.declared.Segment.{Segment}
 use Rattle.store.specs.declared.Cluster.{Cluster}
 use Rattle.store.specs.declared.Store.{Store}
@@ -41,7 +40,7 @@ abbrev pub marked_at : Place → Segment
 marked_at p = record { place = p; frozen = true }
 
 abbrev pub absent_segment : Segment
-absent_segment = segment_at Absent
+absent_segment = segment_at None
 
 abbrev pub inactive : Cluster
 inactive =
@@ -110,12 +109,12 @@ abbrev pub record_at : ℕ → ℕ → ℕ
 record_at node local = cond (leb nodes node || leb clusters local) 0 (record_of node local)
 
 abbrev pub base_of : Place → ℕ
-base_of Absent = 0
-base_of (Present base length) = base
+base_of None = 0
+base_of (Some span) = span.base
 
 abbrev pub length_of : Place → ℕ
-length_of Absent = 0
-length_of (Present base length) = length
+length_of None = 0
+length_of (Some span) = span.length
 
 abbrev pub address : ℕ → ℕ → ℕ
 address node k = node * node_memory + k

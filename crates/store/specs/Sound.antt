@@ -22,10 +22,9 @@
 --     below           no segment at or above the cluster's width is present
 --     sized           the cluster's width is sound, and the segments are below it
 -- Assumes nothing.
-use Rattle.std.specs.Prelude.{ℕ, ◌+◌, Bool, true, false, not, ◌&&◌, ◌||◌, List, leb, ltb, eqb, get_or}
+use Rattle.std.specs.Prelude.{ℕ, ◌+◌, Bool, true, false, not, ◌&&◌, ◌||◌, List, leb, ltb, eqb, get_or, is_none}
 use Rattle.loops.specs.Below.{every}
-use Rattle.store.specs.declared.Place.{Place}
-use Rattle.store.specs.declared.Place.TheVariants.{Absent, Present}
+use Rattle.store.specs.Places.{Place, None, Some}
 use Rattle.store.specs.declared.Segment.{Segment}
 use Rattle.store.specs.declared.Cluster.{Cluster}
 use Rattle.store.specs.declared.Store.{Store}
@@ -33,19 +32,18 @@ use Rattle.sizes.specs.Sizes.{nodes, clusters, segments, records, node_memory, m
 use Rattle.store.specs.Records.{Tables, table_of, cluster_at, table_at, segment_of, place_of, place_on}
 
 unfoldable pub in_ranges : Place → Bool
-in_ranges Absent = true
-in_ranges (Present base length) = ltb base node_memory && leb 1 length && leb length node_memory
+in_ranges None = true
+in_ranges (Some span) = ltb span.base node_memory && leb 1 span.length && leb span.length node_memory
 
 unfoldable pub ends_inside : Place → Bool
-ends_inside Absent = true
-ends_inside (Present base length) = leb (base + length) node_memory
+ends_inside None = true
+ends_inside (Some span) = leb (span.base + span.length) node_memory
 
 unfoldable pub inside : Place → Bool
 inside p = in_ranges p && ends_inside p
 
 abbrev pub is_absent : Place → Bool
-is_absent Absent = true
-is_absent (Present base length) = false
+is_absent p = is_none p
 
 unfoldable pub sound_mark : Segment → Bool
 sound_mark g = not (is_absent g.place && g.frozen)
@@ -54,9 +52,9 @@ unfoldable pub sound_segment : Segment → Bool
 sound_segment g = inside g.place && sound_mark g
 
 unfoldable pub apart : Place → Place → Bool
-apart Absent q = true
-apart (Present base length) Absent = true
-apart (Present base length) (Present base' length') = leb (base + length) base' || leb (base' + length') base
+apart None q = true
+apart (Some span) None = true
+apart (Some span) (Some span') = leb (span.base + span.length) span'.base || leb (span'.base + span'.length) span.base
 
 -- segment i of local number l and segment j of local number m, unless they are one
 unfoldable pub node_apart : Tables → ℕ → Bool

@@ -13,8 +13,7 @@
 --     damaged, whole       tables that are unsound, each by what the comment above it says, and such as are sound
 -- Assumes nothing.
 use Rattle.std.specs.Prelude.{ℕ, Bool, true, false, List, [], ◌∷◌, set, replicate}
-use Rattle.store.specs.declared.Place.{Place}
-use Rattle.store.specs.declared.Place.TheVariants.{Present}
+use Rattle.store.specs.Places.{Place, present_at}
 use Rattle.store.specs.declared.Cluster.{Cluster}
 use Rattle.store.specs.declared.Store.{Store}
 use Rattle.store.specs.Records.{inactive, starting_store, started, put_record, with_place, with_mark}
@@ -44,7 +43,7 @@ abbrev quiet : ℕ → ℕ → Cluster
 quiet r w = record { active = false; width = 0; read = sixteen r; write = sixteen w; segments = inactive.segments }
 
 abbrev wide : ℕ → ℕ → Cluster
-wide w i = with_place (fresh w) i (Present 0 1)
+wide w i = with_place (fresh w) i (present_at 0 1)
 
 abbrev idle : ℕ → Cluster
 idle w =
@@ -69,19 +68,19 @@ damaged =
     record { store = starting_store; size = 16383; told = false }
     ∷ record { store = starting_store; size = 16385; told = false }
     -- length 0; base 4,096; ends of 4,097
-    ∷ unsound (on 31 (last (Present 5 0)))
-    ∷ unsound (on 31 (last (Present 4096 1)))
-    ∷ unsound (on 31 (last (Present 4095 2)))
-    ∷ unsound (on 31 (last (Present 0 4097)))
+    ∷ unsound (on 31 (last (present_at 5 0)))
+    ∷ unsound (on 31 (last (present_at 4096 1)))
+    ∷ unsound (on 31 (last (present_at 4095 2)))
+    ∷ unsound (on 31 (last (present_at 0 4097)))
     -- a byte shared: within a cluster, and by two clusters of one node
-    ∷ unsound (on 31 (holding (Present 0 10) (Present 9 1)))
-    ∷ unsound (both 24 (last (Present 9 1)) 31 (last (Present 0 10)))
+    ∷ unsound (on 31 (holding (present_at 0 10) (present_at 9 1)))
+    ∷ unsound (both 24 (last (present_at 9 1)) 31 (last (present_at 0 10)))
     -- inactive with a read password, with a write password, with a segment
     ∷ unsound (on 31 (quiet 1 0))
     ∷ unsound (on 31 (quiet 0 1))
-    ∷ unsound (on 31 (with_place inactive 7 (Present 0 1)))
+    ∷ unsound (on 31 (with_place inactive 7 (present_at 0 1)))
     -- frozen and absent: beside a present segment, in a cluster with none, in an inactive one
-    ∷ unsound (on 31 (with_mark (last (Present 0 1)) 0))
+    ∷ unsound (on 31 (with_mark (last (present_at 0 1)) 0))
     ∷ unsound (on 0 (with_mark (fresh 8) 7))
     ∷ unsound (on 31 (with_mark inactive 7))
     -- active with a width that is none of the three
@@ -99,24 +98,24 @@ damaged =
     ∷ unsound (on 31 (wide 8 8))
     ∷ unsound (on 0 (wide 8 15))
     -- a byte shared by two segments of the upper half
-    ∷ unsound (on 31 (with_place (wide 16 15) 8 (Present 0 10)))
+    ∷ unsound (on 31 (with_place (wide 16 15) 8 (present_at 0 10)))
     ∷ []
 
 unfoldable pub whole : List Case
 whole =
     -- the last base, and the whole memory of a node
-    fine (on 31 (last (Present 4095 1)))
-    ∷ fine (on 31 (last (Present 0 4096)))
+    fine (on 31 (last (present_at 4095 1)))
+    ∷ fine (on 31 (last (present_at 0 4096)))
     -- two that touch; the same bytes of two nodes
-    ∷ fine (on 31 (holding (Present 0 10) (Present 10 4086)))
-    ∷ fine (both 23 (last (Present 0 4096)) 31 (last (Present 0 4096)))
+    ∷ fine (on 31 (holding (present_at 0 10) (present_at 10 4086)))
+    ∷ fine (both 23 (last (present_at 0 4096)) 31 (last (present_at 0 4096)))
     -- frozen and present, the last segment of the last cluster and the first of the first
-    ∷ fine (on 31 (with_mark (last (Present 0 4096)) 7))
-    ∷ fine (on 0 (with_mark (holding (Present 0 1) (Present 1 1)) 0))
+    ∷ fine (on 31 (with_mark (last (present_at 0 4096)) 7))
+    ∷ fine (on 0 (with_mark (holding (present_at 0 1) (present_at 1 1)) 0))
     -- the three widths, each with its last segment
     ∷ fine (on 31 (wide 4 3))
     ∷ fine (on 31 (wide 8 7))
     ∷ fine (on 31 (wide 16 15))
     -- clusters of three widths on one node
-    ∷ fine (put_record (both 24 (wide 4 3) 25 (fresh 8)) 31 (with_place (fresh 16) 8 (Present 1 4095)))
+    ∷ fine (put_record (both 24 (wide 4 3) 25 (fresh 8)) 31 (with_place (fresh 16) 8 (present_at 1 4095)))
     ∷ []

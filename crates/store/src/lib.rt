@@ -7,29 +7,31 @@ mod soundness; // soundness.rt: the test of the records and of the slice's lengt
 
 pub use placement::{base_in, new_base};
 pub use records::{
-    READ_MODE, WRITE_MODE, absent, base_of, frozen_of, inactive_cluster, is_width, length_of,
-    none_frozen, password_in, place_of, primary, record_at, started, starting, with_mark,
-    with_password, with_place,
+    READ_MODE, WRITE_MODE, base_of, frozen_of, inactive_cluster, is_width, length_of, none_frozen,
+    password_in, place_of, primary, record_at, started, starting, with_mark, with_password,
+    with_place,
 };
 use sizes::{Password, RECORDS, SEGMENTS};
 pub use soundness::{MAP_WORDS, sound};
 
-// A segment is absent, or present with a base within its node's memory and a length.
+// Where a present segment lies: a base within its node's memory, and a length.
 #[derive(Clone, Copy)]
-pub enum Place {
-    Absent,
-    Present { base: u16, length: u16 },
+pub struct Span {
+    pub base: u16,
+    pub length: u16,
 }
 
-// Where a segment lies, and its mark: frozen or not. In a sound store an absent one is not.
+// Where a segment lies, `None` where it is absent, and its mark: frozen or not. In a sound store an absent one is not.
 #[derive(Clone, Copy)]
 pub struct Segment {
-    pub place: Place,
+    pub place: Option<Span>,
     pub frozen: bool,
 }
 
 // A cluster's record: whether it is active, its width (4, 8 or 16 segments, 0 while it is inactive), its two primary
 // passwords, its segments. In a sound store those at or above the width are absent.
+// Stays: `active` and `width` are no `Option` and no enum, since `settled` and `is_width` judge what a record holds, and an image
+// holds any bytes.
 #[derive(Clone, Copy)]
 pub struct Cluster {
     pub active: bool,
@@ -43,11 +45,4 @@ pub struct Cluster {
 #[derive(Clone, Copy)]
 pub struct Store {
     pub clusters: [Cluster; RECORDS],
-}
-
-// The answer of placement: the base, or that there is none.
-#[derive(Clone, Copy)]
-pub enum Found {
-    At(usize),
-    Nowhere,
 }

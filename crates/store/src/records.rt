@@ -3,12 +3,13 @@ ghost use Rattle.std.specs.Prelude.{◌≡◌, ◌<◌, length};
 ghost use Rattle.loops.specs.First.{first_bytes};
 ghost use Rattle.sizes.specs.Sizes as sizes;
 ghost use Rattle.store.specs.Records as spec;
-ghost use Rattle.store.specs.Sound.{is_absent, is_width};
+ghost use Rattle.store.specs.Sound.{is_width};
 
-use crate::{Cluster, Place, Segment, Store};
+use crate::{Cluster, Segment, Span, Store};
 use sizes::{CLUSTERS, NODES, PASSWORD_BYTES, Password, RECORDS, SEGMENTS};
 
 // The two modes.
+// Stays: a mode is any number that a caller gives, and `primary` promises what each number gives.
 pub const READ_MODE: usize = 1;
 
 pub const WRITE_MODE: usize = 2;
@@ -18,7 +19,7 @@ pub fn inactive_cluster() -> Cluster
     ensures { result ≡ spec.inactive }
 {
     let segment = Segment {
-        place: Place::Absent,
+        place: None,
         frozen: false,
     };
     Cluster {
@@ -44,21 +45,23 @@ pub fn starting() -> Store
 pub fn started(width: u8, read: Password, write: Password) -> Cluster
     ensures { result ≡ spec.started width read write }
 {
-    let mut cluster = inactive_cluster();
-    cluster.active = true;
-    cluster.width = width;
-    cluster.read = read;
-    cluster.write = write;
-    cluster
+    Cluster {
+        active: true,
+        width,
+        read,
+        write,
+        ..inactive_cluster()
+    }
 }
 
 // Whether a number is one of the three widths that a cluster can have.
 pub fn is_width(width: usize) -> bool
     ensures { result ≡ is_width width }
 {
-    (width == 4) | ((width == 8) | (width == 16))
+    matches!(width, 4 | 8 | 16)
 }
 
+// Stays: the clause of `record_at` gives 0 where there is no such place, and the callers judge the place later.
 // The number of a cluster's record, or 0 where there is no such place, so that the record can be looked up before the
 // place is judged.
 pub fn record_at(node: usize, local: usize) -> usize
@@ -73,83 +76,54 @@ pub fn record_at(node: usize, local: usize) -> usize
     node * CLUSTERS + local
 }
 
-pub fn absent(place: Place) -> bool
-    ensures { result ≡ is_absent place }
-{
-    match place {
-        Place::Absent => true,
-        Place::Present { base: _, length: _ } => false,
-    }
-}
-
 // Base and length of a place; zero where it is absent.
-pub fn base_of(place: Place) -> u16
+pub fn base_of(place: Option<Span>) -> u16
     ensures { result ≡ spec.base_of place }
 {
-    match place {
-        Place::Absent => 0,
-        Place::Present { base, length: _ } => base,
-    }
+    place.map_or(0, |span| span.base)
 }
 
-pub fn length_of(place: Place) -> u16
+pub fn length_of(place: Option<Span>) -> u16
     ensures { result ≡ spec.length_of place }
 {
-    match place {
-        Place::Absent => 0,
-        Place::Present { base: _, length } => length,
-    }
+    place.map_or(0, |span| span.length)
 }
 
 // The place of a segment of a cluster; there is none above the last.
-pub fn place_of(cluster: Cluster, segment: usize) -> Place
+pub fn place_of(cluster: Cluster, segment: usize) -> Option<Span>
     ensures { result ≡ spec.place_of (spec.table_of cluster) segment }
 {
-    if SEGMENTS <= segment {
-        return Place::Absent;
-    }
-    let found = cluster.segments[segment];
-    found.place
+    cluster.segments.get(segment).and_then(|found| found.place)
 }
 
 // Whether a segment of a cluster is frozen; above the last none is.
 pub fn frozen_of(cluster: Cluster, segment: usize) -> bool
     ensures { result ≡ spec.frozen_of (spec.table_of cluster) segment }
 {
-    if SEGMENTS <= segment {
-        return false;
-    }
-    let found = cluster.segments[segment];
-    found.frozen
+    cluster
+        .segments
+        .get(segment)
+        .is_some_and(|found| found.frozen)
 }
 
 // Whether no segment of a cluster is frozen.
 pub fn none_frozen(cluster: Cluster) -> bool
     ensures { result ≡ spec.none_frozen (spec.table_of cluster) }
 {
-    let mut ok = true;
-    let mut i: usize = 0;
-    while i < SEGMENTS {
-        let segment = cluster.segments[i];
-        let frozen = segment.frozen;
-        ok = !frozen & ok;
-        i += 1;
-    }
-    ok
+    cluster.segments.iter().all(|segment| !segment.frozen)
 }
 
 // The record with the place of a segment replaced; the segment is not frozen then.
-pub fn with_place(cluster: Cluster, segment: usize, place: Place) -> Cluster
+pub fn with_place(cluster: Cluster, segment: usize, place: Option<Span>) -> Cluster
     ensures { result ≡ spec.with_place cluster segment place }
 {
     let mut changed = cluster;
-    if SEGMENTS <= segment {
-        return changed;
+    if segment < SEGMENTS {
+        changed.segments[segment] = Segment {
+            place,
+            frozen: false,
+        };
     }
-    changed.segments[segment] = Segment {
-        place,
-        frozen: false,
-    };
     changed
 }
 
@@ -158,15 +132,9 @@ pub fn with_mark(cluster: Cluster, segment: usize) -> Cluster
     ensures { result ≡ spec.with_mark cluster segment }
 {
     let mut changed = cluster;
-    if SEGMENTS <= segment {
-        return changed;
+    if segment < SEGMENTS {
+        changed.segments[segment].frozen = true;
     }
-    let found = changed.segments[segment];
-    let place = found.place;
-    changed.segments[segment] = Segment {
-        place,
-        frozen: true,
-    };
     changed
 }
 
@@ -175,9 +143,10 @@ pub fn primary(cluster: Cluster, mode: usize) -> Password
     ensures { result ≡ spec.primary_of cluster mode }
 {
     if mode == READ_MODE {
-        return cluster.read;
+        cluster.read
+    } else {
+        cluster.write
     }
-    cluster.write
 }
 
 // The record with the primary password of a mode replaced.
@@ -187,9 +156,9 @@ pub fn with_password(cluster: Cluster, mode: usize, password: Password) -> Clust
     let mut changed = cluster;
     if mode == READ_MODE {
         changed.read = password;
-        return changed;
+    } else {
+        changed.write = password;
     }
-    changed.write = password;
     changed
 }
 
@@ -197,12 +166,5 @@ pub fn with_password(cluster: Cluster, mode: usize, password: Password) -> Clust
 pub fn password_in(part: &[u8]) -> Password
     ensures { result ≡ first_bytes sizes.password_bytes part.now }
 {
-    let mut r = [0u8; PASSWORD_BYTES];
-    if part.len() < PASSWORD_BYTES {
-        return r;
-    }
-    for i in 0..PASSWORD_BYTES {
-        r[i] = part[i];
-    }
-    r
+    part.first_chunk().copied().unwrap_or([0; PASSWORD_BYTES])
 }

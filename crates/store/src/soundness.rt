@@ -8,8 +8,8 @@ ghost use Rattle.store.specs.Records.{table_of, place_of};
 ghost use Rattle.store.specs.Sound as sound-spec;
 ghost use Rattle.store.specs.inner.Passes as passes;
 
-use crate::{Cluster, Place, Segment, Store, absent, is_width};
-use sizes::{CLUSTERS, MEMORY, NODES, PASSWORD_BYTES, Password, SEGMENTS};
+use crate::{Cluster, Segment, Span, Store, is_width};
+use sizes::{CLUSTERS, MEMORY, Password};
 
 // Words of the map of a node: a bit for each byte of its memory.
 pub const MAP_WORDS: usize = 64;
@@ -17,17 +17,16 @@ pub const MAP_WORDS: usize = 64;
 // Marks the bytes of a segment in its node's map: false if it is out of range or shares a byte with one marked before, or
 // if it is absent and frozen. What does not lie inside the map does not lie inside the node's memory. The end is worked
 // out in usize, where the sum of two u16 does not wrap.
-fn claim(segment: Segment, map: &mut [u64]) -> bool
-    requires { length map.old ≡ passes.map_words }
+fn claim(segment: Segment, map: &mut [u64; MAP_WORDS]) -> bool
     ensures { passes.Claimed segment (marks map.old) result (marks map.new) }
 {
     let place = segment.place;
     let frozen = segment.frozen;
     match place {
-        Place::Absent => !frozen,
-        Place::Present { base, length } => {
-            let from = base as usize;
-            let size = length as usize;
+        None => !frozen,
+        Some(span) => {
+            let from = span.base as usize;
+            let size = span.length as usize;
             let to = from + size;
             spans::mark(map, from, to)
         }
@@ -35,16 +34,12 @@ fn claim(segment: Segment, map: &mut [u64]) -> bool
 }
 
 // Claims each segment of a cluster in turn.
-pub fn claim_all(cluster: Cluster, map: &mut [u64]) -> bool
-    requires { length map.old ≡ passes.map_words }
-    ensures { passes.ClaimedAll cluster (marks map.old) result (marks map.new) }
+pub fn claim_all(cluster: &Cluster, map: &mut [u64; MAP_WORDS]) -> bool
+    ensures { passes.ClaimedAll cluster.now (marks map.old) result (marks map.new) }
 {
     let mut ok = true;
-    let mut i: usize = 0;
-    while i < SEGMENTS {
-        let segment = cluster.segments[i];
-        ok = claim(segment, map) & ok;
-        i += 1;
+    for segment in &cluster.segments {
+        ok = claim(*segment, map) & ok;
     }
     ok
 }
@@ -53,47 +48,37 @@ fn zero(password: Password) -> bool
     ensures { result ≡ sound-spec.zero_bytes password }
 {
     let mut ok = true;
-    let mut i: usize = 0;
-    while i < PASSWORD_BYTES {
-        ok = (password[i] == 0) & ok;
-        i += 1;
+    for byte in &password {
+        ok = (*byte == 0) & ok;
     }
     ok
 }
 
-fn empty(cluster: Cluster) -> bool
-    ensures { result ≡ every segments (λ i. sound-spec.is_absent (place_of (table_of cluster) i)) }
+fn empty(cluster: &Cluster) -> bool
+    ensures { result ≡ every segments (λ i. sound-spec.is_absent (place_of (table_of cluster.now) i)) }
 {
     let mut ok = true;
-    let mut i: usize = 0;
-    while i < SEGMENTS {
-        let segment = cluster.segments[i];
-        let place = segment.place;
-        ok = absent(place) & ok;
-        i += 1;
+    for segment in &cluster.segments {
+        ok = segment.place.is_none() & ok;
     }
     ok
 }
 
 // Whether segment i of a cluster of that width may have this place: below the width any, else only that of an absent one.
-fn allowed(place: Place, i: usize, width: usize) -> bool
+fn allowed(place: Option<Span>, i: usize, width: usize) -> bool
     ensures { result ≡ sound-spec.allowed place i width }
 {
-    (i < width) | absent(place)
+    (i < width) | place.is_none()
 }
 
 // Whether no segment at or above the width is present.
-fn below(cluster: Cluster) -> bool
-    ensures { result ≡ sound-spec.below cluster }
+fn below(cluster: &Cluster) -> bool
+    ensures { result ≡ sound-spec.below cluster.now }
 {
     let width = cluster.width as usize;
     let mut ok = true;
-    let mut i: usize = 0;
-    while i < SEGMENTS {
-        let segment = cluster.segments[i];
-        let place = segment.place;
-        ok = allowed(place, i, width) & ok;
-        i += 1;
+    for (i, segment) in cluster.segments.iter().enumerate() {
+        ok = allowed(segment.place, i, width) & ok;
     }
     ok
 }
@@ -102,28 +87,22 @@ fn below(cluster: Cluster) -> bool
 fn sound_width(active: bool, width: usize) -> bool
     ensures { result ≡ sound-spec.sound_width active width }
 {
-    if active {
-        return is_width(width);
-    }
-    width == 0
+    if active { is_width(width) } else { width == 0 }
 }
 
 // The width is sound, and no segment at or above it is present.
-fn sized(cluster: Cluster) -> bool
-    ensures { result ≡ sound-spec.sized cluster }
+fn sized(cluster: &Cluster) -> bool
+    ensures { result ≡ sound-spec.sized cluster.now }
 {
-    let active = cluster.active;
-    let width = cluster.width as usize;
-    sound_width(active, width) & below(cluster)
+    sound_width(cluster.active, cluster.width as usize) & below(cluster)
 }
 
 // An inactive cluster has zero passwords and only absent segments; and the width is as it has to be.
-fn settled(cluster: Cluster) -> bool
-    ensures { result ≡ sound-spec.settled cluster }
+fn settled(cluster: &Cluster) -> bool
+    ensures { result ≡ sound-spec.settled cluster.now }
 {
-    let read = cluster.read;
-    let write = cluster.write;
-    (cluster.active | ((zero(read) & zero(write)) & empty(cluster))) & sized(cluster)
+    (cluster.active | ((zero(cluster.read) & zero(cluster.write)) & empty(cluster)))
+        & sized(cluster)
 }
 
 // Whether the records are sound with a slice of `size` bytes: the clusters of each node are settled, and its map takes
@@ -131,19 +110,15 @@ fn settled(cluster: Cluster) -> bool
 pub fn sound(store: Store, size: usize) -> bool
     ensures { result ≡ sound-spec.sound store size }
 {
+    let (nodes, _) = store.clusters.as_chunks::<CLUSTERS>();
     let mut ok = true;
-    let mut node: usize = 0;
-    while node < NODES {
+    for clusters in nodes {
         let mut map = [0u64; MAP_WORDS];
         let mut taken = true;
-        let mut local: usize = 0;
-        while local < CLUSTERS {
-            let cluster = store.clusters[node * CLUSTERS + local];
+        for cluster in clusters {
             taken = (settled(cluster) & claim_all(cluster, &mut map)) & taken;
-            local += 1;
         }
         ok = taken & ok;
-        node += 1;
     }
     (size == MEMORY) & ok
 }

@@ -7,50 +7,26 @@
 
 use std::io;
 
-// The lower-case hexadecimal digit of a number below 16.
-fn digit(n: u8) -> u8 {
-    let low = n % 16;
-    if low < 10 {
-        b'0' + low
-    } else {
-        b'a' + (low - 10)
+// Writes bytes in hexadecimal on one line.
+fn write_line(rt: &impl Print, bytes: &[u8]) -> io::Result<()> {
+    for b in bytes {
+        print!(rt; "{b:02x}")?;
     }
-}
-
-// Sixteen bytes in hexadecimal.
-fn hexadecimal(bytes: [u8; 16]) -> [u8; 32] {
-    let mut text = [0u8; 32];
-    for i in 0..16usize {
-        let b = bytes[i];
-        text[2 * i] = digit(b / 16);
-        text[2 * i + 1] = digit(b);
-    }
-    text
-}
-
-// Writes sixteen bytes on one line.
-fn write_block(rt: &impl Print, bytes: [u8; 16]) -> io::Result<()> {
-    let text = hexadecimal(bytes);
-    rt.write_all(&text)?;
-    rt.write_all(b"\n")
+    println!(rt)
 }
 
 // Writes sixteen bytes as four words, each on a line.
 fn write_words(rt: &impl Print, bytes: [u8; 16]) -> io::Result<()> {
-    let text = hexadecimal(bytes);
-    for i in 0..4usize {
-        let from = 8 * i;
-        let to = from + 8;
-        rt.write_all(&text[from..to])?;
-        rt.write_all(b"\n")?;
+    for word in bytes.chunks(4) {
+        write_line(rt, word)?;
     }
     Ok(())
 }
 
 // Writes what a parameter turns a password into.
 fn write_conversion(rt: &impl Print, password: [u8; 16], parameter: u16) -> io::Result<()> {
-    let tables = aes::tables();
-    write_block(rt, handle::convert_with(&tables, password, parameter))
+    let tables = aes::Tables::new();
+    write_line(rt, &handle::convert_with(&tables, password, parameter))
 }
 
 fn main(rt: HostRuntime) -> io::Result<()> {
@@ -58,17 +34,17 @@ fn main(rt: HostRuntime) -> io::Result<()> {
         0x2b, 0x7e, 0x15, 0x16, 0x28, 0xae, 0xd2, 0xa6, 0xab, 0xf7, 0x15, 0x88, 0x09, 0xcf, 0x4f,
         0x3c,
     ];
-    rt.write_all(b"A.1\n")?;
+    println!(rt; "A.1")?;
     for round in 0..11usize {
         write_words(&rt, aes::round_key(key, round))?;
     }
-    rt.write_all(b"B\n")?;
+    println!(rt; "B")?;
     let block = [
         0x32, 0x43, 0xf6, 0xa8, 0x88, 0x5a, 0x30, 0x8d, 0x31, 0x31, 0x98, 0xa2, 0xe0, 0x37, 0x07,
         0x34,
     ];
-    write_block(&rt, aes::encrypt(key, block))?;
-    rt.write_all(b"C.1\n")?;
+    write_line(&rt, &aes::encrypt(key, block))?;
+    println!(rt; "C.1")?;
     let counting = [
         0x00, 0x01, 0x02, 0x03, 0x04, 0x05, 0x06, 0x07, 0x08, 0x09, 0x0a, 0x0b, 0x0c, 0x0d, 0x0e,
         0x0f,
@@ -77,8 +53,8 @@ fn main(rt: HostRuntime) -> io::Result<()> {
         0x00, 0x11, 0x22, 0x33, 0x44, 0x55, 0x66, 0x77, 0x88, 0x99, 0xaa, 0xbb, 0xcc, 0xdd, 0xee,
         0xff,
     ];
-    write_block(&rt, aes::encrypt(counting, pairs))?;
-    rt.write_all(b"conversion\n")?;
+    write_line(&rt, &aes::encrypt(counting, pairs))?;
+    println!(rt; "conversion")?;
     write_conversion(&rt, key, 0xf3)?;
     write_conversion(&rt, key, 0x8ef3)
 }

@@ -1,11 +1,8 @@
 -- Before turn i the key is the round key of round i.
 -- Assumes nothing.
-use Prim.Native.Nat.{◌-◌}
-use Rattle.aes.proofs.KeyExpansionLaws.{Keys}
+use mathlib.Core.Path.{◌≡◌}
+use Rattle.aes.specs.KeyExpansion.{round_key}
 use Rattle.aes.proofs.round_key.Given as goal
 
 abbrev pub invariant-loop-i : goal.invariant-loop-i
-invariant-loop-i l = Keys l.round l.initial.k l.k l.i
-
-abbrev pub decreases-loop-i : goal.decreases-loop-i
-decreases-loop-i l = 10 - l.i
+invariant-loop-i l = l.k ≡ round_key l.initial.k l.i

@@ -24,6 +24,6 @@ loop-have-preserved g c =
       search rules,
       search rules,
       subst (Consumes _ _)
-          (put_taken c.loop-have.have c.in-Ok.more c.loop-have.space c.read.new.buf within c.in-Ok.ensures.bound.0)
-          (Consumes-trans _ _ _ _ _ c.loop-have.invariant.2 c.in-Ok.ensures.bytes.0),
+          (put_taken c.loop-have.have c.in_ok-more.more c.loop-have.space c.read.new.buf within c.in_ok-more.ensures.bound.0)
+          (Consumes-trans _ _ _ _ _ c.loop-have.invariant.2 c.in_ok-more.ensures.bytes.0),
     )

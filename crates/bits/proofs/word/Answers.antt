@@ -1,8 +1,9 @@
 -- Two bytes as one number.
 -- Assumes nothing.
-use Rattle.bits.proofs.ByteLaws.{word_two}
-use borrow.Author.Rules.{rules}
+use Rattle.bits.specs.Bytes.{word, word_from}
+use native.Mathlib.Omega.{arith}
 use Rattle.bits.proofs.word.Goals as goal
 
 pub returns : goal.returns
-returns c = word_two _ _
+unfolding word word_from
+returns c = omega (arith, c.from_be_bytes.ensures)

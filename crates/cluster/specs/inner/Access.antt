@@ -14,7 +14,7 @@ use Rattle.std.specs.Prelude.{ℕ, ◌+◌, ◌≤◌, Bool, false, not, List, [
 use Rattle.handle.specs.declared.Handle.{Handle}
 use Rattle.handle.specs.Selectors.{references}
 use Rattle.handle.specs.Handles.{node_of, width_of, Row, first_of}
-use Rattle.store.specs.declared.Place.{Place}
+use Rattle.store.specs.Places.{Place}
 use Rattle.store.specs.declared.Cluster.{Cluster}
 use Rattle.store.specs.Records.{base_of, length_of, address}
 use Rattle.store.specs.Sound.{is_absent}

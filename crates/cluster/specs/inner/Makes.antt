@@ -10,7 +10,7 @@ use Rattle.std.specs.Prelude.{◌≡◌, ℕ, ◌+◌, ◌≤◌, ◌<◌, Bool,
 use Rattle.sizes.specs.Sizes.{nodes, node_memory, memory}
 use Rattle.handle.specs.declared.Handle.{Handle}
 use Rattle.handle.specs.Handles.{width_of, Row}
-use Rattle.store.specs.declared.Place.TheVariants.{Present}
+use Rattle.store.specs.Places.{present_at}
 use Rattle.store.specs.declared.Cluster.{Cluster}
 use Rattle.store.specs.Records.{table_of, place_of, with_place, address}
 use Rattle.store.specs.Sound.{is_absent}
@@ -34,5 +34,5 @@ pub record CanMake (all node base size : ℕ) : Type 0 where
   pub ends : base + size ≤ node_memory
 
 pub record Made (node segment base size : ℕ) (c d : Cluster) (before after : List ℕ) : Type 0 where
-  pub placed : d ≡ with_place c segment (Present base size)
+  pub placed : d ≡ with_place c segment (present_at base size)
   pub cleared : after ≡ overwritten before (address node base) (replicate size 0)

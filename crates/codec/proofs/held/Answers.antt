@@ -1,11 +1,8 @@
--- Byte by byte, and the length.
+-- What is held gives the handle's bytes and their length again.
 -- Assumes nothing.
-use Rattle.loops.specs.Tabulate.{tabulate}
-use Rattle.codec.proofs.HeldLaws.{held_so}
 use Rattle.codec.proofs.BackLaws.{held_back}
 use borrow.Author.Rules.{rules}
 use Rattle.codec.proofs.held.Goals as goal
 
-pub returns : goal.returns
-unfolding tabulate
-returns c = record { bytes = search (rules, held_so); back = search (rules, held_back) }
+pub returns-clause-back : goal.returns-clause-back
+returns-clause-back c = search (rules, held_back)

@@ -5,4 +5,4 @@ use borrow.Author.Rules.{rules}
 use Rattle.codec.proofs.held_from.Goals as goal
 
 pub returns : goal.returns
-returns c = search (rules, from_so, c.shared_slice_known-1.given)
+returns c = search (rules, from_so, c.type_inv.bytes)

@@ -11,8 +11,7 @@
 use Rattle.std.specs.Prelude.{◌≡◌, Bool, true, false, ◌&&◌, List, ℕ, ◌+◌, ◌*◌, eqb, length, get_or}
 use Rattle.loops.specs.Below.{every}
 use Rattle.sizes.specs.Sizes.{segments}
-use Rattle.store.specs.declared.Place.{Place}
-use Rattle.store.specs.declared.Found.{Found}
+use Rattle.store.specs.Places.{Place, Found}
 use Rattle.store.specs.Records.{table_of, segment_of, place_of}
 use Rattle.store.specs.Sound.{settled}
 use Rattle.store.specs.inner.Passes.{Map, claimable, stamped, stamped_by, claims, Based}

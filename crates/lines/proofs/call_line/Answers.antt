@@ -1,16 +1,16 @@
--- Two refusals; else the parts of the line, one after another.
+-- One refusal; the line of a refused call, which another function puts; else the parts of the line, one after another.
 -- Assumes nothing.
-use native.Mathlib.Omega.{arith}
 use borrow.Author.Rules.{rules}
-use Rattle.lines.proofs.LineLaws.{call_narrow, call_long, call_whole}
+use Rattle.lines.specs.Buffers.{call_line_within}
+use Rattle.lines.proofs.LineLaws.{call_whole, refused_begins}
 use Rattle.lines.proofs.call_line.Goals as goal
 
-pub returns-then-out-lt-LONGEST : goal.returns-then-out-lt-LONGEST
-returns-then-out-lt-LONGEST c = record { begins = search (rules, call_narrow); upper_bound = omega arith; upper_bound_2 = λ other. omega arith }
+pub returns-then-out-lt-LONGEST-clause-begins : goal.returns-then-out-lt-LONGEST-clause-begins
+unfolding call_line_within
+returns-then-out-lt-LONGEST-clause-begins c = search rules
 
-pub returns-then-segment-gt-NODE_MEMORY : goal.returns-then-segment-gt-NODE_MEMORY
-returns-then-segment-gt-NODE_MEMORY c = record { begins = search (rules, call_long); upper_bound = omega arith; upper_bound_2 = λ other. omega arith }
+pub returns-clause-begins : goal.returns-clause-begins
+returns-clause-begins c = search (rules, call_whole)
 
-pub returns : goal.returns
-returns c =
-    record { begins = search (rules, call_whole); upper_bound = omega arith; upper_bound_2 = λ other. let b = c.put_told-q.ensures.upper_bound_2 other in omega arith }
+pub returns-in-Err-clause-begins : goal.returns-in-Err-clause-begins
+returns-in-Err-clause-begins c = search (rules, refused_begins)

@@ -7,4 +7,4 @@ use Rattle.measured.specs.Stores.{segment_from}
 use Rattle.measured.proofs.segments_from.Given as goal
 
 abbrev pub invariant-loop-i : goal.invariant-loop-i
-invariant-loop-i l = Filled segments (segment_from l.fn.bases l.fn.lengths l.fn.n) absent_segment l.i l.r
+invariant-loop-i l = Filled segments (segment_from l.fn.bases l.fn.lengths l.fn.n) absent_segment l.i l.segment-items

@@ -11,7 +11,7 @@ use Rattle.measured.proofs.store_from.Goals as goal
 
 pub loop-n-preserved : goal.loop-n-preserved
 loop-n-preserved c =
-    filled_more records _ no_cluster c.loop-n.n c.loop-n.clusters c.loop-n.invariant c.loop-n-test.true _
+    filled_more records _ no_cluster c.loop-n.n c.loop-n.cluster-items c.loop-n.invariant c.loop-n-test.true _
     (cluster_is _ _ _ _ c.segments_from-segments.ensures)
 
 pub returns : goal.returns

@@ -7,4 +7,4 @@ use Rattle.measured.specs.Stores.{cluster_from}
 use Rattle.measured.proofs.store_from.Given as goal
 
 abbrev pub invariant-loop-n : goal.invariant-loop-n
-invariant-loop-n l = Filled records (cluster_from l.fn.bases l.fn.lengths) no_cluster l.n l.clusters
+invariant-loop-n l = Filled records (cluster_from l.fn.bases l.fn.lengths) no_cluster l.n l.cluster-items

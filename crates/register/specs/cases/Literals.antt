@@ -16,8 +16,8 @@ use Rattle.std.specs.Prelude.{ℕ, ◌≡◌, false, List, [], ◌∷◌, ◌++�
 use Rattle.handle.specs.declared.Handle.{Handle}
 use Rattle.handle.specs.declared.Width.TheVariants.{Eight}
 use Rattle.handle.specs.Handles.{Name}
-use Rattle.register.specs.declared.Told.{Told}
-use Rattle.register.specs.declared.Opened.{Opened}
+use Rattle.register.specs.Registers.{Told}
+use Rattle.register.specs.Registers.{Opened}
 use Rattle.register.specs.Registers.{entries, parent_of, mask_of, Made, given, made, told, opened, whole_number, handles_told, handles_left, openers_told, openers_left}
 
 abbrev pub p : List ℕ

@@ -21,7 +21,7 @@ use Rattle.handle.specs.Selectors.{references, gapped}
 use Rattle.handle.specs.Handles.{Name, node_of, name_of, width_of, no_width, no_such_place, decoded, encoded, through}
 use Rattle.handle.specs.Opens.{Opens}
 use Rattle.register.specs.Registers.{entries, parent_of, mask_of, given, failed, stepped, made, lowest, openers_up_to}
-use Rattle.register.specs.declared.Told.{Told}
+use Rattle.register.specs.Registers.{Told}
 use Rattle.register.specs.Registers.{told, handles_told, handles_left, openers_told, openers_left}
 use Rattle.register.specs.Words.{SameButPassword}
 use Rattle.register.specs.Answers.{NoPlace, Clear, Listed, NoneFails}

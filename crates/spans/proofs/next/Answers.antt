@@ -1,25 +1,17 @@
--- No bit sought lies before the word that is looked at (`Seeking`); the measure is the words ahead.
+-- No bit sought lies before the word that is looked at (`Seeking`); the lowest that is left is the first, where it lies before the end.
 -- Assumes nothing.
-use Prim.Native.Nat.{◌-◌}
-use lib.ListN.{length}
-use Rattle.spans.proofs.NextLaws.{lowest_fits, found_fits, Seeking, seeking_first, seeking_more, seeking_end, seeking_found}
+use Rattle.spans.proofs.NextLaws.{seeking_first, seeking_more, told_found, told_none}
 use borrow.Author.Rules.{rules}
 use Rattle.spans.proofs.next.Goals as goal
 
-pub loop-w-init : goal.loop-w-init
-loop-w-init c = search (rules, seeking_first)
+pub loop-at-init : goal.loop-at-init
+loop-at-init c = search (rules, seeking_first)
 
-pub returns-then-to-first : goal.returns-then-to-first
-returns-then-to-first c = search (rules, seeking_end)
+pub returns-then-w-ne0-clause-found : goal.returns-then-w-ne0-clause-found
+returns-then-w-ne0-clause-found c = search (rules, told_found)
 
-pub loop-w-preserved : goal.loop-w-preserved
-loop-w-preserved c = search (rules, seeking_more)
+pub returns-then-w-ne0-clause-none : goal.returns-then-w-ne0-clause-none
+returns-then-w-ne0-clause-none c = search (rules, told_none)
 
-pub overflow_cast-result : goal.overflow_cast-result
-overflow_cast-result c = record { fits = search (rules, lowest_fits) }
-
-pub overflow_add-result : goal.overflow_add-result
-overflow_add-result c = search (rules, found_fits)
-
-pub returns : goal.returns
-returns c = search (rules, seeking_found)
+pub loop-at-preserved : goal.loop-at-preserved
+loop-at-preserved c = search (rules, seeking_more)

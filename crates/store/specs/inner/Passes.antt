@@ -16,12 +16,10 @@
 use Rattle.std.specs.Prelude.{◌≡◌, ℕ, ◌+◌, ◌<◌, Bool, true, false, not, ◌&&◌, ◌||◌, leb, ltb}
 use Rattle.loops.specs.Below.{every}
 use Rattle.loops.specs.Turns.{turns}
-use Rattle.store.specs.declared.Place.{Place}
-use Rattle.store.specs.declared.Place.TheVariants.{Absent, Present}
+use Rattle.store.specs.Places.{Place, Found, None, Some}
 use Rattle.store.specs.declared.Segment.{Segment}
 use Rattle.store.specs.declared.Cluster.{Cluster}
 use Rattle.store.specs.declared.Store.{Store}
-use Rattle.store.specs.declared.Found.{Found}
 use Rattle.sizes.specs.Sizes.{nodes, clusters, segments}
 use Rattle.store.specs.Records.{Tables, table_of, record_of, cluster_at, table_at}
 use Rattle.store.specs.Records.{segment_of, segment_on, place_of, place_on}
@@ -37,12 +35,12 @@ abbrev pub map_words : ℕ
 map_words = 64
 
 abbrev pub holds : ℕ → Place → Bool
-holds x Absent = false
-holds x (Present base length) = leb base x && ltb x (base + length)
+holds x None = false
+holds x (Some span) = leb span.base x && ltb x (span.base + span.length)
 
 unfoldable pub free : Place → Map → Bool
-free Absent map = true
-free (Present base length) map = every length (λ i. not (map (base + i)))
+free None map = true
+free (Some span) map = every span.length (λ i. not (map (span.base + i)))
 
 unfoldable pub claimable : Segment → Map → Bool
 claimable g map = sound_segment g && free g.place map

@@ -1,11 +1,11 @@
--- Refused by the rows that it shares with call 4, or the segment frozen.
+-- Refused by the rows that calls 4 and 10 share, or the segment frozen.
 -- Assumes nothing.
+use Rattle.std.proofs.Common.{rules}
 use Rattle.cluster.proofs.ChangeLaws.{freeze_refused, freeze_done}
-use borrow.Author.Rules.{rules}
 use Rattle.cluster.proofs.change.freeze.Goals as goal
 
-pub returns-then-number-ne0 : goal.returns-then-number-ne0
-returns-then-number-ne0 c = search (rules, freeze_refused)
+pub returns-in_err-own_segment : goal.returns-in_err-own_segment
+returns-in_err-own_segment c = search (rules, freeze_refused, c.in_err-own_segment.was)
 
 pub returns : goal.returns
-returns c = search (rules, freeze_done)
+returns c = search (rules, freeze_done, c.in_ok-own_segment.was)

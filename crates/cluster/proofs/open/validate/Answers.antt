@@ -1,7 +1,7 @@
--- The shared rows are all that validation has.
+-- The number of the shared rows.
 -- Assumes nothing.
+use Rattle.std.proofs.Common.{rules}
 use Rattle.cluster.proofs.OpenLaws.{validate_is}
-use borrow.Author.Rules.{rules}
 use Rattle.cluster.proofs.open.validate.Goals as goal
 
 pub returns : goal.returns

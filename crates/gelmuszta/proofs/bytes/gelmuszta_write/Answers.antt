@@ -1,13 +1,9 @@
--- What is refused before all else; or the core on what the image holds.
+-- The number of the call, handed out.
 -- Assumes nothing.
+use mathlib.Core.Path.{refl}
 use Rattle.gelmuszta.proofs.ReplyLaws.{write_silent}
-use Rattle.gelmuszta.proofs.ExportLaws.{refused_of}
-use Rattle.gelmuszta.proofs.MemoryLaws.{same_lent}
-use borrow.Author.Rules.{rules}
+use Rattle.gelmuszta.proofs.ShapeLaws.{silent_left}
 use Rattle.gelmuszta.proofs.bytes.gelmuszta_write.Goals as goal
 
-pub returns-then-refused-ne0 : goal.returns-then-refused-ne0
-returns-then-refused-ne0 c = search (rules, refused_of)
-
 pub returns : goal.returns
-returns c = search (rules, same_lent, write_silent, c.write-answer.ensures)
+returns c = silent_left _ refl _ _ c.told.ensures _ _ _ _ _ c.write-answer.ensures (write_silent _)

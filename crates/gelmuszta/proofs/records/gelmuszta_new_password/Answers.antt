@@ -1,13 +1,12 @@
--- What is refused before all else; or the core on what the image holds, and the record put back.
+-- The core on what the handle opens, and the record put back.
 -- Assumes nothing.
-use Rattle.gelmuszta.proofs.ReplyLaws.{new_password_one}
-use Rattle.gelmuszta.proofs.ExportLaws.{refused_of}
-use Rattle.gelmuszta.proofs.MemoryLaws.{kept_any_handle}
+use mathlib.Core.Path.{refl}
 use borrow.Author.Rules.{rules}
+use Rattle.gelmuszta.proofs.ReplyLaws.{new_password_one}
+use Rattle.gelmuszta.proofs.ShapeLaws.{handle_any}
 use Rattle.gelmuszta.proofs.records.gelmuszta_new_password.Goals as goal
 
-pub returns-then-refused-ne0 : goal.returns-then-refused-ne0
-returns-then-refused-ne0 c = search (rules, refused_of)
-
 pub returns : goal.returns
-returns c = search (rules, kept_any_handle, new_password_one, c.new_password-left.ensures)
+returns c =
+    handle_any _ refl _ _ c.hand.ensures.number _ _ (c.change-answer.ensures _ refl refl refl (λ o r p s m g. search rules))
+    (new_password_one _) _ c.hand.ensures.handle

@@ -5,14 +5,14 @@ use Rattle.handle.proofs.DecodedLaws.{decoded_none}
 use borrow.Author.Rules.{rules}
 use Rattle.handle.proofs.Handle.decode.Goals as goal
 
-pub returns-then-n-eq-SMALL : goal.returns-then-n-eq-SMALL
-returns-then-n-eq-SMALL c = search (rules, decoded_four)
+pub returns-in-21 : goal.returns-in-21
+returns-in-21 c = search (rules, decoded_four)
 
-pub returns-then-n-eq-MIDDLE : goal.returns-then-n-eq-MIDDLE
-returns-then-n-eq-MIDDLE c = search (rules, decoded_eight)
+pub returns-in-23 : goal.returns-in-23
+returns-in-23 c = search (rules, decoded_eight)
 
-pub returns-then-n-eq-LARGE : goal.returns-then-n-eq-LARGE
-returns-then-n-eq-LARGE c = search (rules, decoded_sixteen)
+pub returns-in-27 : goal.returns-in-27
+returns-in-27 c = search (rules, decoded_sixteen)
 
-pub returns : goal.returns
-returns c = search (rules, decoded_none)
+pub returns-in_default : goal.returns-in_default
+returns-in_default c = search (rules, decoded_none)

@@ -1,10 +1,8 @@
--- Two bytes of the node, and the rest one by one.
+-- The node's two bytes and the rest, each at its place.
 -- Assumes nothing.
 use Rattle.handle.proofs.CodecLaws.{laid_is}
-use Rattle.loops.specs.Tabulate.{tabulate}
 use borrow.Author.Rules.{rules}
 use Rattle.handle.proofs.Handle.laid.Goals as goal
 
 pub returns : goal.returns
-unfolding tabulate
 returns c = search (rules, laid_is)

@@ -1,15 +1,14 @@
--- The segments so far had their turn (`Segments`), and the map keeps its length.
+-- The segments so far had their turn (`Segments`).
 -- Assumes nothing.
 use Prim.Native.Nat.{◌-◌}
-use mathlib.Core.Path.{◌≡◌}
-use lib.ListN.{length}
 use Rattle.spans.specs.Spans.{marks}
-use Rattle.store.specs.inner.Passes.{map_words}
+use Rattle.image.specs.Parts.{part}
+use Rattle.image.specs.Images.{segments_at, record_bytes}
 use Rattle.image.proofs.ClaimLaws.{Segments}
 use Rattle.image.proofs.soundness.claim_segments.Given as goal
 
-abbrev pub invariant-loop-i : goal.invariant-loop-i
-invariant-loop-i l = Segments l.b l.count (marks l.initial.map) l.i l.ok (marks l.map) × (length l.map ≡ map_words)
+abbrev pub invariant-loop-segment : goal.invariant-loop-segment
+invariant-loop-segment l = Segments (part l.fn.b segments_at record_bytes) l.count (marks l.initial.map) l.segment-index l.ok (marks l.map)
 
-abbrev pub decreases-loop-i : goal.decreases-loop-i
-decreases-loop-i l = l.count - l.i
+abbrev pub decreases-loop-segment : goal.decreases-loop-segment
+decreases-loop-segment l = l.count - l.segment-index

@@ -3,11 +3,11 @@ use Rattle.image.specs.inner.Claims.{zeros}
 use borrow.Author.Rules.{rules}
 use Rattle.image.proofs.soundness.zero.Goals as goal
 
-pub loop-i-init : goal.loop-i-init
-loop-i-init c = running_none _ _
+pub loop-byte-init : goal.loop-byte-init
+loop-byte-init c = running_none _ _
 
-pub loop-i-preserved : goal.loop-i-preserved
-loop-i-preserved c = search (rules, running_more)
+pub loop-byte-preserved : goal.loop-byte-preserved
+loop-byte-preserved c = search (rules, running_more)
 
 pub returns : goal.returns
 unfolding zeros

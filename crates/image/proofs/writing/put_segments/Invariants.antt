@@ -9,7 +9,7 @@ use Rattle.image.proofs.WrittenLaws.{Written}
 use Rattle.image.proofs.writing.put_segments.Given as goal
 
 abbrev pub invariant-loop-i : goal.invariant-loop-i
-invariant-loop-i l = Written segment_bytes segments (λ k. segment_out (get_or l.table k absent_segment)) l.i l.initial.out l.out
+invariant-loop-i l = Written segment_bytes segments (λ k. segment_out (get_or l.fn.table k absent_segment)) l.i l.initial.out l.out
 
 abbrev pub decreases-loop-i : goal.decreases-loop-i
 decreases-loop-i l = segments - l.i

@@ -10,8 +10,8 @@ returns-then-not-sound c = search (rules, misfit_unsound)
 pub returns-then-node-ge-NODES : goal.returns-then-node-ge-NODES
 returns-then-node-ge-NODES c = search (rules, misfit_node)
 
-pub returns-then-named-ge-CLUSTERS : goal.returns-then-named-ge-CLUSTERS
-returns-then-named-ge-CLUSTERS c = search (rules, misfit_local)
+pub returns-then-from-ge-CLUSTERS : goal.returns-then-from-ge-CLUSTERS
+returns-then-from-ge-CLUSTERS c = search (rules, misfit_local)
 
 pub returns : goal.returns
 returns c = search (rules, misfit_field)

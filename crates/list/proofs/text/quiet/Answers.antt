@@ -1,15 +1,15 @@
-use Rattle.loops.proofs.RunningLaws.{running_none, running_more, running_all}
-use Rattle.list.specs.Texts.{quiet}
-use Rattle.list.proofs.RoomLaws.{read_at}
-use borrow.Author.Rules.{rules}
+-- Assumes nothing.
+use mathlib.Core.Path.{ap, ◌∙◌}
+use mathlib.Core.Bool.{not}
+use mathlib.Core.List.{List}
+use Prim.Native.Nat.{ℕ}
+use lib.Dec.{eqb}
+use Rattle.std.specs.List.{list_all}
+use Rattle.list.specs.Records.{code_of}
+use Rattle.list.proofs.RoomLaws.{chunks_quiet}
 use Rattle.list.proofs.text.quiet.Goals as goal
 
-pub loop-i-init : goal.loop-i-init
-loop-i-init c = running_none _ _
-
-pub loop-i-preserved : goal.loop-i-preserved
-loop-i-preserved c = search (rules, running_more, read_at)
-
 pub returns : goal.returns
-unfolding quiet
-returns c = search (rules, running_all)
+returns c =
+    chunks_quiet c.args.list.now c.none_read.result
+    (c.none_read.ensures ∙ ap (list_all (λ (r : List ℕ). not (eqb (code_of r) 5))) c.as_chunks.ensures.front)

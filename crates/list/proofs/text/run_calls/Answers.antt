@@ -3,8 +3,8 @@ use Rattle.list.proofs.RunLaws.{going_inside, going_fits}
 use borrow.Author.Rules.{rules}
 use Rattle.list.proofs.text.run_calls.Goals as goal
 
-pub loop-i-init : goal.loop-i-init
-loop-i-init c = search (rules, going_none)
+pub calls-init : goal.calls-init
+calls-init c = search (rules, going_none)
 
 pub slice_bounds-one-count : goal.slice_bounds-one-count
 slice_bounds-one-count c = search (rules, going_inside)
@@ -18,8 +18,8 @@ one-ran-requires c = search (rules, going_reach)
 pub overflow_add-end : goal.overflow_add-end
 overflow_add-end c = record { fits = search (rules, going_fits) }
 
-pub loop-i-preserved : goal.loop-i-preserved
-loop-i-preserved c = search (rules, going_more)
+pub calls-preserved : goal.calls-preserved
+calls-preserved c = search (rules, going_more)
 
 pub returns : goal.returns
 returns c = record { begins = search (rules, going_all); ends = search (rules, going_ends) }

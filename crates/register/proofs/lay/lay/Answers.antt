@@ -1,15 +1,12 @@
 use borrow.Author.Rules.{rules}
-use Rattle.register.proofs.PutLaws.{laying_none, laying_more, laying_fits, laying_few, laid_all}
+use Rattle.register.proofs.PutLaws.{laying_none, laying_more, laying_fits, laid_all}
 use Rattle.register.proofs.lay.lay.Goals as goal
 
 pub loop-k-init : goal.loop-k-init
 loop-k-init c = search (rules, laying_none)
 
-pub bounds-handles-k : goal.bounds-handles-k
-bounds-handles-k c = search (rules, laying_few)
-
-pub put_handle-requires : goal.put_handle-requires
-put_handle-requires c = search (rules, laying_fits)
+pub put-requires : goal.put-requires
+put-requires c = search (rules, laying_fits)
 
 pub loop-k-preserved : goal.loop-k-preserved
 loop-k-preserved c = search (rules, laying_more)

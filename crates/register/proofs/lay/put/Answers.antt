@@ -1,5 +1,5 @@
 use borrow.Author.Rules.{rules}
-use Rattle.register.proofs.PutLaws.{putting_none, putting_more, putting_inside, put_all}
+use Rattle.register.proofs.PutLaws.{putting_none, putting_more, putting_inside, put_all, put_written}
 use Rattle.register.proofs.lay.put.Goals as goal
 
 pub loop-i-init : goal.loop-i-init
@@ -12,4 +12,4 @@ pub loop-i-preserved : goal.loop-i-preserved
 loop-i-preserved c = search (rules, putting_more)
 
 pub returns : goal.returns
-returns c = search (rules, put_all)
+returns c = search (rules, put_all, put_written)

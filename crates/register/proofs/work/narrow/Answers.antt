@@ -7,11 +7,11 @@ use Rattle.register.proofs.work.narrow.Goals as goal
 pub returns-then-kept-eq0 : goal.returns-then-kept-eq0
 returns-then-kept-eq0 c = search (rules, narrow_empty)
 
-pub returns-then-excluded-eq0 : goal.returns-then-excluded-eq0
-returns-then-excluded-eq0 c = search (rules, narrow_same)
+pub returns-then-seen-mask-eq0 : goal.returns-then-seen-mask-eq0
+returns-then-seen-mask-eq0 c = search (rules, narrow_same)
 
-pub returns-then-flat-ge-CUTS : goal.returns-then-flat-ge-CUTS
-returns-then-flat-ge-CUTS c = search (rules, narrow_spent)
+pub returns-then-seen-ge-CUTS : goal.returns-then-seen-ge-CUTS
+returns-then-seen-ge-CUTS c = search (rules, narrow_spent)
 
 pub returns : goal.returns
 returns c = search (rules, narrow_cut)

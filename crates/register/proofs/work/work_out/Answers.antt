@@ -1,77 +1,47 @@
 use borrow.Author.Rules.{rules}
-use Rattle.register.proofs.WorkLaws.{working_none, working_small, works_way, works_all}
-use Rattle.register.proofs.WorkLaws.{inner_holds, inner_ends, inner_returns, descending_entry, descending_more}
-use Rattle.register.proofs.WorkLaws.{descending_first, descending_byte, descending_fits, descending_inside, descending_place}
-use Rattle.register.proofs.WorkLaws.{descending_times, descending_sight, parent_byte, parent_fits, parent_times, parent_sight}
+use Rattle.std.proofs.Common.{ℕ, List, get_or, ap, ◌∙◌, arith}
+use Rattle.std.proofs.lemmas.Result.{err_from_is_err_and}
+use Rattle.register.proofs.WorkLaws.{Named, named, named_ok, named_err, working_none, working_small, works_way, works_all, descended, descending_all}
+use Rattle.register.proofs.WorkLaws.{works_step, descending_more}
 use Rattle.register.proofs.work.work_out.Goals as goal
 
 pub loop-k-init : goal.loop-k-init
 loop-k-init c = search (rules, working_none)
 
-pub climb-c-requires : goal.climb-c-requires
-climb-c-requires c = search (rules, working_small)
+pub climb-requires : goal.climb-requires
+climb-requires c = search (rules, working_small)
 
-pub returns-then-number-ne0 : goal.returns-then-number-ne0
-returns-then-number-ne0 c = search (rules, works_way)
+pub returns-in_err-climbed : goal.returns-in_err-climbed
+returns-in_err-climbed c =
+    let p = err_from_is_err_and c.from_residual.result c.from_residual.ensures.1 in
+    let m : Named c.loop-k.k-counter c.climb.result c.map_err.result = named _ _ _ _ c.map_err.ensures.cases (λ n d p. search rules) in
+    rw (p.1, p.2)
+    (works_way _ _ _ _ _ _ _ _ _ c.loop-k.invariant (omega arith) _ (named_err _ _ _ _ _ m c.climb.ensures _ c.in_err-climbed.was))
 
-pub loop-met-init : goal.loop-met-init
-loop-met-init c =
-    let r = c.climb-c in
-    inner_holds _ _ _ _ _ _ _ _ _ _ c.loop-k.invariant r.result.number _ _ (search rules) (search rules) (search rules)
+pub loop-i-init : goal.loop-i-init
+loop-i-init c =
+    let m : Named c.loop-k.k-counter c.climb.result c.map_err.result = named _ _ _ _ c.map_err.ensures.cases (λ n d p. search rules) in
+    descending_all _ _ _ _ _ _ _ _ _ c.loop-k.invariant _ _ (named_ok _ _ _ _ _ m c.climb.ensures _ c.in_ok-climbed.was)
+    (omega arith) c.type_inv.path
 
-pub overflow_cast-j : goal.overflow_cast-j
-overflow_cast-j c = search (rules, descending_fits)
+pub returns-in_err-sight : goal.returns-in_err-sight
+returns-in_err-sight c =
+    let p = err_from_is_err_and c.from_residual-in_err-sight.result c.from_residual-in_err-sight.ensures.1 in
+    let m : Named c.loop-k.k-counter c.step.result c.map_err-in-loop-i.result =
+    named _ _ _ _ c.map_err-in-loop-i.ensures.cases (λ n d p. search rules) in
+    rw (p.1, p.2)
+    (works_step _ _ _ _ _ _ _ _ _ _ _ _ c.loop-i.invariant _ (omega arith) _ (c.from.ensures ∙ ap (λ (p : List ℕ). get_or p 1 0) c.pair.ensures) _
+    (named_err _ _ _ _ _ m c.step.ensures _ c.in_err-sight.was))
 
-pub overflow_sub-p : goal.overflow_sub-p
-overflow_sub-p c = search (rules, descending_first)
-
-pub overflow_mul-p : goal.overflow_mul-p
-overflow_mul-p c = search (rules, descending_place)
-
-pub bounds-entries-j : goal.bounds-entries-j
-bounds-entries-j c = descending_inside _ _ _ _ _ _ _ _ _ _ _ c.loop-met.invariant (search rules)
-
-pub overflow_cast-p : goal.overflow_cast-p
-overflow_cast-p c = parent_fits _ _ _ _ _ _ _ _ _ _ _ c.loop-met.invariant (search rules)
-
-pub mask_of-mask-requires : goal.mask_of-mask-requires
-mask_of-mask-requires c = search (rules, descending_entry)
-
-pub offset_bounds-seen-p : goal.offset_bounds-seen-p
-offset_bounds-seen-p c = search (rules, parent_sight)
-
-pub bounds-seen-p : goal.bounds-seen-p
-bounds-seen-p c = search (rules, parent_byte)
-
-pub returns-then-refused-ne0 : goal.returns-then-refused-ne0
-returns-then-refused-ne0 c = search (rules, inner_returns)
-
-pub offset_bounds-seen-j : goal.offset_bounds-seen-j
-offset_bounds-seen-j c = search (rules, descending_sight)
-
-pub bounds-seen-j : goal.bounds-seen-j
-bounds-seen-j c = search (rules, descending_byte)
-
-pub offset_bounds-handles-p : goal.offset_bounds-handles-p
-offset_bounds-handles-p c = search (rules, parent_times)
-
-pub bounds-handles-p : goal.bounds-handles-p
-bounds-handles-p c = search (rules, parent_byte)
-
-pub offset_bounds-handles-j : goal.offset_bounds-handles-j
-offset_bounds-handles-j c = search (rules, descending_times)
-
-pub bounds-handles-j : goal.bounds-handles-j
-bounds-handles-j c = search (rules, descending_byte)
-
-pub bounds-known-j : goal.bounds-known-j
-bounds-known-j c = search (rules, descending_byte)
-
-pub loop-met-preserved : goal.loop-met-preserved
-loop-met-preserved c = search (rules, descending_more)
+pub loop-i-preserved : goal.loop-i-preserved
+loop-i-preserved c =
+    let m : Named c.loop-k.k-counter c.step.result c.map_err-in-loop-i.result =
+    named _ _ _ _ c.map_err-in-loop-i.ensures.cases (λ n d p. search rules) in
+    descending_more _ _ _ _ _ _ _ _ _ _ _ _ c.loop-i.invariant _ (omega arith) _ (c.from.ensures ∙ ap (λ (p : List ℕ). get_or p 1 0) c.pair.ensures) _ _
+    (named_ok _ _ _ _ _ m c.step.ensures _ c.in_ok-sight.was)
 
 pub loop-k-preserved : goal.loop-k-preserved
-loop-k-preserved c = inner_ends _ _ _ _ _ _ _ _ _ _ c.loop-k.invariant _ _ _ _ _ c.loop-met.invariant (search rules)
+loop-k-preserved c = descended _ _ _ _ _ _ _ _ _ _ _ _ c.loop-i.invariant (omega arith)
 
 pub returns : goal.returns
-returns c = search (rules, works_all)
+returns c = works_all _ _ _ _ _ _ _ _ _ c.loop-k.invariant (omega arith)

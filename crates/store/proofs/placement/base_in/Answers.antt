@@ -1,6 +1,6 @@
--- Each way through the function is one law: no byte asked for, too many, no room in the map, and the base.
+-- Each way through the function is one law: no byte asked for, too many, and what the map tells.
 -- Assumes nothing.
-use Rattle.store.proofs.RoomLaws.{based_empty, based_long, based_none, based_at}
+use Rattle.store.proofs.RoomLaws.{based_empty, based_long, based_room}
 use borrow.Author.Rules.{rules}
 use Rattle.store.proofs.placement.base_in.Goals as goal
 
@@ -10,8 +10,5 @@ returns-then-size-lt1 c = search (rules, based_empty)
 pub returns-then-size-gt-NODE_MEMORY : goal.returns-then-size-gt-NODE_MEMORY
 returns-then-size-gt-NODE_MEMORY c = search (rules, based_long)
 
-pub returns-then-base-ge-NODE_MEMORY : goal.returns-then-base-ge-NODE_MEMORY
-returns-then-base-ge-NODE_MEMORY c = search (rules, based_none)
-
 pub returns : goal.returns
-returns c = search (rules, based_at)
+returns c = search (rules, based_room)

@@ -1,14 +1,9 @@
+-- The chain tells whether no segment is frozen, which is the test of the definition.
+-- Assumes nothing.
 use borrow.Author.Rules.{rules}
-use Rattle.loops.proofs.RunningLaws.{running_none, running_more, running_all}
-use Rattle.store.specs.Records.{none_frozen}
+use Rattle.store.proofs.RecordLaws.{length_mapped, frozen_told}
 use Rattle.store.proofs.records.none_frozen.Goals as goal
 
-pub loop-i-init : goal.loop-i-init
-loop-i-init c = running_none _ _
-
-pub loop-i-preserved : goal.loop-i-preserved
-loop-i-preserved c = search (rules, running_more)
-
 pub returns : goal.returns
-unfolding none_frozen
-returns c = search (rules, running_all)
+returns c =
+    frozen_told c.before.before.args.cluster c.all.result (search (rules, length_mapped)) (search rules)

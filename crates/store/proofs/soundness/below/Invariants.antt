@@ -8,7 +8,7 @@ use Rattle.store.specs.Sound.{allowed}
 use Rattle.store.proofs.soundness.below.Given as goal
 
 abbrev pub invariant-loop-i : goal.invariant-loop-i
-invariant-loop-i l = Running segments (λ k. allowed (place_of (table_of l.cluster) k) k l.width) l.i l.ok
+invariant-loop-i l = Running segments (λ k. allowed (place_of (table_of l.fn.cluster) k) k l.width) l.i l.ok
 
 abbrev pub decreases-loop-i : goal.decreases-loop-i
 decreases-loop-i l = segments - l.i

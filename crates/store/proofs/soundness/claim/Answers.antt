@@ -4,8 +4,8 @@ use Rattle.store.proofs.MarkLaws.{claim_absent, claim_mark}
 use borrow.Author.Rules.{rules}
 use Rattle.store.proofs.soundness.claim.Goals as goal
 
-pub returns-in-Absent : goal.returns-in-Absent
-returns-in-Absent c = search (rules, claim_absent)
+pub returns-in-None : goal.returns-in-None
+returns-in-None c = search (rules, claim_absent)
 
-pub returns-in-Present : goal.returns-in-Present
-returns-in-Present c = search (rules, claim_mark)
+pub returns-in-Some : goal.returns-in-Some
+returns-in-Some c = search (rules, claim_mark)

@@ -7,8 +7,8 @@ use Rattle.store.specs.Records.{table_of, place_of}
 use Rattle.store.specs.Sound.{is_absent}
 use Rattle.store.proofs.soundness.empty.Given as goal
 
-abbrev pub invariant-loop-i : goal.invariant-loop-i
-invariant-loop-i l = Running segments (λ k. is_absent (place_of (table_of l.cluster) k)) l.i l.ok
+abbrev pub invariant-loop-segment : goal.invariant-loop-segment
+invariant-loop-segment l = Running segments (λ k. is_absent (place_of (table_of l.fn.cluster) k)) l.segment-index l.ok
 
-abbrev pub decreases-loop-i : goal.decreases-loop-i
-decreases-loop-i l = segments - l.i
+abbrev pub decreases-loop-segment : goal.decreases-loop-segment
+decreases-loop-segment l = segments - l.segment-index

@@ -1,7 +1,0 @@
--- The core, on what was looked up.
--- Assumes nothing.
-use mathlib.Core.Path.{refl}
-use Rattle.guard.proofs.reduce.Goals as goal
-
-pub returns : goal.returns
-returns c = c.reduce.ensures _ _ _ (c.look_up-o.ensures.given _ refl)
