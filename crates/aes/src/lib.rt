@@ -12,7 +12,7 @@ ghost use Rattle.aes.specs.Cipher.{cipher};
 ghost use Rattle.aes.specs.Tables.{IsTables};
 
 // What the rounds are lent: the substitution table, as the standard prints it.
-#[derive(Drop)]
+#[derive(Clone, Copy)]
 pub struct Tables {
     pub sbox: [u8; 256],
     pub ghost printed: { IsTables sbox },

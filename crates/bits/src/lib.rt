@@ -4,6 +4,9 @@
 ghost use Rattle.std.specs.Prelude.{◌≡◌, [], ◌∷◌};
 ghost use Rattle.bits.specs.Bytes as bytes;
 
+// How many values a byte has.
+pub const BYTE: u16 = 256;
+
 // The number that two bytes hold, high byte first.
 pub fn word(high: u8, low: u8) -> u16
     ensures { result ≡ bytes.word (high ∷ low ∷ []) }

@@ -81,20 +81,31 @@ fn part_of(handle: Handle, place: Option<Span>) -> Part
     Part { from, to }
 }
 
-// The segment's own part of the memory, copied to the buffer's first bytes.
+// Overwrites a part with one of the same length.
+// Stays: byte by byte. `copy_from_slice` of a length that is not known calls `memmove`, which the archive for C asks nobody for.
+fn copy(to: &mut [u8], from: &[u8])
+    requires { length from.now ≡ length to.old }
+    ensures { to.new ≡ from.now }
+{
+    for (i, byte) in to.iter_mut().enumerate() {
+        *byte = from[i];
+    }
+}
+
+// The segment's own part of the memory, handed on to be copied to the buffer's first bytes.
 fn copy_out(memory: &[u8], from: usize, size: usize, buffer: &mut [u8])
     requires { Reaches from size (length memory.now) (length buffer.old) }
     ensures { buffer.new ≡ take size (drop from memory.now) ++ drop size buffer.old }
 {
-    buffer[..size].copy_from_slice(&memory[from..from + size]);
+    copy(&mut buffer[..size], &memory[from..from + size]);
 }
 
-// The segment's part of the memory, overwritten with the first bytes of the data.
+// The segment's part of the memory, lent on to be overwritten with the first bytes of the data.
 fn copy_in(memory: &mut [u8], from: usize, size: usize, written: &[u8])
     requires { Reaches from size (length memory.old) (length written.now) }
     ensures { memory.new ≡ overwritten memory.old from (take size written.now) }
 {
-    memory[from..from + size].copy_from_slice(&written[..size]);
+    copy(&mut memory[from..from + size], &written[..size]);
 }
 
 // Call 5: the first bytes of the buffer become those of the segment, and its length is told.

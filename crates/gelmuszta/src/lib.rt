@@ -61,7 +61,8 @@ fn look_up(image: &[u8; IMAGE], held: &[u8; HELD]) -> Result<Opened, Number>
 }
 
 // The same of a handle that is decoded, where it is known whether the store is sound: 25 where there is no handle, then 1 where
-// there is no sound store.
+// there is no sound store. Never in line: what it makes on the way then lies on the stack of no caller while soundness is judged.
+#[inline(never)]
 fn open(image: &[u8; IMAGE], handle: Handle, sound: bool) -> Result<Opened, Number>
     requires { sound ≡ sound_in image.now }
     ensures { found.Looks result image.now handle }

@@ -75,7 +75,9 @@ impl Handle {
         HandleBytes { length, bytes }
     }
 
-    // The bytes of the handle.
+    // The bytes of the handle. Always in line: the fields of a handle that was just made are then read as they were written, and
+    // not from copies of the whole.
+    #[inline(always)]
     pub fn encode(self) -> HandleBytes
         ensures { result ≡ spec.written self }
     {

@@ -7,18 +7,15 @@
 
 use std::io;
 
-// Writes bytes in hexadecimal on one line.
-fn write_line(rt: &impl Print, bytes: &[u8]) -> io::Result<()> {
-    for b in bytes {
-        print!(rt; "{b:02x}")?;
-    }
-    println!(rt)
+// Writes sixteen bytes in hexadecimal on one line.
+fn write_block(rt: &impl Print, bytes: [u8; 16]) -> io::Result<()> {
+    println!(rt; "{:032x}", u128::from_be_bytes(bytes))
 }
 
 // Writes sixteen bytes as four words, each on a line.
 fn write_words(rt: &impl Print, bytes: [u8; 16]) -> io::Result<()> {
-    for word in bytes.chunks(4) {
-        write_line(rt, word)?;
+    for word in bytes.as_chunks::<4>().0 {
+        println!(rt; "{:08x}", u32::from_be_bytes(*word))?;
     }
     Ok(())
 }
@@ -26,7 +23,7 @@ fn write_words(rt: &impl Print, bytes: [u8; 16]) -> io::Result<()> {
 // Writes what a parameter turns a password into.
 fn write_conversion(rt: &impl Print, password: [u8; 16], parameter: u16) -> io::Result<()> {
     let tables = aes::Tables::new();
-    write_line(rt, &handle::convert_with(&tables, password, parameter))
+    write_block(rt, handle::convert_with(&tables, password, parameter))
 }
 
 fn main(rt: HostRuntime) -> io::Result<()> {
@@ -43,7 +40,7 @@ fn main(rt: HostRuntime) -> io::Result<()> {
         0x32, 0x43, 0xf6, 0xa8, 0x88, 0x5a, 0x30, 0x8d, 0x31, 0x31, 0x98, 0xa2, 0xe0, 0x37, 0x07,
         0x34,
     ];
-    write_line(&rt, &aes::encrypt(key, block))?;
+    write_block(&rt, aes::encrypt(key, block))?;
     println!(rt; "C.1")?;
     let counting = [
         0x00, 0x01, 0x02, 0x03, 0x04, 0x05, 0x06, 0x07, 0x08, 0x09, 0x0a, 0x0b, 0x0c, 0x0d, 0x0e,
@@ -53,7 +50,7 @@ fn main(rt: HostRuntime) -> io::Result<()> {
         0x00, 0x11, 0x22, 0x33, 0x44, 0x55, 0x66, 0x77, 0x88, 0x99, 0xaa, 0xbb, 0xcc, 0xdd, 0xee,
         0xff,
     ];
-    write_line(&rt, &aes::encrypt(counting, pairs))?;
+    write_block(&rt, aes::encrypt(counting, pairs))?;
     println!(rt; "conversion")?;
     write_conversion(&rt, key, 0xf3)?;
     write_conversion(&rt, key, 0x8ef3)
