@@ -37,7 +37,7 @@ use Rattle.isolation.specs.Checks.{trimmed}
 use Rattle.isolation.proofs.UnusedLaws.{unused_ignored}
 use Rattle.list.specs.Records.{most_data, list_width, handle_bytes, byte, field, code_of, data_length, own_calls}
 use Rattle.list.specs.Records.{other_calls, kind_among, kind_of, arguments_of}
-use Rattle.list.specs.Runs.{bench, ran, kept, Performed, misfits, misfit_rows, refused, after_step, stepped, performed_as}
+use Rattle.list.specs.Runs.{bench, left, ran, Performed, misfits, misfit_rows, refused, after_step, stepped, performed_as}
 use Rattle.list.specs.Runs.{performed}
 use Rattle.list.proofs.FieldLaws.{width_eight}
 
@@ -130,13 +130,19 @@ module _ (r : List ℕ) (s : Store) (m : List ℕ) where
         answer = plain (Err x);
       }) (sym t)
 
-  finished_kept : (n w : List ℕ) (a : answers.Answer) → finished s n w (kept s a) ≡ ended s n a w
-  finished_kept n w (Ok g) = refl
-  finished_kept n w (Err x) = refl
+  -- and so does what it answers, where it leaves the records as they were
+  after_ended : (k : Kind) → among (5 ∷ []) k ≡ false → (n b : List ℕ) (a : answers.Answer) (w : List ℕ)
+      → left s a n b ≡ after_step k (ended s n a w) (bench s m b)
+  after_ended k t n b a w =
+      ap (λ (u : Bool). record {
+        bench = record { copy = copy_of s n; buffer = elim u [ true ↦ w | false ↦ b ] };
+        answer = plain a;
+      }) (sym t)
 
-  after_read : (n b w : List ℕ) (a : answers.Answer) → ran s (kept s a) n w ≡ after_step read (ended s n a w) (bench s m b)
-  after_read n b w (Ok g) = refl
-  after_read n b w (Err x) = refl
+  -- the ways of the code join
+  pub joined : {d e : Result Done Number} {n l : List ℕ} (b : List ℕ) → d ≡ e → n ≡ l
+      → ran s e l b ≡ performed r (bench s m b) → ran s d n b ≡ performed r (bench s m b)
+  joined b p q h = (λ j. ran s (p j) (q j) b) ∙ h
 
   -- a record whose code is that of the call c
   module _ (c : Code) (v : ℕ) (ec : code_byte c ≡ v) (ev : v ≡ code_of r) where
@@ -154,12 +160,11 @@ module _ (r : List ℕ) (s : Store) (m : List ℕ) where
           → finished s n w d ≡ aes_step (call kind g) (copy_of s m) → ran s d n b ≡ performed r (bench s m b)
       by_finished u n d w ed = after_finished kind u n b d w ∙ by_step (finished s n w d) ed
 
-      by_kept : among (5 ∷ []) kind ≡ false → (n : List ℕ) (a : answers.Answer) (w : List ℕ)
-          → ended s n a w ≡ aes_step (call kind g) (copy_of s m) → (d : Result Done Number) → d ≡ kept s a
-          → ran s d n b ≡ performed r (bench s m b)
-      by_kept u n a w ea d ed =
-          ap (λ (x : Result Done Number). ran s x n b) ed ∙ by_finished u n (kept s a) w (finished_kept n w a ∙ ea)
+      by_ended : among (5 ∷ []) kind ≡ false → (n : List ℕ) (a : answers.Answer) (w : List ℕ)
+          → ended s n a w ≡ aes_step (call kind g) (copy_of s m) → left s a n b ≡ performed r (bench s m b)
+      by_ended u n a w ea = after_ended kind u n b a w ∙ by_step (ended s n a w) ea
 
+    -- the calls that change records: d is how the code of one ends
     module _ (b : List ℕ) where
       pub perform_new_cluster : c ≡ NewCluster → (p q : List ℕ) (v l : ℕ) (d : Result Done Number)
           → finished s m [] d ≡ aes_step (making_cluster v l list_width p q) (copy_of s m) → p ≡ field r 32 password_bytes
@@ -210,41 +215,41 @@ module _ (r : List ℕ) (s : Store) (m : List ℕ) where
             by_finished Freeze e freeze refl refl (freezing v i h).args b
             (λ j. (freezing (ev j) (ei j) (eh j)).args) refl m d [] ed
 
-        module _ (a : answers.Answer) (d : Result Done Number) (ed : d ≡ kept s a) where
-          pub perform_read : c ≡ Read → (i : ℕ) (w : List ℕ) → ended s m a w ≡ aes_step (reading i h b) (copy_of s m)
-              → i ≡ byte r 4 → ran s d m w ≡ performed r (bench s m b)
-          unfolding kind_of
-          perform_read e i w ea ei =
-              ap (λ (x : Result Done Number). ran s x m w) ed ∙ after_read m b w a
-              ∙ by_step Read e read refl refl (reading i h b).args b (λ j. (reading (ei j) (eh j) b).args) _ ea
+    -- the calls that leave the records: a is what is answered
+    module _ (b h : List ℕ) (eh : h ≡ handle) (a : answers.Answer) where
+      pub perform_read : c ≡ Read → (i : ℕ) (w : List ℕ) → ended s m a w ≡ aes_step (reading i h b) (copy_of s m)
+          → i ≡ byte r 4 → left s a m w ≡ performed r (bench s m b)
+      unfolding kind_of
+      perform_read e i w ea ei =
+          by_step Read e read refl refl (reading i h b).args b (λ j. (reading (ei j) (eh j) b).args) (ended s m a w) ea
 
-          pub perform_write : c ≡ Write → (z : ℕ) → z ≡ data_length r → z ≤ most_data → (n w : List ℕ) (i : ℕ)
-              → ended s n a w ≡ aes_step (writing i h w) (copy_of s m) → w ≡ field r 32 (data_length r) → i ≡ byte r 4
-              → ran s d n b ≡ performed r (bench s m b)
-          unfolding kind_of
-          perform_write e z ez lz n w i ea ew ei =
-              by_kept Write e write refl (ap (ltb most_data) (sym ez) ∙ le-ltb most_data z lz) (writing i h w).args b
-              (λ j. (writing (ei j) (eh j) (ew j)).args) refl n a w ea d ed
+      pub perform_write : c ≡ Write → (z : ℕ) → z ≡ data_length r → z ≤ most_data → (n w : List ℕ) (i : ℕ)
+          → ended s n a w ≡ aes_step (writing i h w) (copy_of s m) → w ≡ field r 32 (data_length r) → i ≡ byte r 4
+          → left s a n b ≡ performed r (bench s m b)
+      unfolding kind_of
+      perform_write e z ez lz n w i ea ew ei =
+          by_ended Write e write refl (ap (ltb most_data) (sym ez) ∙ le-ltb most_data z lz) (writing i h w).args b
+          (λ j. (writing (ei j) (eh j) (ew j)).args) refl n a w ea
 
-          pub perform_weaken : c ≡ Weaken → (k : ℕ)
-              → ((t : Store) (n : List ℕ) → ended t n a [] ≡ aes_step (weakening_by k h) (copy_of t n)) → k ≡ byte r 4
-              → ran s d m b ≡ performed r (bench s m b)
-          unfolding kind_of
-          perform_weaken e k f ek =
-              by_kept Weaken e weaken refl refl (weakening_by k h).args b (λ j. (weakening_by (ek j) (eh j)).args) refl m a []
-              (f s m) d ed
+      pub perform_weaken : c ≡ Weaken → (k : ℕ)
+          → ((t : Store) (n : List ℕ) → ended t n a [] ≡ aes_step (weakening_by k h) (copy_of t n)) → k ≡ byte r 4
+          → left s a m b ≡ performed r (bench s m b)
+      unfolding kind_of
+      perform_weaken e k f ek =
+          by_ended Weaken e weaken refl refl (weakening_by k h).args b (λ j. (weakening_by (ek j) (eh j)).args) refl m a []
+          (f s m)
 
-          pub perform_reduce : c ≡ Reduce → (w : ℕ) → ended s m a [] ≡ aes_step (reducing w h) (copy_of s m) → w ≡ byte r 3
-              → ran s d m b ≡ performed r (bench s m b)
-          unfolding kind_of
-          perform_reduce e w ea ew =
-              by_kept Reduce e reduce refl refl (reducing w h).args b (λ j. (reducing (ew j) (eh j)).args) refl m a [] ea d ed
+      pub perform_reduce : c ≡ Reduce → (w : ℕ) → ended s m a [] ≡ aes_step (reducing w h) (copy_of s m) → w ≡ byte r 3
+          → left s a m b ≡ performed r (bench s m b)
+      unfolding kind_of
+      perform_reduce e w ea ew =
+          by_ended Reduce e reduce refl refl (reducing w h).args b (λ j. (reducing (ew j) (eh j)).args) refl m a [] ea
 
-          pub perform_join : c ≡ Join → (w : ℕ) (o : List ℕ) → ended s m a [] ≡ aes_step (joining w h o) (copy_of s m)
-              → w ≡ byte r 3 → o ≡ other → ran s d m b ≡ performed r (bench s m b)
-          unfolding kind_of
-          perform_join e w o ea ew eo =
-              by_kept Join e join refl refl (joining w h o).args b (λ j. (joining (ew j) (eh j) (eo j)).args) refl m a [] ea d ed
+      pub perform_join : c ≡ Join → (w : ℕ) (o : List ℕ) → ended s m a [] ≡ aes_step (joining w h o) (copy_of s m)
+          → w ≡ byte r 3 → o ≡ other → left s a m b ≡ performed r (bench s m b)
+      unfolding kind_of
+      perform_join e w o ea ew eo =
+          by_ended Join e join refl refl (joining w h o).args b (λ j. (joining (ew j) (eh j) (eo j)).args) refl m a [] ea
 
   -- ---- no call, and a write that misfits
 
@@ -264,7 +269,7 @@ module _ (r : List ℕ) (s : Store) (m : List ℕ) where
   pub perform_misfit : (c : Code) (v : ℕ) → code_byte c ≡ v → v ≡ code_of r → c ≡ Write → (z : ℕ) → z ≡ data_length r
       → most_data < z → (h : List ℕ) → h ≡ handle → (x : Number)
       → number x ≡ first_of (misfit_rows (writing 0 h []) (copy_of s m)) → (b : List ℕ)
-      → ran s (Err x) m b ≡ performed r (bench s m b)
+      → left s (Err x) m b ≡ performed r (bench s m b)
   perform_misfit c v ec ev q z ez l h eh x ex b =
       ap (λ (k : ℕ). refused k (bench s m b))
       (ex ∙ ap (λ (w : List ℕ). first_of (misfit_rows (writing 0 w []) (copy_of s m))) eh)

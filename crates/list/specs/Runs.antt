@@ -3,7 +3,6 @@
 --     bench s m b             the bench of these records, this memory and this buffer
 --     left s a m b            the records s, the memory m, the buffer b and the answer a
 --     ran s r m b             what is left and answered by code that begins with the records s and ends so
---     kept s a                the call that leaves the records s and answers a
 --     buffer_bytes             the bytes of the buffer that reads get
 --     starting                the starting store, and a buffer of zeros
 --     Performed               the bench that a record leaves, and its answer
@@ -56,10 +55,6 @@ left s a m b = record { bench = bench s m b; answer = plain a }
 abbrev pub ran : Store → Result Done Number → List ℕ → List ℕ → Performed
 ran s (Ok d) m b = left d.store (Ok d.given) m b
 ran s (Err n) m b = left s (Err n) m b
-
-abbrev pub kept : Store → answers.Answer → Result Done Number
-kept s (Ok g) = Ok (record { store = s; given = g })
-kept s (Err n) = Err n
 
 -- ---- a call refused by the list's own rules
 

@@ -5,7 +5,7 @@ ghost use Rattle.calls.specs.Calls as calls;
 ghost use Rattle.calls.specs.Answers.{copy_of};
 ghost use Rattle.numbers.specs.Codes.{code as number};
 ghost use Rattle.list.specs.Records as records;
-ghost use Rattle.list.specs.Runs.{bench, left, ran, kept, misfit_rows, performed};
+ghost use Rattle.list.specs.Runs.{bench, left, ran, misfit_rows, performed};
 
 use crate::fields::{MOST_DATA, Record, WIDTH};
 use calls::{Answer, Code, Done};
@@ -32,42 +32,31 @@ fn misfit(store: Store, memory: &[u8], bytes: &[u8]) -> Number
     Number::Field
 }
 
-// A call that leaves the records as they were.
-fn keeping(store: Store, answer: Answer) -> Result<Done, Number>
-    ensures { result ≡ kept store answer }
+// What is answered by a call that ended so. The records become those that it leaves, where it is done; a refusal leaves them.
+fn settle(store: &mut Store, done: Result<Done, Number>) -> Answer
+    ensures { (m b : List ℕ) → left store.new result m b ≡ ran store.old done m b }
 {
-    Ok(Done {
-        store,
-        given: answer?,
-    })
-}
-
-// The records that a call leaves, and what it answers.
-pub fn left_by(store: Store, done: Result<Done, Number>) -> (Store, Answer)
-    ensures { (m b : List ℕ) → left result.0 result.1 m b ≡ ran store done m b }
-{
-    match done {
-        Ok(done) => (done.store, Ok(done.given)),
-        Err(number) => (store, Err(number)),
-    }
+    let done = done?;
+    *store = done.store;
+    Ok(done.given)
 }
 
 // The call of a record. A code that means no call is 3, and nothing else is looked at.
 pub fn perform(
-    store: Store,
+    store: &mut Store,
     memory: &mut [u8],
     buffer: &mut [u8],
     called: Record<'_>,
-) -> Result<Done, Number>
-    ensures { ran store result memory.new buffer.new ≡ performed called.entry.bytes.now (bench store memory.old buffer.old) }
+) -> Answer
+    ensures { left store.new result memory.new buffer.new ≡ performed called.entry.bytes.now (bench store.old memory.old buffer.old) }
 {
     let Ok(code) = Code::try_from(called.code()) else {
         return Err(Number::Field);
     };
     let handle = called.handle();
-    match code {
+    let done = match code {
         Code::NewCluster => guard::new_cluster(
-            store,
+            *store,
             memory,
             called.current(),
             called.entry(),
@@ -75,9 +64,9 @@ pub fn perform(
             called.first(),
             called.second(),
         ),
-        Code::DeleteCluster => guard::delete_cluster(store, memory, called.current(), handle),
+        Code::DeleteCluster => guard::delete_cluster(*store, memory, called.current(), handle),
         Code::NewSegment => guard::new_segment(
-            store,
+            *store,
             memory,
             called.current(),
             called.entry(),
@@ -85,34 +74,28 @@ pub fn perform(
             handle,
         ),
         Code::DeleteSegment => guard::delete_segment(
-            store,
+            *store,
             memory,
             called.current(),
             called.entry(),
             handle,
         ),
-        Code::Read => keeping(
-            store,
-            guard::read(store, memory, buffer, called.entry(), handle),
-        ),
+        Code::Read => return guard::read(*store, memory, buffer, called.entry(), handle),
         Code::Write => {
             if MOST_DATA < called.data_length() {
-                return Err(misfit(store, memory, handle));
+                return Err(misfit(*store, memory, handle));
             }
-            keeping(
-                store,
-                guard::write(store, memory, called.entry(), handle, called.data()),
-            )
+            return guard::write(*store, memory, called.entry(), handle, called.data());
         }
-        Code::Weaken => keeping(store, guard::weaken(handle, called.mask())),
-        Code::Reduce => keeping(store, guard::reduce(store, memory, called.mode(), handle)),
+        Code::Weaken => return guard::weaken(handle, called.mask()),
+        Code::Reduce => return guard::reduce(*store, memory, called.mode(), handle),
         Code::NewPassword => {
-            guard::new_password(store, memory, called.mode(), handle, called.first())
+            guard::new_password(*store, memory, called.mode(), handle, called.first())
         }
-        Code::Freeze => guard::freeze(store, memory, called.current(), called.entry(), handle),
-        Code::Join => keeping(
-            store,
-            guard::join(store, memory, called.mode(), handle, called.other()),
-        ),
-    }
+        Code::Freeze => guard::freeze(*store, memory, called.current(), called.entry(), handle),
+        Code::Join => {
+            return guard::join(*store, memory, called.mode(), handle, called.other());
+        }
+    };
+    settle(store, done)
 }

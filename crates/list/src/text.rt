@@ -9,7 +9,7 @@ ghost use Rattle.list.specs.Texts as texts;
 ghost use Rattle.list.specs.inner.Loops as loops;
 
 use crate::fields::{CODE, RECORD, record_in};
-use crate::perform::{left_by, perform};
+use crate::perform::perform;
 use calls::Code;
 use lines::{BRIEF, LONGEST};
 use numbers::Number;
@@ -46,10 +46,9 @@ pub fn check(list: &[u8]) -> Result<usize, Number>
     chain::way(list, RECORD, 1)
 }
 
-// What is left by a record: the store, the next record, and how many bytes its line has.
+// What is left by a record: the next record, and how many bytes its line has.
 #[derive(Clone, Copy)]
 struct Ran {
-    store: Store,
     next: usize,
     written: usize,
 }
@@ -58,26 +57,25 @@ struct Ran {
 fn one(
     list: &[u8],
     k: usize,
-    store: Store,
+    store: &mut Store,
     memory: &mut [u8],
     buffer: &mut [u8],
     out: &mut [u8],
 ) -> Ran
     requires { loops.Reach list.now k buffer.old out.old }
     ensures lined { loops.Lined list.now k
-        (runs.bench store memory.old buffer.old)
-        (runs.bench result.store memory.new buffer.new)
+        (runs.bench store.old memory.old buffer.old)
+        (runs.bench store.new memory.new buffer.new)
         out.old out.new result.written result.next }
     ensures written_le_longest { result.written ≤ buffers.longest }
     ensures written_le_brief { (records.code_of (records.record_in list.now k) ≡ 5 → ⊥)
         → result.written ≤ buffers.brief }
 {
     let called = record_in(list, k);
-    let (left, answer) = left_by(store, perform(store, memory, buffer, called));
+    let answer = perform(store, memory, buffer, called);
     let n = answer.map_or(0, |given| given.length());
     let written = lines::call_line(out, k as u8, called.code(), answer, &buffer[..n]).unwrap();
     Ran {
-        store: left,
         next: called.next(),
         written,
     }
@@ -99,8 +97,7 @@ fn run_calls(
     let mut at = 1;
     let mut end = 0;
     'calls: for _ in 0..total {
-        let ran = one(list, at, store, memory, buffer, &mut out[end..]);
-        store = ran.store;
+        let ran = one(list, at, &mut store, memory, buffer, &mut out[end..]);
         at = ran.next;
         end += ran.written;
     }

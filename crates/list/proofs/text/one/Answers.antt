@@ -1,6 +1,6 @@
 -- The record's call, and the line of what it answers.
 -- Assumes nothing.
-use mathlib.Core.Path.{◌≡◌, ap, ◌∙◌, subst}
+use mathlib.Core.Path.{◌≡◌, ap, subst}
 use Prim.Native.Nat.{ℕ, ◌≤◌}
 use Rattle.lines.specs.Buffers.{longest, brief, filled}
 use Rattle.calls.specs.Answers as answers
@@ -10,25 +10,25 @@ use Rattle.list.proofs.text.one.Goals as goal
 
 pub slice_bounds-call_line-end : goal.slice_bounds-call_line-end
 slice_bounds-call_line-end c =
-    let e : c.map_or-n.result ≡ answers.gives answers.length 0 c.left_by-answer.result.1 = search rules in
-    told_fits c.left_by-answer.result.0 c.left_by-answer.result.1 c.perform.new.memory c.perform.new.buffer _ _
-    (c.left_by-answer.ensures _ _ ∙ c.perform.ensures) c.perform.auto.buffer _ e
+    let e : c.map_or-n.result ≡ answers.gives answers.length 0 c.perform-answer.result = search rules in
+    told_fits c.perform-answer.new.store c.perform-answer.result c.perform-answer.new.memory c.perform-answer.new.buffer _ _
+    c.perform-answer.ensures c.perform-answer.auto.buffer _ e
 
 pub slice_bounds-call_line-end-2 : goal.slice_bounds-call_line-end-2
 slice_bounds-call_line-end-2 c =
-    let e : c.map_or-n.result ≡ answers.gives answers.length 0 c.left_by-answer.result.1 = search rules in
-    told_taken c.left_by-answer.result.0 c.left_by-answer.result.1 c.perform.new.memory c.perform.new.buffer _ _
-    (c.left_by-answer.ensures _ _ ∙ c.perform.ensures) c.perform.auto.buffer _ e
+    let e : c.map_or-n.result ≡ answers.gives answers.length 0 c.perform-answer.result = search rules in
+    told_taken c.perform-answer.new.store c.perform-answer.result c.perform-answer.new.memory c.perform-answer.new.buffer _ _
+    c.perform-answer.ensures c.perform-answer.auto.buffer _ e
 
 pub returns : goal.returns
 returns c =
-    let e : c.map_or-n.result ≡ answers.gives answers.length 0 c.left_by-answer.result.1 = search rules in
+    let e : c.map_or-n.result ≡ answers.gives answers.length 0 c.perform-answer.result = search rules in
     let w : filled c.call_line.result ≡ c.unwrap-written.result = ap filled c.unwrap-written.ensures in
     record {
       lined =
-          one_lined c.args.list.now c.args.k c.record_in-called.result.bytes.now c.record_in-called.ensures c.args.store
-          c.args.memory.now c.args.buffer.now c.args.out.now c.requires c.left_by-answer.result.0 c.left_by-answer.result.1
-          c.perform.new.memory c.perform.new.buffer (c.left_by-answer.ensures _ _ ∙ c.perform.ensures) c.perform.auto.buffer _ e
+          one_lined c.args.list.now c.args.k c.record_in-called.result.bytes.now c.record_in-called.ensures c.args.store.now
+          c.args.memory.now c.args.buffer.now c.args.out.now c.requires c.perform-answer.new.store c.perform-answer.result
+          c.perform-answer.new.memory c.perform-answer.new.buffer c.perform-answer.ensures c.perform-answer.auto.buffer _ e
           c.call_line.new.out (filled c.call_line.result) c.unwrap-written.result c.code.result c.call_line.ensures.begins w
           c.code.ensures
           c.next.result c.next.ensures;
