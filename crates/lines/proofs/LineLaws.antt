@@ -27,7 +27,6 @@ use Rattle.lines.specs.Text.{space, line_feed, decimal, hexadecimal}
 use Rattle.lines.specs.Lines.{Answer, plain, spaced, line, gives, told, call_line, word_line}
 use Rattle.lines.specs.Buffers.{byte_digits, longest_head, longest, longest_with, call_line_within, stopped_within, StopsWithin, word_line_within, Begins, Adds}
 use Rattle.lines.proofs.PutLaws.{adds_none, adds_then}
-use Rattle.lines.proofs.ExampleLaws.{refused_stops}
 
 -- ---- words
 
@@ -92,9 +91,20 @@ pub call_line_fits : (room k c : ℕ) (a : Answer) (s : List ℕ) → longest �
 unfolding call_line_within
 call_line_fits room k c a s wide short = rw (le-leb longest room wide, le-leb (length s) node_memory short)
 
+-- where nothing is told, the line stops at the number
+stopped_untold : (room k c : ℕ) (a : Answer) (s : List ℕ) → told c a s ≡ [] → length s ≤ node_memory
+    → call_line_within room k c a s ≡ stopped_within room k c a.number
+unfolding call_line_within stopped_within call_line
+stopped_untold room k c a s e short = rw (le-leb (length s) node_memory short, and-true, e) refl
+
 pub stops_within : StopsWithin
-unfolding call_line_within stopped_within
-stops_within room k c a s n short = rw (le-leb (length s) node_memory short, and-true, refused_stops k c a s n)
+unfolding told
+stops_within room k c a s n short = stopped_untold room k c a s (rw (ne_eqb a.number 0 n) refl) short
+
+-- of a refused call nothing is told
+refused_untold : (c : ℕ) (n : Number) (s : List ℕ) → told c (plain (Err n)) s ≡ []
+unfolding told
+refused_untold c n s = rw (ne_eqb (numbers.code n) 0 (code_above n)) refl
 
 -- the line that stops at the number is that of the refused call
 pub refused_begins : (before after : List ℕ) (r k c : ℕ) (a : calls.Answer) (s : List ℕ) (n : Number) → a ≡ Err n
@@ -104,7 +114,7 @@ pub refused_begins : (before after : List ℕ) (r k c : ℕ) (a : calls.Answer) 
 refused_begins before after r k c a s n e short v ev b =
     subst (Begins before after r)
     (ap (stopped_within (length before) k c) ev
-    ∙ sym (stops_within (length before) k c (plain (Err n)) s (code_above n) short)
+    ∙ sym (stopped_untold (length before) k c (plain (Err n)) s (refused_untold c n s) short)
     ∙ ap (λ (w : calls.Answer). call_line_within (length before) k c (plain w) s) (sym e))
     b
 
