@@ -173,6 +173,8 @@ EVERY = $(addprefix examples/c/,every.c freezing.c joining.c widths.c lengths.c 
 STRICT = -Wall -Wextra -pedantic -Werror -Iinclude
 .PHONY: caller
 caller: need-rt need-cc need-c++ lib
+	@# what the library asks of a program that links it: these two functions of C and no other
+	@nm -u $(LIBRARY) | awk '$$1 == "U" && $$2 != "memcpy" && $$2 != "memset" { print "make: the library asks for " $$2; more = 1 } END { exit more }' >&2
 	sed -n '/^    #include "gelmuszta.h"/,/^    }$$/s/^    //p' README.md | cmp - <(grep . examples/c/caller.c)
 	for compile in 'cc -std=c99' 'cc -std=c11' 'c++ -x c++ -std=c++11'; do \
 		$$compile $(STRICT) examples/c/caller.c -x none $(LIBRARY) -o target/caller; \

@@ -55,7 +55,7 @@
  *   - whoever can read the image or the memory needs no handle, and whoever writes to them by other means, or puts an
  *     earlier image in place, can change what is frozen too.
  *
- * What stays on the stack: a call touches less than 3 kilobytes of it (2,696 bytes at most, measured on x86-64 in an archive of
+ * What stays on the stack: a call touches less than 2 kilobytes of it (1,618 bytes at most, measured on x86-64 in an archive of
  * rattle-kit-13f), one about a register up to 10 (10,178 bytes), and does not clear them. Passwords stay there until they
  * are written over, both primary ones of the cluster among them, or those of all entries of the register.
  *
