@@ -35,7 +35,8 @@ impl Handle {
         }
     }
 
-    // The handle that bytes hold; none where their length is not that of a width.
+    // The handle that bytes hold; none where their length is not that of a width. Each arm returns: what a `match` ends with is
+    // handed on through memory.
     pub fn decode(bytes: &[u8]) -> Handle
         ensures { result ≡ spec.decoded bytes.now }
     {
@@ -43,21 +44,21 @@ impl Handle {
             SMALL => {
                 let a = u16::from(bytes[19]);
                 let b = u16::from(bytes[20]);
-                Handle::with(bytes, Width::Four, [a % HALF, a / HALF, b % HALF, b / HALF])
+                return Handle::with(bytes, Width::Four, [a % HALF, a / HALF, b % HALF, b / HALF]);
             }
             MIDDLE => {
                 let a = u16::from(bytes[19]);
                 let b = u16::from(bytes[20]);
                 let c = u16::from(bytes[21]);
                 let d = u16::from(bytes[22]);
-                Handle::with(bytes, Width::Eight, [a, b, c, d])
+                return Handle::with(bytes, Width::Eight, [a, b, c, d]);
             }
             LARGE => {
                 let a = bits::word(bytes[19], bytes[20]);
                 let b = bits::word(bytes[21], bytes[22]);
                 let c = bits::word(bytes[23], bytes[24]);
                 let d = bits::word(bytes[25], bytes[26]);
-                Handle::with(bytes, Width::Sixteen, [a, b, c, d])
+                return Handle::with(bytes, Width::Sixteen, [a, b, c, d]);
             }
             _ => Handle::none(),
         }

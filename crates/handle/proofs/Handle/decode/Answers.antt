@@ -14,5 +14,5 @@ returns-in-23 c = search (rules, decoded_eight)
 pub returns-in-27 : goal.returns-in-27
 returns-in-27 c = search (rules, decoded_sixteen)
 
-pub returns-in_default : goal.returns-in_default
-returns-in_default c = search (rules, decoded_none)
+pub returns : goal.returns
+returns c = search (rules, decoded_none)
