@@ -35,11 +35,12 @@ MODEL = tests/target/release
 CARGO_TARGETS = tests/target tests/library/target tools/target tools/office/target bench/target
 
 # A tool that is not there is told before anything is built.
-NEEDED = rt cargo cc c++ python3
+NEEDED = rt cargo cc c++ nm python3
 FOR_rt = the Rattle toolchain: it proves and builds the crates
 FOR_cargo = it builds the model, the tools and the measurements, which are in Rust
 FOR_cc = it compiles the callers in C, and links what cargo builds
 FOR_c++ = it compiles the caller in C as C++
+FOR_nm = it tells what the library asks of a program
 FOR_python3 = it runs docs/check-statements
 .PHONY: $(NEEDED:%=need-%)
 $(NEEDED:%=need-%): need-%:
@@ -172,7 +173,7 @@ BUILT_QUICKLY = CARGO_PROFILE_RELEASE_LTO=off CARGO_PROFILE_RELEASE_CODEGEN_UNIT
 EVERY = $(addprefix examples/c/,every.c freezing.c joining.c widths.c lengths.c registers.c cutting.c)
 STRICT = -Wall -Wextra -pedantic -Werror -Iinclude
 .PHONY: caller
-caller: need-rt need-cc need-c++ lib
+caller: need-rt need-cc need-c++ need-nm lib
 	@# what the library asks of a program that links it: these two functions of C and no other
 	@nm -u $(LIBRARY) | awk '$$1 == "U" && $$2 != "memcpy" && $$2 != "memset" { print "make: the library asks for " $$2; more = 1 } END { exit more }' >&2
 	sed -n '/^    #include "gelmuszta.h"/,/^    }$$/s/^    //p' README.md | cmp - <(grep . examples/c/caller.c)

@@ -7,6 +7,5 @@ pub mod PasswordLaws
 pub mod CreateLaws
 pub mod MakeLaws
 pub mod AccessLaws
-pub mod CopyLaws
 pub mod BytesLaws
 pub mod LookLaws

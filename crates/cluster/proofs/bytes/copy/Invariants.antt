@@ -1,7 +1,8 @@
--- The bytes are copied one by one from the first (`Copying`).
+-- Before turn i the first i bytes are those of the source.
 -- Assumes nothing.
-use Rattle.cluster.proofs.CopyLaws.{Copying}
+use lib.ListN.{length, get_or}
+use Rattle.loops.proofs.TabulateLaws.{Filled}
 use Rattle.cluster.proofs.bytes.copy.Given as goal
 
 abbrev pub invariant-loop-i : goal.invariant-loop-i
-invariant-loop-i l = Copying l.from l.initial.to l.to l.i
+invariant-loop-i l = Filled (length l.initial.to) (λ k. get_or l.from k 0) 0 l.i l.to
