@@ -116,28 +116,20 @@ module _ (r : List ℕ) (s : Store) (m : List ℕ) where
       (eo ∙ unused_ignored product k g (arguments_of k r b) (copy_of s m) e)
       ∙ sym (ap (chosen k b) t)
 
-  -- code that ends so leaves what the step leaves; a read alone has the buffer
-  after_finished : (k : Kind) → among (5 ∷ []) k ≡ false → (n b : List ℕ) (d : Result Done Number) (w : List ℕ)
-      → ran s d n b ≡ after_step k (finished s n w d) (bench s m b)
-  after_finished k t n b (Ok d) w =
-      ap (λ (u : Bool). record {
-        bench = record { copy = copy_of d.store n; buffer = elim u [ true ↦ w | false ↦ b ] };
-        answer = plain (Ok d.given);
-      }) (sym t)
-  after_finished k t n b (Err x) w =
-      ap (λ (u : Bool). record {
-        bench = record { copy = copy_of s n; buffer = elim u [ true ↦ w | false ↦ b ] };
-        answer = plain (Err x);
-      }) (sym t)
-
-  -- and so does what it answers, where it leaves the records as they were
-  after_ended : (k : Kind) → among (5 ∷ []) k ≡ false → (n b : List ℕ) (a : answers.Answer) (w : List ℕ)
-      → left s a n b ≡ after_step k (ended s n a w) (bench s m b)
-  after_ended k t n b a w =
-      ap (λ (u : Bool). record {
-        bench = record { copy = copy_of s n; buffer = elim u [ true ↦ w | false ↦ b ] };
+  -- code that leaves these records and answers so leaves what the step leaves; a read alone has the buffer
+  after_ended : (u : Store) (k : Kind) → among (5 ∷ []) k ≡ false → (n b : List ℕ) (a : answers.Answer) (w : List ℕ)
+      → left u a n b ≡ after_step k (ended u n a w) (bench s m b)
+  after_ended u k t n b a w =
+      ap (λ (v : Bool). record {
+        bench = record { copy = copy_of u n; buffer = elim v [ true ↦ w | false ↦ b ] };
         answer = plain a;
       }) (sym t)
+
+  -- and so does code that gives the records back where the call is done
+  after_finished : (k : Kind) → among (5 ∷ []) k ≡ false → (n b : List ℕ) (d : Result Done Number) (w : List ℕ)
+      → ran s d n b ≡ after_step k (finished s n w d) (bench s m b)
+  after_finished k t n b (Ok d) w = after_ended d.store k t n b (Ok d.given) w
+  after_finished k t n b (Err x) w = after_ended s k t n b (Err x) w
 
   -- the ways of the code join
   pub joined : {d e : Result Done Number} {n l : List ℕ} (b : List ℕ) → d ≡ e → n ≡ l
@@ -162,7 +154,7 @@ module _ (r : List ℕ) (s : Store) (m : List ℕ) where
 
       by_ended : among (5 ∷ []) kind ≡ false → (n : List ℕ) (a : answers.Answer) (w : List ℕ)
           → ended s n a w ≡ aes_step (call kind g) (copy_of s m) → left s a n b ≡ performed r (bench s m b)
-      by_ended u n a w ea = after_ended kind u n b a w ∙ by_step (ended s n a w) ea
+      by_ended u n a w ea = after_ended s kind u n b a w ∙ by_step (ended s n a w) ea
 
     -- the calls that change records: d is how the code of one ends
     module _ (b : List ℕ) where
